@@ -1,0 +1,24 @@
+use Rattle.std.specs.Prelude.{ℕ, ◌≤◌, Bool, ◌==◌, ◌&&◌}
+use Rattle.std.specs.Str.{bytes_eq}
+use Rattle.packet_core.specs.declared.packet.Ip.{Ip}
+use Rattle.packet_core.specs.declared.packet.Ip.TheVariants.{V4}
+use Rattle.packet_core.specs.declared.packet.FiveTuple.{FiveTuple}
+use Rattle.packet_core.specs.declared.packet.Ecn.{Ecn}
+
+-- a packet as contracts see it; its length is in bytes
+pub record PacketParts : Type 0 where
+  pub tuple : FiveTuple
+  pub len : ℕ
+  pub ecn : Ecn
+
+-- what the length field of an IPv4 header can say of a packet (RFC 791, section 3.1)
+abbrev pub IsLengthInRange : ℕ → Type 0
+IsLengthInRange len = (1 ≤ len) × (len ≤ 65535)
+
+-- whether two addresses are the same
+abbrev pub same_ip : Ip → Ip → Bool
+same_ip (V4 a) (V4 b) = bytes_eq a b
+
+-- whether two five-tuples are the same, part by part
+abbrev pub same_tuple : FiveTuple → FiveTuple → Bool
+same_tuple a b = (a.proto == b.proto) && same_ip a.src b.src && same_ip a.dst b.dst && (a.sport == b.sport) && (a.dport == b.dport)

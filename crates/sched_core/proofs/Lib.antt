@@ -1,0 +1,13 @@
+pub mod Lists
+pub mod Ids
+pub mod Lines
+pub mod Leaving
+pub mod Appending
+pub mod Histories
+pub mod LawsOfHistory
+pub mod Refusals
+pub mod Keeping
+pub mod Counting
+pub mod KeptSteps
+pub mod OneQueueLaws
+pub mod Running

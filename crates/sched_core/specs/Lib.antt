@@ -1,0 +1,13 @@
+pub use Rattle.packet_core.specs.Packets
+pub mod State
+pub mod Disciplines
+pub mod OneQueue
+pub mod Steps
+pub mod Runs
+pub mod Happened
+pub mod JournalLaws
+pub mod Statistics
+pub mod Books
+pub mod Calls
+pub mod History
+pub mod Kept

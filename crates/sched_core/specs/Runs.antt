@@ -1,0 +1,45 @@
+use Rattle.std.specs.Prelude.{◌≡◌, ℕ, ◌+◌, List, [], ◌∷◌, ◌++◌, length}
+use Rattle.std.specs.List.{flat_map}
+use Rattle.sched_core.specs.declared.step.Step.{Step}
+use Rattle.sched_core.specs.declared.event.Event.{Event}
+use Rattle.sched_core.specs.declared.run.Answer.{Answer}
+use Rattle.sched_core.specs.declared.run.Outcome.{Outcome}
+use Rattle.sched_core.specs.Calls.{Standing}
+use Rattle.sched_core.specs.Disciplines.{Discipline}
+use Rattle.sched_core.specs.State.{State, opening_state}
+use Rattle.sched_core.specs.Steps.{Steps}
+
+-- what one step gave
+pub record Made : Type 0 where
+  pub answer : Answer
+  pub events : List Event
+
+-- the steps in turn, each from the state that the one before it left
+abbrev pub Runs : {Q : Type 0} → Discipline Q → State Q → List Step → List Made → State Q → Type 0
+Runs d old [] [] new = new ≡ old
+Runs d old [] (m ∷ made) new = ⊥
+Runs d old (step ∷ steps) [] new = ⊥
+Runs {Q} d old (step ∷ steps) (m ∷ made) new = (mid : State Q) × Steps d old step m.answer m.events mid × Runs d mid steps made new
+
+-- the events of all steps, joined
+abbrev pub journal_of : List Made → List Event
+journal_of made = flat_map (λ m. m.events) made
+
+-- each step's answer, and where its own events stand in the journal; the first of them stands at the place given
+abbrev pub outcomes_from : ℕ → List Made → List Outcome
+outcomes_from at [] = []
+outcomes_from at (m ∷ made) =
+    record { answer = m.answer; first_event = at; end_event = at + length m.events } ∷ outcomes_from (at + length m.events) made
+
+-- One step, refused or not: its events stand at the journal's end.
+pub record Takes {Q : Type 0} (d : Discipline Q) (old : Standing Q) (step : Step) (said : Answer) (new : Standing Q) : Type 0 where
+  pub made : List Event
+  pub steps : Steps d old.state step said made new.state
+  pub journal : new.events ≡ old.events ++ made
+
+-- A scheduler and the outcomes are those of the run of the steps: state, journal, and one outcome for each step.
+pub record IsRun {Q : Type 0} (d : Discipline Q) (steps : List Step) (sched : Standing Q) (outcomes : List Outcome) : Type 0 where
+  pub made : List Made
+  pub runs : Runs d (opening_state d.opening) steps made sched.state
+  pub journal : sched.events ≡ journal_of made
+  pub told : outcomes ≡ outcomes_from 0 made

@@ -1,0 +1,140 @@
+ghost use Rattle.std.specs.Prelude.{◌≡◌, ◌+◌, ◌*◌, ◌-◌, ◌^◌, ◌<◌, ◌≤◌, [], IfOk, OnOk, OnErr, length};
+
+use crate::event::{Event, Mark};
+use crate::step::Memory;
+use packet_core::Waiting;
+use std::alloc::Global;
+use std::marker::Model;
+
+/// The most events that a journal holds. 2^40 packets have at most two each, and there is one close.
+pub(crate) const MAX_EVENTS: usize = 1 << 42;
+
+/// Numbers of events and sums of lengths, in bytes, that run along with the journal.
+#[derive(Clone, Copy, Debug, PartialEq, Eq)]
+pub(crate) struct Counts {
+    pub(crate) accepted: u64,
+    pub(crate) accepted_bytes: u64,
+    pub(crate) sent: u64,
+    pub(crate) sent_bytes: u64,
+    pub(crate) dropped_codel: u64,
+    pub(crate) dropped_overflow: u64,
+    pub(crate) dropped_bytes: u64,
+    pub(crate) marked: u64,
+}
+
+/// The events so far. Room for more is taken ahead, so that to record one takes no memory.
+#[derive(Debug, Drop)]
+pub(crate) struct Journal {
+    events: Vec<Event>,
+    counts: Counts,
+}
+
+impl Model for Journal {
+    ghost use Rattle.std.specs.Prelude.{◌≡◌, ◌-◌, ◌≤◌, min, vec_len, vec_capacity};
+    ghost use Rattle.sched_core.specs.Books.{Book, IsCounted};
+    ghost use Rattle.sched_core.specs.declared.journal.TheConstants.{MAX_EVENTS};
+
+    ghost Value = { Book };
+
+    ghost view = { λ j. record { events = j.events.items; counts = j.counts; room = min (vec_capacity j.events) MAX_EVENTS - vec_len j.events } };
+
+    ghost invariant = { λ j. IsCounted j.counts (vec_len j.events) × (vec_len j.events ≤ MAX_EVENTS) };
+}
+
+impl Journal {
+    ghost use Rattle.packet_core.specs.Packets.{IsLengthInRange};
+    ghost use Rattle.sched_core.specs.Books.{no_counts, with_event, count_accepted, count_sent};
+    ghost use Rattle.sched_core.specs.declared.event.Event.TheVariants.{Accepted, Closed};
+    ghost use Rattle.sched_core.specs.declared.event.Event.TheVariants as event;
+    ghost use Rattle.sched_core.specs.Disciplines.{sent_ecn};
+
+    /// A journal with no event, and room for `room` of them.
+    pub(crate) fn try_new(alloc: Global, room: usize) -> Result<Journal, Memory>
+        requires { room ≤ MAX_EVENTS }
+        ensures { IfOk result (λ j. (j.events ≡ []) × (j.counts ≡ no_counts) × (room ≤ j.room)) }
+    {
+        Ok(Journal {
+            events: Vec::with_capacity(alloc, room)?,
+            counts: Counts {
+                accepted: 0,
+                accepted_bytes: 0,
+                sent: 0,
+                sent_bytes: 0,
+                dropped_codel: 0,
+                dropped_overflow: 0,
+                dropped_bytes: 0,
+                marked: 0,
+            },
+        })
+    }
+
+    /// Takes room for `room` events more.
+    pub(crate) fn reserve(&mut self, room: usize) -> Result<(), Memory>
+        requires { length self.old.events + room ≤ MAX_EVENTS }
+        ensures events { self.new.events ≡ self.old.events }
+        ensures counts { self.new.counts ≡ self.old.counts }
+        ensures room { self.old.room ≤ self.new.room }
+        ensures ok { OnOk result (room ≤ self.new.room) }
+        ensures err { OnErr result (self.new ≡ self.old) }
+    {
+        self.events.reserve(room)
+    }
+
+    pub(crate) fn events(&self) -> &[Event]
+        ensures { result.now ≡ self.now.events }
+    {
+        &self.events
+    }
+
+    pub(crate) fn counts(&self) -> Counts
+        ensures { result ≡ self.now.counts }
+    {
+        self.counts
+    }
+
+    /// A packet was accepted.
+    pub(crate) fn accept(&mut self, waiting: &Waiting, lane: u32, flow: u32)
+        requires { 0 < self.old.room }
+        ensures { self.new ≡ with_event self.old (Accepted waiting.now.id waiting.now.stamp lane flow waiting.now.packet) (count_accepted self.old.counts waiting.now.packet.len) }
+    {
+        self.counts.accepted += 1;
+        self.counts.accepted_bytes += u64::from(waiting.packet.len());
+        self.events.push_reserved(Event::Accepted {
+            id: waiting.id,
+            moment: waiting.stamp,
+            lane,
+            flow,
+            packet: waiting.packet,
+        });
+    }
+
+    /// A packet was given to the device.
+    pub(crate) fn send(&mut self, waiting: &Waiting, moment: u64, mark: Mark)
+        requires { 0 < self.old.room }
+        ensures { self.new ≡ with_event self.old (event.Sent waiting.now.id moment (sent_ecn mark waiting.now.packet.ecn) mark) (count_sent self.old.counts waiting.now.packet.len mark) }
+    {
+        self.counts.sent += 1;
+        self.counts.sent_bytes += u64::from(waiting.packet.len());
+        let ecn = match mark {
+            Mark::NoMark => waiting.packet.ecn(),
+            Mark::CodelMark => {
+                self.counts.marked += 1;
+                waiting.packet.marked().ecn()
+            }
+        };
+        self.events.push_reserved(Event::Sent {
+            id: waiting.id,
+            moment,
+            ecn,
+            mark,
+        });
+    }
+
+    /// There was a close.
+    pub(crate) fn close(&mut self, moment: u64)
+        requires { 0 < self.old.room }
+        ensures { self.new ≡ with_event self.old (Closed moment) self.old.counts }
+    {
+        self.events.push_reserved(Event::Closed { moment });
+    }
+}

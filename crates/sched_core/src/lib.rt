@@ -1,0 +1,19 @@
+//! The scheduler: steps, the journal of what became of every packet, and running totals.
+//!
+//! The body is a plain first one: one queue, whose head a dequeue gives. There are no flows yet, no
+//! CoDel and no overflow.
+#![tactic(auto)]
+
+mod event;
+mod journal;
+pub mod laws;
+mod run;
+mod sched;
+mod step;
+mod totals;
+
+pub use event::{Cause, Event, Mark};
+pub use run::{Answer, Outcome, Ran, run_steps};
+pub use sched::Sched;
+pub use step::{Admitted, CloseFault, Memory, MomentFault, Refusal, Sent, Step};
+pub use totals::Totals;

@@ -1,0 +1,116 @@
+ghost use Rattle.std.specs.Prelude.{◌≡◌};
+ghost use Rattle.sched_core.specs.declared.step.Refusal.TheVariants.{Moment, Memory};
+ghost use Rattle.sched_core.specs.declared.step.CloseFault.TheVariants as close_fault;
+
+use crate::event::Mark;
+use packet_core::Packet;
+use std::alloc::{AllocError, AllocFailed};
+
+/// Want of memory: a growth was refused.
+pub type Memory = AllocError;
+
+/// What a scheduler is asked to do. Moments are in microseconds.
+#[derive(Clone, Copy, Debug, PartialEq, Eq)]
+pub enum Step {
+    /// A packet comes in from a lane.
+    Enqueue {
+        moment: u64,
+        lane: u32,
+        packet: Packet,
+    },
+    /// The device asks for a packet.
+    Dequeue {
+        moment: u64,
+    },
+    /// From here on nothing is accepted.
+    Close {
+        moment: u64,
+    },
+}
+
+/// Why a step's moment is refused.
+#[derive(Clone, Copy, Debug, PartialEq, Eq)]
+pub enum MomentFault {
+    /// The moment is 2^60 microseconds or more.
+    TooLarge,
+    /// The moment is before `last`, that of the last step that wasn't refused.
+    Backwards { last: u64 },
+}
+
+/// Why a close is refused.
+#[derive(Clone, Copy, Debug, PartialEq, Eq)]
+pub enum CloseFault {
+    /// The moment won't do.
+    Moment(MomentFault),
+    /// There was a close already.
+    ClosedAlready,
+}
+
+/// Why a step is refused. The cases are tested in this order.
+#[derive(Clone, Copy, Debug, PartialEq, Eq)]
+pub enum Refusal {
+    /// The moment won't do.
+    Moment(MomentFault),
+    /// There was a close already.
+    ClosedAlready,
+    /// 2^40 packets were accepted, and there are no more ids.
+    Exhausted,
+    /// A growth was refused.
+    Memory,
+}
+
+/// The answer to an enqueue that is accepted.
+#[derive(Clone, Copy, Debug, PartialEq, Eq)]
+pub struct Admitted {
+    /// The packet's place in the order of acceptance, from 0.
+    pub id: u64,
+    /// The moment of acceptance, in microseconds.
+    pub moment: u64,
+    /// The flow whose queue it went to.
+    pub flow: u32,
+}
+
+/// The answer to a dequeue that gives a packet.
+#[derive(Clone, Copy, Debug, PartialEq, Eq)]
+pub struct Sent {
+    /// The id that the packet was accepted with.
+    pub id: u64,
+    /// The moment of the dequeue, in microseconds.
+    pub moment: u64,
+    /// The packet with its ECN field as sent.
+    pub packet: Packet,
+    /// Whether it was marked on the way, and by what.
+    pub mark: Mark,
+}
+
+impl From<MomentFault> for Refusal {
+    ghost from_gives = { λ fault r. r ≡ Moment fault };
+
+    fn from(fault: MomentFault) -> Refusal {
+        Refusal::Moment(fault)
+    }
+}
+
+impl From<AllocError> for Refusal {
+    ghost from_gives = { λ _ r. r ≡ Memory };
+
+    fn from(_: AllocError) -> Refusal {
+        Refusal::Memory
+    }
+}
+
+impl<T: Drop> From<AllocFailed<T>> for Refusal {
+    ghost from_gives = { λ _ r. r ≡ Memory };
+
+    fn from(_: AllocFailed<T>) -> Refusal {
+        Refusal::Memory
+    }
+}
+
+impl From<MomentFault> for CloseFault {
+    ghost from_gives = { λ fault r. r ≡ close_fault.Moment fault };
+
+    fn from(fault: MomentFault) -> CloseFault {
+        CloseFault::Moment(fault)
+    }
+}
