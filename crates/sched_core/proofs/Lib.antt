@@ -11,3 +11,4 @@ pub mod Counting
 pub mod KeptSteps
 pub mod OneQueueLaws
 pub mod Running
+pub mod Examples

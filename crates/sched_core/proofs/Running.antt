@@ -1,7 +1,8 @@
 -- One step more of a run.
-use Rattle.std.proofs.Common.{◌≡◌, ℕ, ◌+◌, ◌<◌, List, [], ◌∷◌, ◌++◌, length, take, get_or, refl, sym, ap, subst, ◌∙◌, arith, append_assoc, append-nil, length-append}
-use Rattle.std.specs.List.{flat_map}
+use Rattle.std.proofs.Common.{◌≡◌, ℕ, ◌+◌, ◌<◌, ◌≤◌, All, List, [], ◌∷◌, ◌++◌, length, take, get_or, refl, sym, ap, subst, ◌∙◌, arith, append_assoc, append-nil, length-append}
+use Rattle.std.specs.List.{AllByRecursion, flat_map}
 use Rattle.std.proofs.lemmas.List.{take_more}
+use Rattle.std.proofs.lemmas.List.Elements.{All-from_recursion}
 use Rattle.std.proofs.lemmas.Grind.{flat_map-append}
 use Rattle.sched_core.specs.declared.step.Step.{Step}
 use Rattle.sched_core.specs.declared.event.Event.{Event}
@@ -11,7 +12,20 @@ use Rattle.sched_core.specs.Calls.{Standing}
 use Rattle.sched_core.specs.Disciplines.{Discipline}
 use Rattle.sched_core.specs.State.{State, opening_state}
 use Rattle.sched_core.specs.Steps.{Steps}
-use Rattle.sched_core.specs.Runs.{Made, Runs, journal_of, outcomes_from, Takes, IsRun}
+use Rattle.sched_core.specs.Runs.{Made, Runs, journal_of, outcomes_from, Takes, IsRun, StandsIn}
+
+-- each outcome's own events stand in the journal
+places_from : (before : List Event) (made : List Made) → AllByRecursion (StandsIn (before ++ journal_of made)) (outcomes_from (length before) made)
+places_from before [] = tt
+places_from before (m ∷ made) =
+    let all = length-append before (m.events ++ journal_of made) in
+    let part = length-append m.events (journal_of made) in
+    let next = subst (λ es. AllByRecursion (StandsIn es) (outcomes_from (length (before ++ m.events)) made)) (append_assoc before m.events (journal_of made)) (places_from (before ++ m.events) made) in
+    let at = length-append before m.events in
+    (record { first = omega arith; end = omega arith }, subst (λ n. AllByRecursion (StandsIn (before ++ (m.events ++ journal_of made))) (outcomes_from n made)) at next)
+
+pub places : (made : List Made) → All (StandsIn (journal_of made)) (outcomes_from 0 made)
+places made = All-from_recursion (StandsIn (journal_of made)) (outcomes_from 0 made) (places_from [] made)
 
 module _ {Q : Type 0} (d : Discipline Q) where
   -- a run goes on by a step

@@ -1,4 +1,4 @@
-use Rattle.std.specs.Prelude.{◌≡◌, ℕ, ◌+◌, List, [], ◌∷◌, ◌++◌, length}
+use Rattle.std.specs.Prelude.{◌≡◌, ℕ, ◌+◌, ◌≤◌, List, [], ◌∷◌, ◌++◌, length}
 use Rattle.std.specs.List.{flat_map}
 use Rattle.sched_core.specs.declared.step.Step.{Step}
 use Rattle.sched_core.specs.declared.event.Event.{Event}
@@ -43,3 +43,8 @@ pub record IsRun {Q : Type 0} (d : Discipline Q) (steps : List Step) (sched : St
   pub runs : Runs d (opening_state d.opening) steps made sched.state
   pub journal : sched.events ≡ journal_of made
   pub told : outcomes ≡ outcomes_from 0 made
+
+-- The outcome's own events stand in the journal.
+pub record StandsIn (events : List Event) (o : Outcome) : Type 0 where
+  pub first : o.first_event ≤ o.end_event
+  pub end : o.end_event ≤ length events

@@ -1,9 +1,9 @@
-ghost use Rattle.std.specs.Prelude.{◌≡◌, ◌≢◌, IfOk, OnErr};
+ghost use Rattle.std.specs.Prelude.{◌≡◌, ◌≢◌, All, IfOk, OnErr};
 ghost use Rattle.sched_core.specs.declared.run.Answer.TheVariants as answer;
 ghost use Rattle.sched_core.specs.declared.step.Refusal.TheVariants as refusals;
 ghost use Rattle.sched_core.specs.JournalLaws.{JournalLaws, WaitWithoutFate};
 ghost use Rattle.sched_core.specs.OneQueue.{one_queue, queue_of};
-ghost use Rattle.sched_core.specs.Runs.{Takes, IsRun};
+ghost use Rattle.sched_core.specs.Runs.{Takes, IsRun, StandsIn};
 
 use crate::sched::Sched;
 use crate::step::{CloseFault, Memory, Refusal, Step};
@@ -90,6 +90,7 @@ fn make(sched: &mut Sched, step: &Step) -> Result<Answer, Memory>
 /// It answers Err where a growth is refused, and then nothing is given.
 pub fn run_steps(alloc: Global, steps: &[Step]) -> Result<Ran, Memory>
     ensures run { IfOk result (λ ran. IsRun one_queue steps.now ran.sched ran.outcomes.items) }
+    ensures places { IfOk result (λ ran. All (StandsIn ran.sched.events) ran.outcomes.items) }
     ensures laws { IfOk result (λ ran. JournalLaws one_queue.flow_of ran.sched.events) }
     ensures waiting { IfOk result (λ ran. WaitWithoutFate (queue_of ran.sched.state.queues) ran.sched.events) }
 {

@@ -1,0 +1,116 @@
+use std::alloc::{AllocError, AllocFailed, Global};
+use std::error::Error;
+use std::io::{ErrorKind, Read, Write};
+use std::{fmt, io};
+use trace_core::{RunFault, TraceFault, TraceFaultKind, run};
+
+/// The status of a run that went well.
+const SUCCESS: u8 = 0;
+
+/// The status where the machine failed: memory, a read or a write.
+const MACHINE_FAULT: u8 = 1;
+
+/// The status where the words or the trace are wrong.
+const INPUT_FAULT: u8 = 2;
+
+/// Why the program failed.
+#[derive(Clone, Copy, Debug, PartialEq, Eq)]
+pub enum ProgramFault {
+    /// The words aren't those that the program takes.
+    Words,
+    /// The run failed.
+    Run(RunFault),
+}
+
+impl ProgramFault {
+    /// The status that the program ends with: 2 for wrong words or a wrong trace, and else 1.
+    pub fn status(self) -> u8 {
+        match self {
+            ProgramFault::Words => INPUT_FAULT,
+            ProgramFault::Run(RunFault::Trace(fault)) => trace_status(fault),
+            ProgramFault::Run(RunFault::Memory | RunFault::Write) => MACHINE_FAULT,
+        }
+    }
+}
+
+/// The status that goes with a fault of the trace.
+fn trace_status(fault: TraceFault) -> u8 {
+    match fault.what {
+        TraceFaultKind::Read | TraceFaultKind::Memory => MACHINE_FAULT,
+        _ => INPUT_FAULT,
+    }
+}
+
+impl fmt::Display for ProgramFault {
+    fn fmt<W: fmt::Write>(&self, f: &mut fmt::Formatter<W>) -> fmt::Result {
+        match self {
+            ProgramFault::Words => f.write_str("words"),
+            ProgramFault::Run(fault) => write!(f, "{fault}"),
+        }
+    }
+}
+
+impl Error for ProgramFault {}
+
+impl From<RunFault> for ProgramFault {
+    fn from(fault: RunFault) -> ProgramFault {
+        ProgramFault::Run(fault)
+    }
+}
+
+impl From<AllocError> for ProgramFault {
+    fn from(_: AllocError) -> ProgramFault {
+        ProgramFault::Run(RunFault::Memory)
+    }
+}
+
+impl<T: Drop> From<AllocFailed<T>> for ProgramFault {
+    fn from(_: AllocFailed<T>) -> ProgramFault {
+        ProgramFault::Run(RunFault::Memory)
+    }
+}
+
+/// What is wrong where the words can't be had: one that is no text is none that the program takes.
+impl From<io::Error> for ProgramFault {
+    fn from(error: io::Error) -> ProgramFault {
+        match error.kind() {
+            ErrorKind::OutOfMemory => ProgramFault::Run(RunFault::Memory),
+            _ => ProgramFault::Words,
+        }
+    }
+}
+
+/// The whole program over the words behind its name. It reads a trace, writes the report of the run, and tells a
+/// fault in one line on `faults`. It answers the status that the program ends with.
+pub fn program<R: Read, W: Write, F: Write>(
+    alloc: Global,
+    words: &[&str],
+    reader: &mut R,
+    writer: &mut W,
+    faults: &mut F,
+) -> u8 {
+    match simulate(alloc, words, reader, writer) {
+        Ok(()) => SUCCESS,
+        Err(fault) => tell(faults, fault),
+    }
+}
+
+/// Runs the trace where the words are those that the program takes.
+fn simulate<R: Read, W: Write>(
+    alloc: Global,
+    words: &[&str],
+    reader: &mut R,
+    writer: &mut W,
+) -> Result<(), ProgramFault> {
+    match words {
+        ["trace", "classify", "dport", "flows", "1"] => Ok(run(alloc, reader, writer)?),
+        _ => Err(ProgramFault::Words),
+    }
+}
+
+/// Writes the line of a fault, and answers its status. Where the line can't be written there is nowhere left to
+/// say so, and it is passed over.
+pub fn tell<F: Write>(faults: &mut F, fault: ProgramFault) -> u8 {
+    let _ = writeln!(faults, "fqsim: {fault}");
+    fault.status()
+}

@@ -1,0 +1,144 @@
+use super::{WORDS, expect_from};
+use crate::program::program;
+use std::io::{ErrorKind, Read, Write};
+use std::process::Abort;
+use std::test::Fail;
+use std::{io, str};
+
+/// A reader that gives its text, and then fails.
+#[derive(Drop)]
+struct CutReader<'a>(&'a [u8]);
+
+impl Read for CutReader<'_> {
+    fn read(&mut self, buf: &mut [u8]) -> io::Result<usize> {
+        if self.0.is_empty() {
+            return Err(io::Error::from(ErrorKind::BrokenPipe));
+        }
+        self.0.read(buf)
+    }
+}
+
+/// A reader that gives its text a byte at a time.
+#[derive(Drop)]
+struct SlowReader<'a>(&'a [u8]);
+
+impl Read for SlowReader<'_> {
+    fn read(&mut self, buf: &mut [u8]) -> io::Result<usize> {
+        let room = buf.len().min(1);
+        self.0.read(&mut buf[..room])
+    }
+}
+
+/// A reader of line feeds without end.
+#[derive(Drop)]
+struct EndlessReader;
+
+impl Read for EndlessReader {
+    fn read(&mut self, buf: &mut [u8]) -> io::Result<usize> {
+        buf.fill(b'\n');
+        Ok(buf.len())
+    }
+}
+
+/// A writer that takes so many bytes at once, as long as there is room, and then fails.
+#[derive(Drop)]
+struct NarrowWriter {
+    taken: Vec<u8>,
+    at_once: usize,
+    room: usize,
+}
+
+impl Write for NarrowWriter {
+    fn write(&mut self, buf: &[u8]) -> io::Result<usize> {
+        let room = self.room.saturating_sub(self.taken.len());
+        if room == 0 {
+            return Err(io::Error::from(ErrorKind::BrokenPipe));
+        }
+        let count = buf.len().min(self.at_once).min(room);
+        self.taken.extend_from_slice(&buf[..count])?;
+        Ok(count)
+    }
+
+    fn flush(&mut self) -> io::Result<()> {
+        Ok(())
+    }
+}
+
+/// Runs the program on a trace of one dequeue with a writer that takes so many bytes at once, and compares how it
+/// ends and what the writer took.
+fn expect_taken(
+    rt: &(impl Abort + AllocGlobal),
+    at_once: usize,
+    room: usize,
+    status: u8,
+    report: &str,
+    faults: &str,
+) -> Result<(), Fail> {
+    let mut writer = NarrowWriter {
+        taken: Vec::new(rt.alloc()),
+        at_once,
+        room,
+    };
+    let mut told = Vec::new(rt.alloc());
+    let mut trace = "deq,0\n".as_bytes();
+    let ended = program(rt.alloc(), &WORDS, &mut trace, &mut writer, &mut told);
+    assert_eq!(rt; str::from_utf8(&told)?, faults);
+    assert_eq!(rt; str::from_utf8(&writer.taken)?, report);
+    assert_eq!(rt; ended, status);
+    Ok(())
+}
+
+#[test]
+fn failed_reads_refused(rt: HostRuntime) -> Result<(), Fail> {
+    let faults = "fqsim: row 0: Read\n";
+    expect_from(&rt, &WORDS, &mut CutReader(b""), 1, "", faults)?;
+    expect_from(&rt, &WORDS, &mut CutReader(b"deq,0\nfoo\n"), 1, "", faults)
+}
+
+#[test]
+fn slow_readers_are_read(rt: HostRuntime) -> Result<(), Fail> {
+    let report = "idle\nclosed\ntotals,0,0,0,0,0,0,0,0,0,0,closed\n";
+    let mut reader = SlowReader(b"deq,0\nclose,1\n");
+    expect_from(&rt, &WORDS, &mut reader, 0, report, "")
+}
+
+#[test]
+fn too_many_bytes_refused(rt: HostRuntime) -> Result<(), Fail> {
+    let faults = "fqsim: row 0: TooLarge\n";
+    expect_from(&rt, &WORDS, &mut EndlessReader, 2, "", faults)
+}
+
+#[test]
+fn slow_writers_are_written(rt: HostRuntime) -> Result<(), Fail> {
+    let report = "idle\ntotals,0,0,0,0,0,0,0,0,0,0,open\n";
+    expect_taken(&rt, 1, 1_000, 0, report, "")?;
+    expect_taken(&rt, 3, 1_000, 0, report, "")
+}
+
+#[test]
+fn failed_writes_refused(rt: HostRuntime) -> Result<(), Fail> {
+    let faults = "fqsim: write\n";
+    expect_taken(&rt, 1_000, 0, 1, "", faults)?;
+    expect_taken(&rt, 1_000, 7, 1, "idle\nto", faults)?;
+    expect_taken(&rt, 1, 7, 1, "idle\nto", faults)
+}
+
+#[test]
+fn writes_that_take_nothing_refused(rt: HostRuntime) -> Result<(), Fail> {
+    expect_taken(&rt, 0, 1_000, 1, "", "fqsim: write\n")
+}
+
+#[test]
+fn a_fault_that_cannot_be_told_keeps_its_status(rt: HostRuntime) -> Result<(), Fail> {
+    let mut faults = NarrowWriter {
+        taken: Vec::new(rt.alloc()),
+        at_once: 1_000,
+        room: 0,
+    };
+    let mut report = Vec::new(rt.alloc());
+    let mut trace = "foo\n".as_bytes();
+    let ended = program(rt.alloc(), &WORDS, &mut trace, &mut report, &mut faults);
+    assert_eq!(rt; ended, 2);
+    assert_eq!(rt; report.len(), 0);
+    Ok(())
+}

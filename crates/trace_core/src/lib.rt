@@ -1,0 +1,14 @@
+//! The trace of a run, as text that is read into steps, and the report of a run, as text that is written.
+//!
+//! A trace is comma-separated: one row for a packet that comes in, for a device that asks for one, and for the
+//! close. A report has one row for each thing that became of a packet and for each step that made nothing
+//! happen, and a last one with the totals.
+#![tactic(auto)]
+
+mod reader;
+mod report;
+mod row;
+mod trace_run;
+
+pub use reader::{MAX_BYTES, MAX_ROWS, TraceFault, TraceFaultKind, read_trace};
+pub use trace_run::{RunFault, run};

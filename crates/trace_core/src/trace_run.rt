@@ -1,0 +1,80 @@
+ghost use Rattle.std.specs.Prelude.{ℕ, OnErr, OnOk, take};
+ghost use Rattle.std.specs.Result.{IsOkUnless};
+ghost use Rattle.std.specs.Io.KnownBytes.{Appends};
+
+use crate::reader::{TraceFault, read_trace};
+use crate::report::report_of;
+use sched_core::run_steps;
+use std::alloc::{AllocError, Global};
+use std::error::Error;
+use std::fmt;
+use std::io::{Read, Write};
+
+/// Why a run gave no report, or not the whole of it.
+#[derive(Clone, Copy, Debug, PartialEq, Eq)]
+pub enum RunFault {
+    /// The trace wasn't read. Nothing was written.
+    Trace(TraceFault),
+    /// A growth was refused behind the reading of the trace. Nothing was written.
+    Memory,
+    /// A write failed or took nothing. What was written is the front of the report.
+    Write,
+}
+
+impl fmt::Display for RunFault {
+    fn fmt<W: fmt::Write>(&self, f: &mut fmt::Formatter<W>) -> fmt::Result {
+        match self {
+            RunFault::Trace(fault) => write!(f, "{fault}"),
+            RunFault::Memory => f.write_str("memory"),
+            RunFault::Write => f.write_str("write"),
+        }
+    }
+}
+
+impl Error for RunFault {}
+
+impl From<TraceFault> for RunFault {
+    fn from(fault: TraceFault) -> RunFault {
+        RunFault::Trace(fault)
+    }
+}
+
+impl From<AllocError> for RunFault {
+    fn from(_: AllocError) -> RunFault {
+        RunFault::Memory
+    }
+}
+
+/// Reads a trace, makes its steps with a new scheduler, and writes the report. The whole report is made before
+/// the first byte of it is written. The writer isn't flushed.
+pub fn run<R: Read, W: Write>(
+    alloc: Global,
+    reader: &mut R,
+    writer: &mut W,
+) -> Result<(), RunFault> {
+    let steps = read_trace(alloc, reader)?;
+    let ran = run_steps(alloc, &steps)?;
+    let text = report_of(alloc, &ran)?;
+    write_text(writer, &text)
+}
+
+/// Writes the whole of a text. It refuses a write that fails and one that takes nothing, and the front of the text
+/// is written then.
+fn write_text<W: Write>(writer: &mut W, text: &[u8]) -> Result<(), RunFault>
+    ensures whole { OnOk result (Appends (W.contents writer.old) (W.contents writer.new) text.now) }
+    ensures front { OnErr result ((count : ℕ) × Appends (W.contents writer.old) (W.contents writer.new) (take count text.now)) }
+    ensures fault { IsOkUnless result RunFault.Write }
+{
+    let mut done = 0;
+    // Each turn takes a byte or more.
+    for _turn in 0..text.len() {
+        if done == text.len() {
+            return Ok(());
+        }
+        match writer.write(&text[done..]) {
+            Ok(0) | Err(_) => return Err(RunFault::Write),
+            Ok(count) => done += count,
+        }
+    }
+    Ok(())
+}
