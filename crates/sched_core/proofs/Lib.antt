@@ -12,3 +12,4 @@ pub mod KeptSteps
 pub mod OneQueueLaws
 pub mod Running
 pub mod Examples
+pub mod Refused

@@ -1,8 +1,9 @@
-use Rattle.std.specs.Prelude.{◌≡◌, ℕ, ◌+◌, ◌≤◌, List, [], ◌∷◌, ◌++◌, length}
+use Rattle.std.specs.Prelude.{◌≡◌, ℕ, ◌+◌, ◌≤◌, Bool, true, false, not, List, [], ◌∷◌, ◌++◌, length, filter, if◌then◌else◌}
 use Rattle.std.specs.List.{flat_map}
 use Rattle.sched_core.specs.declared.step.Step.{Step}
 use Rattle.sched_core.specs.declared.event.Event.{Event}
 use Rattle.sched_core.specs.declared.run.Answer.{Answer}
+use Rattle.sched_core.specs.declared.run.Answer.TheVariants as answer
 use Rattle.sched_core.specs.declared.run.Outcome.{Outcome}
 use Rattle.sched_core.specs.Calls.{Standing}
 use Rattle.sched_core.specs.Disciplines.{Discipline}
@@ -20,6 +21,24 @@ Runs d old [] [] new = new ≡ old
 Runs d old [] (m ∷ made) new = ⊥
 Runs d old (step ∷ steps) [] new = ⊥
 Runs {Q} d old (step ∷ steps) (m ∷ made) new = (mid : State Q) × Steps d old step m.answer m.events mid × Runs d mid steps made new
+
+-- whether a step was refused
+abbrev pub is_refused : Answer → Bool
+is_refused answer.Accepted = false
+is_refused answer.Sent = false
+is_refused answer.Idle = false
+is_refused answer.Closed = false
+is_refused (answer.Refused r) = true
+
+-- the steps that weren't refused, in order
+abbrev pub steps_made : List Step → List Made → List Step
+steps_made [] made = []
+steps_made (step ∷ steps) [] = []
+steps_made (step ∷ steps) (m ∷ made) = if is_refused m.answer then steps_made steps made else step ∷ steps_made steps made
+
+-- what they gave
+abbrev pub given_by_made : List Made → List Made
+given_by_made made = filter (λ m. not (is_refused m.answer)) made
 
 -- the events of all steps, joined
 abbrev pub journal_of : List Made → List Event
