@@ -44,11 +44,11 @@ range_contains n id below = (id, rw length-range_with_len below, get_or-range_wi
 pub follow_push : (events : List Event) (e : Event) (n : ℕ) → FatesFollow events → accepted_ids (events ++ e ∷ []) ≡ range_with_len 0 n → All (λ id. id < n) (fate_ids (events ++ e ∷ [])) → FatesFollow (events ++ e ∷ [])
 follow_push events e n follow ids known point =
     elim (cases_lt (length events) point) [
-      inl past ↦
-        let long : length (events ++ e ∷ []) ≤ point = omega (arith, length_push events e) in
-        rw (take_all point (events ++ e ∷ []) long)
-        (rw ids (All-weaker (λ id. id < n) (Contains (range_with_len 0 n)) (λ id below. range_contains n id below) (fate_ids (events ++ e ∷ [])) known))
-    | inr within ↦ rw (take-append-le point events (e ∷ []) within) (follow point)
+      | inl past ↦
+          let long : length (events ++ e ∷ []) ≤ point = omega (arith, length_push events e) in
+          rw (take_all point (events ++ e ∷ []) long)
+          (rw ids (All-weaker (λ id. id < n) (Contains (range_with_len 0 n)) (λ id below. range_contains n id below) (fate_ids (events ++ e ∷ [])) known))
+      | inr within ↦ rw (take-append-le point events (e ∷ []) within) (follow point)
     ]
 
 -- moments go on rising
@@ -56,7 +56,7 @@ pub moments_push : (events : List Event) (e : Event) (last : ℕ) → MomentsRis
 moments_push events e last rises past later =
     rw (map-append moment_of events (e ∷ []))
     (IsNonDecreasingBy-push (λ x. x) (map moment_of events) (moment_of e) rises (λ d some.
-      let at = past (length (map moment_of events) - 1) d (omega arith) in omega arith))
+    let at = past (length (map moment_of events) - 1) d (omega arith) in omega arith))
 
 pub past_push : (events : List Event) (e : Event) (last : ℕ) → All (λ moment. moment ≤ last) (map moment_of events) → last ≤ moment_of e → All (λ moment. moment ≤ moment_of e) (map moment_of (events ++ e ∷ []))
 past_push events e last past later =
@@ -86,9 +86,9 @@ closed_push_open (x ∷ events) e open' =
 some_stays : (accepted more : List Acceptance) (id : ℕ) (P : Acceptance → Type 0) → IsSomeAnd (named accepted id) P → IsSomeAnd (named (accepted ++ more) id) P
 some_stays accepted more id P h = go (named accepted id) refl h
   where
-  go : (o : Option Acceptance) → named accepted id ≡ o → IsSomeAnd o P → IsSomeAnd (named (accepted ++ more) id) P
-  go None e h = absurd h
-  go (Some a) e h = rw (find-append (λ (b : Acceptance). b.id == id) accepted more a e) h
+    go : (o : Option Acceptance) → named accepted id ≡ o → IsSomeAnd o P → IsSomeAnd (named (accepted ++ more) id) P
+    go None e h = absurd h
+    go (Some a) e h = rw (find-append (λ (b : Acceptance). b.id == id) accepted more a e) h
 
 honest_stays : (accepted more : List Acceptance) (e : Event) → IsHonest accepted e → IsHonest (accepted ++ more) e
 honest_stays accepted more (Accepted id moment lane flow packet) h = tt

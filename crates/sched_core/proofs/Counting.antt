@@ -84,11 +84,12 @@ counts_send c events id moment ecn mark len value h =
       fate_bytes = let was = h.fate_bytes in let now : bytes_named (acceptances (events ++ e ∷ [])) (fate_ids (events ++ e ∷ [])) ≡ bytes_named (acceptances events) (fate_ids events) + len = rw (accepted, fated) fate_sums in omega arith;
     }
   where
-  sum_push : (ids : List ℕ) → bytes_named (acceptances events) (ids ++ id ∷ []) ≡ bytes_named (acceptances events) ids + len
-  sum_push ids = let all = sum_by_push (length_named (acceptances events)) ids id in omega arith
-  mark_counts : (mark : Mark) → marks_of mark ≡ cond (is_marked (Sent id moment ecn mark)) 1 0
-  mark_counts NoMark = refl
-  mark_counts CodelMark = refl
+    sum_push : (ids : List ℕ) → bytes_named (acceptances events) (ids ++ id ∷ []) ≡ bytes_named (acceptances events) ids + len
+    sum_push ids = let all = sum_by_push (length_named (acceptances events)) ids id in omega arith
+
+    mark_counts : (mark : Mark) → marks_of mark ≡ cond (is_marked (Sent id moment ecn mark)) 1 0
+    mark_counts NoMark = refl
+    mark_counts CodelMark = refl
 
 -- a close
 pub counts_close : (c : Counts) (events : List Event) (moment : ℕ) → AreCounts c events → AreCounts c (events ++ Closed moment ∷ [])

@@ -46,12 +46,23 @@ closing_made =
     ∷ []
 
 closing_runs : Runs one_queue (opening_state []) closing closing_made (state_at [] 1 3 true)
-closing_runs =
-    (state_at (only ∷ []) 1 0 false, (refl, record { lost = []; queues = (refl, refl); told = refl; next_id = refl; last = refl; closed = refl }),
-     (state_at (only ∷ []) 1 1 true, (refl, record { told = refl; state = refl }),
-      (state_at (only ∷ []) 1 1 true, (refl, refl, refl),
-       (state_at [] 1 3 true, (Some (unmarked only), refl, record { dropped = []; queues = (refl, refl, refl); told = refl; next_id = refl; last = refl; closed = refl }),
-        (state_at [] 1 3 true, (refl, refl, refl), refl)))))
+closing_runs = (
+  state_at (only ∷ []) 1 0 false,
+  (refl, record { lost = []; queues = (refl, refl); told = refl; next_id = refl; last = refl; closed = refl }),
+  (
+    state_at (only ∷ []) 1 1 true,
+    (refl, record { told = refl; state = refl }),
+    (
+      state_at (only ∷ []) 1 1 true,
+      (refl, refl, refl),
+      (
+        state_at [] 1 3 true,
+        (Some (unmarked only), refl, record { dropped = []; queues = (refl, refl, refl); told = refl; next_id = refl; last = refl; closed = refl }),
+        (state_at [] 1 3 true, (refl, refl, refl), refl),
+      ),
+    ),
+  ),
+)
 
 closing_outcomes : outcomes_from 0 closing_made
     ≡ record { answer = answer.Accepted; first_event = 0; end_event = 1 } ∷ record { answer = answer.Closed; first_event = 1; end_event = 2 } ∷ record { answer = answer.Refused refusal.ClosedAlready; first_event = 2; end_event = 2 } ∷ record { answer = answer.Sent; first_event = 2; end_event = 3 } ∷ record { answer = answer.Refused refusal.ClosedAlready; first_event = 3; end_event = 3 } ∷ []

@@ -28,8 +28,8 @@ bytes_stay accepted more ids found =
     sum_by_agree_on (length_named (accepted ++ more)) (length_named accepted) ids
     (ByRecursion-weaker (λ id. (a : Acceptance) × (named accepted id ≡ Some a)) (λ id. length_named (accepted ++ more) id ≡ length_named accepted id) ids (λ id h. stays id h.0 h.1) found)
   where
-  stays : (id : ℕ) (a : Acceptance) → named accepted id ≡ Some a → length_named (accepted ++ more) id ≡ length_named accepted id
-  stays id a e = rw (e, find-append (λ (b : Acceptance). eqb b.id id) accepted more a e)
+    stays : (id : ℕ) (a : Acceptance) → named accepted id ≡ Some a → length_named (accepted ++ more) id ≡ length_named accepted id
+    stays id a e = rw (e, find-append (λ (b : Acceptance). eqb b.id id) accepted more a e)
 
 -- the journal of a history, whose queues and last moment are named
 module _ (flow_of : FiveTuple → ℕ) (events : List Event) (n last : ℕ) where
@@ -49,7 +49,7 @@ module _ (flow_of : FiveTuple → ℕ) (events : List Event) (n last : ℕ) wher
       let below = recursion_from_All (λ id. id < n) (fate_ids events) h.known in
       let apart = ByRecursion-weaker (λ id. id < n) (λ id. id ≢ n) (fate_ids events) (λ id low. λ s. omega arith) below in
       let ids : accepted_ids (events ++ e ∷ []) ≡ range_with_len 0 (n + 1) =
-          ap (map id_of) accepted ∙ map-append id_of (acceptances events) (a ∷ []) ∙ ap (λ r. r ++ n ∷ []) h.ids ∙ range_next n in
+      ap (map id_of) accepted ∙ map-append id_of (acceptances events) (a ∷ []) ∙ ap (λ r. r ++ n ∷ []) h.ids ∙ range_next n in
       let known : All (λ id. id < n + 1) (fate_ids (events ++ e ∷ [])) = rw fated (All-weaker (λ id. id < n) (λ id. id < n + 1) (λ id low. omega arith) (fate_ids events) h.known) in
       let left : unfated (events ++ e ∷ []) ≡ unfated events ++ a ∷ [] = rw (accepted, fated) (left_by-accept (fate_ids events) (acceptances events) a apart) in
       record {
@@ -66,11 +66,11 @@ module _ (flow_of : FiveTuple → ℕ) (events : List Event) (n last : ℕ) wher
         honest = rw accepted (All-push (IsHonest (acceptances events ++ a ∷ [])) events e (all_honest_stay (acceptances events) (a ∷ []) events h.honest) tt);
         left = let len = ap length left ∙ length_push (unfated events) a in let was = h.left in let f = ap length fated in omega arith;
         left_bytes =
-          let sum_left = ap (sum_by length_of) left ∙ sum_by_push length_of (unfated events) a in
-          let sum_all = ap (sum_by length_of) accepted ∙ sum_by_push length_of (acceptances events) a in
-          let was = h.left_bytes in
-          let fates : bytes_named (acceptances (events ++ e ∷ [])) (fate_ids (events ++ e ∷ [])) ≡ bytes_named (acceptances events) (fate_ids events) = rw (accepted, fated) (bytes_stay (acceptances events) (a ∷ []) (fate_ids events) found) in
-          omega arith;
+            let sum_left = ap (sum_by length_of) left ∙ sum_by_push length_of (unfated events) a in
+            let sum_all = ap (sum_by length_of) accepted ∙ sum_by_push length_of (acceptances events) a in
+            let was = h.left_bytes in
+            let fates : bytes_named (acceptances (events ++ e ∷ [])) (fate_ids (events ++ e ∷ [])) ≡ bytes_named (acceptances events) (fate_ids events) = rw (accepted, fated) (bytes_stay (acceptances events) (a ∷ []) (fate_ids events) found) in
+            omega arith;
       }
 
   -- There is a close.
@@ -144,37 +144,39 @@ module _ (flow_of : FiveTuple → ℕ) (events : List Event) (n last : ℕ) wher
         closed_for_good = closed_push_free events e free h.closed_for_good;
         honest = rw accepted (All-push (IsHonest (acceptances events)) events e h.honest (honest who left.found left.same));
         left =
-          let now : unfated (events ++ e ∷ []) ≡ left_by (fate_ids events ++ w.id ∷ []) (acceptances events) = rw (accepted, fated) in
-          let one = length-left_by-fate (fate_ids events) w.id who (acceptances events) rises left.found left.new in
-          let len = ap length now in
-          let fates = ap length fated ∙ length_push (fate_ids events) w.id in
-          let was = h.left in
-          omega arith;
+            let now : unfated (events ++ e ∷ []) ≡ left_by (fate_ids events ++ w.id ∷ []) (acceptances events) = rw (accepted, fated) in
+            let one = length-left_by-fate (fate_ids events) w.id who (acceptances events) rises left.found left.new in
+            let len = ap length now in
+            let fates = ap length fated ∙ length_push (fate_ids events) w.id in
+            let was = h.left in
+            omega arith;
         left_bytes =
-          let now : unfated (events ++ e ∷ []) ≡ left_by (fate_ids events ++ w.id ∷ []) (acceptances events) = rw (accepted, fated) in
-          let one = left_by-fate length_of 0 (fate_ids events) w.id who (acceptances events) rises left.found left.new in
-          let sum_left = ap (sum_by length_of) now in
-          let value : length_named (acceptances events) w.id ≡ length_of who = rw left.found in
-          let fates : bytes_named (acceptances (events ++ e ∷ [])) (fate_ids (events ++ e ∷ [])) ≡ bytes_named (acceptances events) (fate_ids events) + length_named (acceptances events) w.id = rw (accepted, fated) (sum_by_push (length_named (acceptances events)) (fate_ids events) w.id) in
-          let all = ap (sum_by length_of) accepted in
-          let was = h.left_bytes in
-          omega arith;
+            let now : unfated (events ++ e ∷ []) ≡ left_by (fate_ids events ++ w.id ∷ []) (acceptances events) = rw (accepted, fated) in
+            let one = left_by-fate length_of 0 (fate_ids events) w.id who (acceptances events) rises left.found left.new in
+            let sum_left = ap (sum_by length_of) now in
+            let value : length_named (acceptances events) w.id ≡ length_of who = rw left.found in
+            let fates : bytes_named (acceptances (events ++ e ∷ [])) (fate_ids (events ++ e ∷ [])) ≡ bytes_named (acceptances events) (fate_ids events) + length_named (acceptances events) w.id = rw (accepted, fated) (sum_by_push (length_named (acceptances events)) (fate_ids events) w.id) in
+            let all = ap (sum_by length_of) accepted in
+            let was = h.left_bytes in
+            omega arith;
       }
     where
-    or_false : (b : Bool) → (b || false) ≡ b
-    or_false true = refl
-    or_false false = refl
-    below_next : (id : ℕ) (who : Acceptance) → named (acceptances events) id ≡ Some who → who.id ≡ id → IsHistory flow_of queue_of events n last closed → id < n
-    below_next id who found same h =
-        let all = Rises-within 0 n (acceptances events) h.ids in
-        let low = All-found (λ (b : Acceptance). b.id < 0 + n) (λ b. eqb b.id id) (acceptances events) who all found in
-        omega arith
-    line_of : (f : ℕ) → Leaves flow w (queue_of' flow) (acceptances events) (fate_ids events) → IsLine f (queue_of' f) (acceptances events) (fate_ids events ++ w.id ∷ [])
-    line_of f left =
-        elim (cases_eq flow f) [
-          inl same ↦ subst (λ g. IsLine g (queue_of' g) (acceptances events) (fate_ids events ++ w.id ∷ [])) same left.line
-        | inr other ↦
-            let flow_is = eqb-true left.who.flow flow left.flow_is in
-            let stays : queue_of f ≡ queue_of' f = leaves f ∙ rw (ne_eqb flow f other) in
-            line_stays f (queue_of' f) (acceptances events) (fate_ids events) w.id left.who left.found (ne_eqb left.who.flow f (λ s. other (sym flow_is ∙ s))) (subst (λ q. IsLine f q (acceptances events) (fate_ids events)) stays (h.lines f))
-        ]
+      or_false : (b : Bool) → (b || false) ≡ b
+      or_false true = refl
+      or_false false = refl
+
+      below_next : (id : ℕ) (who : Acceptance) → named (acceptances events) id ≡ Some who → who.id ≡ id → IsHistory flow_of queue_of events n last closed → id < n
+      below_next id who found same h =
+          let all = Rises-within 0 n (acceptances events) h.ids in
+          let low = All-found (λ (b : Acceptance). b.id < 0 + n) (λ b. eqb b.id id) (acceptances events) who all found in
+          omega arith
+
+      line_of : (f : ℕ) → Leaves flow w (queue_of' flow) (acceptances events) (fate_ids events) → IsLine f (queue_of' f) (acceptances events) (fate_ids events ++ w.id ∷ [])
+      line_of f left =
+          elim (cases_eq flow f) [
+            | inl same ↦ subst (λ g. IsLine g (queue_of' g) (acceptances events) (fate_ids events ++ w.id ∷ [])) same left.line
+            | inr other ↦
+                let flow_is = eqb-true left.who.flow flow left.flow_is in
+                let stays : queue_of f ≡ queue_of' f = leaves f ∙ rw (ne_eqb flow f other) in
+                line_stays f (queue_of' f) (acceptances events) (fate_ids events) w.id left.who left.found (ne_eqb left.who.flow f (λ s. other (sym flow_is ∙ s))) (subst (λ q. IsLine f q (acceptances events) (fate_ids events)) stays (h.lines f))
+          ]

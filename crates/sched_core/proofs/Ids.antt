@@ -45,8 +45,8 @@ Rises-filter p k (a ∷ accepted) r =
     let ih = Rises-filter p (a.id + 1) accepted r.1 in
     let low = r.0 in
     elim (cases_Bool (p a)) [
-      inl t ↦ rw t (low, ih)
-    | inr t ↦ rw t (Rises-lower k (a.id + 1) (filter p accepted) (omega arith) ih)
+      | inl t ↦ rw t (low, ih)
+      | inr t ↦ rw t (Rises-lower k (a.id + 1) (filter p accepted) (omega arith) ih)
     ]
 
 -- each id is at least the first
@@ -66,9 +66,9 @@ pub Rises-before : (k : ℕ) (before after : List Acceptance) (a : Acceptance) �
 Rises-before k [] after a r = tt
 Rises-before k (b ∷ before) after a r = (Rises-first (b.id + 1) before after a r.1, Rises-before (b.id + 1) before after a r.1)
   where
-  Rises-first : (k : ℕ) (before after : List Acceptance) (a : Acceptance) → Rises k (before ++ a ∷ after) → k ≤ a.id
-  Rises-first k [] after a r = r.0
-  Rises-first k (b ∷ before) after a r = let low = r.0 in let ih = Rises-first (b.id + 1) before after a r.1 in omega arith
+    Rises-first : (k : ℕ) (before after : List Acceptance) (a : Acceptance) → Rises k (before ++ a ∷ after) → k ≤ a.id
+    Rises-first k [] after a r = r.0
+    Rises-first k (b ∷ before) after a r = let low = r.0 in let ih = Rises-first (b.id + 1) before after a r.1 in omega arith
 
 -- an id that none has is not found
 pub named_none : (accepted : List Acceptance) (id : ℕ) → AllByRecursion (λ (a : Acceptance). a.id ≢ id) accepted → named accepted id ≡ None
@@ -81,9 +81,9 @@ named_itself k [] r = tt
 named_itself k (a ∷ accepted) r =
     (rw (eq-eqb a.id a.id refl), behind accepted (Rises-above (a.id + 1) accepted r.1) (named_itself (a.id + 1) accepted r.1))
   where
-  behind : (some : List Acceptance) → AllByRecursion (λ b. a.id + 1 ≤ b.id) some → AllByRecursion (λ b. named accepted b.id ≡ Some b) some → AllByRecursion (λ b. named (a ∷ accepted) b.id ≡ Some b) some
-  behind [] h e = tt
-  behind (b ∷ some) h e = let low = h.0 in (rw (ne_eqb a.id b.id (λ s. omega arith)) e.0, behind some h.1 e.1)
+    behind : (some : List Acceptance) → AllByRecursion (λ b. a.id + 1 ≤ b.id) some → AllByRecursion (λ b. named accepted b.id ≡ Some b) some → AllByRecursion (λ b. named (a ∷ accepted) b.id ≡ Some b) some
+    behind [] h e = tt
+    behind (b ∷ some) h e = let low = h.0 in (rw (ne_eqb a.id b.id (λ s. omega arith)) e.0, behind some h.1 e.1)
 
 -- each number that an id has is found
 pub named_within : (k n : ℕ) (accepted : List Acceptance) (id : ℕ) → map id_of accepted ≡ range_with_len k n → k ≤ id → id < k + n → (a : Acceptance) × (named accepted id ≡ Some a)
@@ -93,10 +93,10 @@ named_within k (suc n) (a ∷ accepted) id e low high =
     let head : a.id ≡ k = cc in
     let tail : map id_of accepted ≡ range_with_len (k + 1) n = cc in
     elim (cases_eq a.id id) [
-      inl same ↦ (a, rw (eq-eqb a.id id same))
-    | inr other ↦
-        let found = named_within (k + 1) n accepted id tail (omega arith) (omega arith) in
-        (found.0, rw (ne_eqb a.id id other) found.1)
+      | inl same ↦ (a, rw (eq-eqb a.id id same))
+      | inr other ↦
+          let found = named_within (k + 1) n accepted id tail (omega arith) (omega arith) in
+          (found.0, rw (ne_eqb a.id id other) found.1)
     ]
 
 -- the test of an acceptance that its id finds
@@ -116,8 +116,8 @@ pub is_among_last : (ids : List ℕ) (id : ℕ) → is_among (ids ++ id ∷ []) 
 is_among_last [] id = rw (eq-eqb id id refl)
 is_among_last (x ∷ ids) id =
     elim (cases_Bool (eqb x id)) [
-      inl t ↦ rw t
-    | inr t ↦ rw t (is_among_last ids id)
+      | inl t ↦ rw t
+      | inr t ↦ rw t (is_among_last ids id)
     ]
 
 -- an id that differs from each is not among them
@@ -137,8 +137,8 @@ is_among-filter q [] id t = refl
 is_among-filter q (x ∷ ids) id t =
     let ih = is_among-filter q ids id t in
     elim (cases_Bool (q x)) [
-      inl u ↦ rw (u, ih)
-    | inr u ↦ rw u (ih ∙ sym (rw (ne_eqb x id (λ s. false≢true (sym u ∙ ap q s ∙ t)))))
+      | inl u ↦ rw (u, ih)
+      | inr u ↦ rw u (ih ∙ sym (rw (ne_eqb x id (λ s. false≢true (sym u ∙ ap q s ∙ t)))))
     ]
 
 -- an acceptance of the list is among its ids
@@ -146,7 +146,7 @@ pub is_among_itself : (accepted : List Acceptance) → AllByRecursion (λ a. is_
 is_among_itself [] = tt
 is_among_itself (a ∷ accepted) = (rw (eq-eqb a.id a.id refl), behind accepted (is_among_itself accepted))
   where
-  behind : (some : List Acceptance) → AllByRecursion (λ b. is_among (map id_of accepted) b.id ≡ true) some → AllByRecursion (λ b. is_among (map id_of (a ∷ accepted)) b.id ≡ true) some
-  behind [] h = tt
-  behind (b ∷ some) h =
-      (elim (cases_Bool (eqb a.id b.id)) [ inl t ↦ rw t | inr t ↦ rw t h.0 ], behind some h.1)
+    behind : (some : List Acceptance) → AllByRecursion (λ b. is_among (map id_of accepted) b.id ≡ true) some → AllByRecursion (λ b. is_among (map id_of (a ∷ accepted)) b.id ≡ true) some
+    behind [] h = tt
+    behind (b ∷ some) h =
+        (elim (cases_Bool (eqb a.id b.id)) [ inl t ↦ rw t | inr t ↦ rw t h.0 ], behind some h.1)

@@ -107,12 +107,13 @@ module _ (flow_of : FiveTuple → ℕ) (n : ℕ) (closed : Bool) (flow moment : 
       (history_fates flow_of (events ++ drops) n moment mid queue_of' closed flow g.waiting moment e dropped (λ f. refl) (omega arith) refl refl refl refl refl
       (λ a found same. honest_at (acceptances (events ++ drops)) a found same))
     where
-    heads_append : (flow f : ℕ) (gone more : List Waiting) → heads flow (gone ++ more) f ≡ heads flow gone f ++ heads flow more f
-    heads_append flow f gone more = elim (cases_Bool (eqb flow f)) [ inl t ↦ rw t | inr t ↦ rw t ]
-    honest_at : (accepted : List Acceptance) (a : Acceptance) → named accepted g.waiting.id ≡ Some a → waiting_of a ≡ g.waiting → IsHonest accepted (Sent g.waiting.id moment (sent_ecn g.mark g.waiting.packet.ecn) g.mark)
-    honest_at accepted a found same =
-        let ecn : a.packet.ecn ≡ g.waiting.packet.ecn = ap (λ (w : Waiting). w.packet.ecn) same in
-        rw found (ap (sent_ecn g.mark) (sym ecn), subst (MayHave g.mark) (sym ecn) may)
+      heads_append : (flow f : ℕ) (gone more : List Waiting) → heads flow (gone ++ more) f ≡ heads flow gone f ++ heads flow more f
+      heads_append flow f gone more = elim (cases_Bool (eqb flow f)) [ inl t ↦ rw t | inr t ↦ rw t ]
+
+      honest_at : (accepted : List Acceptance) (a : Acceptance) → named accepted g.waiting.id ≡ Some a → waiting_of a ≡ g.waiting → IsHonest accepted (Sent g.waiting.id moment (sent_ecn g.mark g.waiting.packet.ecn) g.mark)
+      honest_at accepted a found same =
+          let ecn : a.packet.ecn ≡ g.waiting.packet.ecn = ap (λ (w : Waiting). w.packet.ecn) same in
+          rw found (ap (sent_ecn g.mark) (sym ecn), subst (MayHave g.mark) (sym ecn) may)
 
 -- no refusal means that no test refuses
 first_none : {X : Type 0} (a b : Option X) → first_of_two a b ≡ None → (a ≡ None) × (b ≡ None)
@@ -126,9 +127,9 @@ map_none f (Some x) e = absurd cc
 still_open : {Q : Type 0} (s : State Q) → close_refusal_of s ≡ None → s.closed ≡ false
 still_open s e = go s.closed refl e
   where
-  go : (b : Bool) → s.closed ≡ b → cond b (Some ClosedAlready) None ≡ None → s.closed ≡ false
-  go true is e = absurd cc
-  go false is e = is
+    go : (b : Bool) → s.closed ≡ b → cond b (Some ClosedAlready) None ≡ None → s.closed ≡ false
+    go true is e = absurd cc
+    go false is e = is
 
 -- Every discipline that is first in, first out by flow.
 module _ {Q : Type 0} (d : Discipline Q) (queue_of : Q → ℕ → List Waiting) (fifo : IsFifoByFlow d queue_of) where
@@ -177,9 +178,9 @@ module _ {Q : Type 0} (d : Discipline Q) (queue_of : Q → ℕ → List Waiting)
   pub keeps_steps : (old new : State Q) (step : Step) (said : Answer) (made events : List Event) → Steps d old step said made new → Keeps old events → Keeps new (events ++ made)
   keeps_steps old new step said made events s h = go (refusal_of old step) refl s
     where
-    go : (o : Option Refusal) → refusal_of old step ≡ o → MatchOption o (Makes d old step said made new) (λ r. (said ≡ answer.Refused r) × (made ≡ []) × (new ≡ old)) → Keeps new (events ++ made)
-    go None fits m = keeps_makes old new step said made events fits m h
-    go (Some r) is m = rw (m.1, m.2, append-nil events) h
+      go : (o : Option Refusal) → refusal_of old step ≡ o → MatchOption o (Makes d old step said made new) (λ r. (said ≡ answer.Refused r) × (made ≡ []) × (new ≡ old)) → Keeps new (events ++ made)
+      go None fits m = keeps_makes old new step said made events fits m h
+      go (Some r) is m = rw (m.1, m.2, append-nil events) h
 
   pub keeps_runs : (old new : State Q) (steps : List Step) (made : List Made) (events : List Event) → Runs d old steps made new → Keeps old events → Keeps new (events ++ journal_of made)
   keeps_runs old new [] [] events r h = rw (append-nil events, r) h

@@ -71,7 +71,7 @@ kept_sends w queue book last moment closed h later =
       long = omega arith;
       few = h.few;
       history = history_fates one_queue.flow_of book.events n last (queue_of (w ∷ queue)) (queue_of queue) closed 0 w moment e h.history (leaves w queue) later refl refl refl refl refl
-        (λ a found same. rw found (ap (λ (v : Waiting). v.packet.ecn) (sym same), tt));
+          (λ a found same. rw found (ap (λ (v : Waiting). v.packet.ecn) (sym same), tt));
       counts = counts_send book.counts book.events w.id moment w.packet.ecn NoMark w.packet.len value h.counts;
     }
 

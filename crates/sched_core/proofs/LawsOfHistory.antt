@@ -60,9 +60,9 @@ module _ (flow : ℕ) (waiting : List Waiting) (accepted : List Acceptance) (fat
       let at = ByRecursion-weaker (λ (a : Acceptance). named accepted a.id ≡ Some a) (λ (a : Acceptance). passes test accepted a.id ≡ test a) line.gone (λ a e. passes_at test accepted a.id a e) parts_found.0 in
       filter_within (passes test accepted) (passes (of_flow flow) accepted) fated within ∙ ap (filter (passes test accepted)) line.fates ∙ filter-map id_of (passes test accepted) test line.gone at
     where
-    id_within : (id : ℕ) (a : Acceptance) → named accepted id ≡ Some a → passes test accepted id ≡ true → passes (of_flow flow) accepted id ≡ true
-    id_within id a e t =
-        passes_at (of_flow flow) accepted id a e ∙ All-found (λ b. test b ≡ true → of_flow flow b ≡ true) (λ b. eqb b.id id) accepted a own e (sym (passes_at test accepted id a e) ∙ t)
+      id_within : (id : ℕ) (a : Acceptance) → named accepted id ≡ Some a → passes test accepted id ≡ true → passes (of_flow flow) accepted id ≡ true
+      id_within id a e t =
+          passes_at (of_flow flow) accepted id a e ∙ All-found (λ b. test b ≡ true → of_flow flow b ≡ true) (λ b. eqb b.id id) accepted a own e (sym (passes_at test accepted id a e) ∙ t)
 
   pub leave_in_order : (test : Acceptance → Bool) → AllByRecursion (λ a. test a ≡ true → of_flow flow a ≡ true) accepted
       → filter (passes test accepted) fated ≡ take (length (filter (passes test accepted) fated)) (map id_of (filter test accepted))
@@ -80,24 +80,26 @@ module _ (flow : ℕ) (waiting : List Waiting) (accepted : List Acceptance) (fat
   pub rest_is_left : filter (of_flow flow) (left_by fated accepted) ≡ line.rest
   rest_is_left =
       let gone_in : AllByRecursion (λ a. not (is_among fated a.id) ≡ false) line.gone =
-          gone_at line.gone parts_found.0 parts_own.0 (is_among_itself line.gone) in
+      gone_at line.gone parts_found.0 parts_own.0 (is_among_itself line.gone) in
       let rest_out : AllByRecursion (λ a. not (is_among fated a.id) ≡ true) line.rest =
-          rest_at line.rest parts_found.1 parts_own.1 (apart 0 line.gone line.rest (subst (Rises 0) line.split (Rises-filter (of_flow flow) 0 accepted rises))) in
+      rest_at line.rest parts_found.1 parts_own.1 (apart 0 line.gone line.rest (subst (Rises 0) line.split (Rises-filter (of_flow flow) 0 accepted rises))) in
       filter_comm (of_flow flow) (λ a. not (is_among fated a.id)) accepted ∙ ap (left_by fated) line.split ∙ filter-append (λ a. not (is_among fated a.id)) line.gone line.rest
       ∙ rw (filter_keeps_none (λ a. not (is_among fated a.id)) line.gone gone_in, filter_keeps_all (λ a. not (is_among fated a.id)) line.rest rest_out)
     where
-    gone_at : (some : List Acceptance) → AllByRecursion (λ (a : Acceptance). named accepted a.id ≡ Some a) some → AllByRecursion (λ a. of_flow flow a ≡ true) some → AllByRecursion (λ a. is_among (map id_of line.gone) a.id ≡ true) some → AllByRecursion (λ a. not (is_among fated a.id) ≡ false) some
-    gone_at [] h k m = tt
-    gone_at (a ∷ some) h k m = (not_from_true (is_among fated a.id) (fate_at a h.0 k.0 ∙ m.0), gone_at some h.1 k.1 m.1)
-    rest_at : (some : List Acceptance) → AllByRecursion (λ (a : Acceptance). named accepted a.id ≡ Some a) some → AllByRecursion (λ a. of_flow flow a ≡ true) some → AllByRecursion (λ a. AllByRecursion (λ id. id ≢ a.id) (map id_of line.gone)) some → AllByRecursion (λ a. not (is_among fated a.id) ≡ true) some
-    rest_at [] h k m = tt
-    rest_at (a ∷ some) h k m = (not_from_false (is_among fated a.id) (fate_at a h.0 k.0 ∙ is_among_none (map id_of line.gone) a.id m.0), rest_at some h.1 k.1 m.1)
-    apart : (k : ℕ) (gone rest : List Acceptance) → Rises k (gone ++ rest) → AllByRecursion (λ a. AllByRecursion (λ id. id ≢ a.id) (map id_of gone)) rest
-    apart k [] rest r = ByRecursion-all (λ a. Unit {0}) rest (λ _. tt)
-    apart k (b ∷ gone) rest r =
-        let above = (ByRecursion-parts (λ a. b.id + 1 ≤ a.id) gone rest (Rises-above (b.id + 1) (gone ++ rest) r.1)).1 in
-        let first = ByRecursion-weaker (λ a. b.id + 1 ≤ a.id) (λ a. b.id ≢ a.id) rest (λ a low. λ s. omega arith) above in
-        ByRecursion-both (λ a. b.id ≢ a.id) (λ a. AllByRecursion (λ id. id ≢ a.id) (map id_of gone)) rest first (apart (b.id + 1) gone rest r.1)
+      gone_at : (some : List Acceptance) → AllByRecursion (λ (a : Acceptance). named accepted a.id ≡ Some a) some → AllByRecursion (λ a. of_flow flow a ≡ true) some → AllByRecursion (λ a. is_among (map id_of line.gone) a.id ≡ true) some → AllByRecursion (λ a. not (is_among fated a.id) ≡ false) some
+      gone_at [] h k m = tt
+      gone_at (a ∷ some) h k m = (not_from_true (is_among fated a.id) (fate_at a h.0 k.0 ∙ m.0), gone_at some h.1 k.1 m.1)
+
+      rest_at : (some : List Acceptance) → AllByRecursion (λ (a : Acceptance). named accepted a.id ≡ Some a) some → AllByRecursion (λ a. of_flow flow a ≡ true) some → AllByRecursion (λ a. AllByRecursion (λ id. id ≢ a.id) (map id_of line.gone)) some → AllByRecursion (λ a. not (is_among fated a.id) ≡ true) some
+      rest_at [] h k m = tt
+      rest_at (a ∷ some) h k m = (not_from_false (is_among fated a.id) (fate_at a h.0 k.0 ∙ is_among_none (map id_of line.gone) a.id m.0), rest_at some h.1 k.1 m.1)
+
+      apart : (k : ℕ) (gone rest : List Acceptance) → Rises k (gone ++ rest) → AllByRecursion (λ a. AllByRecursion (λ id. id ≢ a.id) (map id_of gone)) rest
+      apart k [] rest r = ByRecursion-all (λ a. Unit {0}) rest (λ _. tt)
+      apart k (b ∷ gone) rest r =
+          let above = (ByRecursion-parts (λ a. b.id + 1 ≤ a.id) gone rest (Rises-above (b.id + 1) (gone ++ rest) r.1)).1 in
+          let first = ByRecursion-weaker (λ a. b.id + 1 ≤ a.id) (λ a. b.id ≢ a.id) rest (λ a low. λ s. omega arith) above in
+          ByRecursion-both (λ a. b.id ≢ a.id) (λ a. AllByRecursion (λ id. id ≢ a.id) (map id_of gone)) rest first (apart (b.id + 1) gone rest r.1)
 
 module _ (flow_of : FiveTuple → ℕ) (queue_of : ℕ → List Waiting) (events : List Event) (n last : ℕ) (closed : Bool) (h : IsHistory flow_of queue_of events n last closed) where
   rises : Rises 0 (acceptances events)
@@ -115,12 +117,12 @@ module _ (flow_of : FiveTuple → ℕ) (queue_of : ℕ → List Waiting) (events
     fates_follow = h.follow;
     one_fate = h.one_fate;
     order_of_tuple = λ tuple.
-      leave_in_order (flow_of tuple) (queue_of (flow_of tuple)) (acceptances events) (fate_ids events) rises found (h.lines (flow_of tuple)) (λ a. same_tuple a.packet.tuple tuple)
-      (ByRecursion-weaker (λ a. a.flow ≡ flow_of a.packet.tuple) (λ a. same_tuple a.packet.tuple tuple ≡ true → of_flow (flow_of tuple) a ≡ true) (acceptances events)
-      (λ a is_named same. eq-eqb a.flow (flow_of tuple) (is_named ∙ ap flow_of (same_tuple-true a.packet.tuple tuple same)))
-      (recursion_from_All (λ a. a.flow ≡ flow_of a.packet.tuple) (acceptances events) h.flows));
+        leave_in_order (flow_of tuple) (queue_of (flow_of tuple)) (acceptances events) (fate_ids events) rises found (h.lines (flow_of tuple)) (λ a. same_tuple a.packet.tuple tuple)
+        (ByRecursion-weaker (λ a. a.flow ≡ flow_of a.packet.tuple) (λ a. same_tuple a.packet.tuple tuple ≡ true → of_flow (flow_of tuple) a ≡ true) (acceptances events)
+        (λ a is_named same. eq-eqb a.flow (flow_of tuple) (is_named ∙ ap flow_of (same_tuple-true a.packet.tuple tuple same)))
+        (recursion_from_All (λ a. a.flow ≡ flow_of a.packet.tuple) (acceptances events) h.flows));
     order_of_flow = λ flow.
-      leave_in_order flow (queue_of flow) (acceptances events) (fate_ids events) rises found (h.lines flow) (of_flow flow) (ByRecursion-all (λ a. of_flow flow a ≡ true → of_flow flow a ≡ true) (acceptances events) (λ a t. t));
+        leave_in_order flow (queue_of flow) (acceptances events) (fate_ids events) rises found (h.lines flow) (of_flow flow) (ByRecursion-all (λ a. of_flow flow a ≡ true → of_flow flow a ≡ true) (acceptances events) (λ a t. t));
     closed_for_good = h.closed_for_good;
     honest_marks = h.honest;
   }

@@ -24,34 +24,35 @@ pub left_by-fate : (f : Acceptance → ℕ) (k : ℕ) (fated : List ℕ) (id : �
 left_by-fate f k fated id who [] rises found new = absurd cc
 left_by-fate f k fated id who (a ∷ accepted) rises found new = elim (cases_eq a.id id) [ inl same ↦ here same | inr other ↦ behind other (λ known. left_by-fate f (a.id + 1) fated id who accepted rises.1 known new) (cases_Bool (is_among fated a.id)) ]
   where
-  here : a.id ≡ id → sum_by f (left_by (fated ++ id ∷ []) (a ∷ accepted)) + f who ≡ sum_by f (left_by fated (a ∷ accepted))
-  here same =
-      let e : Some a ≡ Some who = rw (eq-eqb a.id id same) at found in
-      let is_who : a ≡ who = cc in
-      let gone : is_among (fated ++ id ∷ []) a.id ≡ true = ap (is_among (fated ++ id ∷ [])) same ∙ is_among_last fated id in
-      let was : is_among fated a.id ≡ false = ap (is_among fated) same ∙ new in
-      let rest : left_by (fated ++ id ∷ []) accepted ≡ left_by fated accepted =
-          filter_agree_on (λ b. not (is_among (fated ++ id ∷ []) b.id)) (λ b. not (is_among fated b.id)) accepted
-          (ByRecursion-weaker (λ b. a.id + 1 ≤ b.id) (λ b. not (is_among (fated ++ id ∷ []) b.id) ≡ not (is_among fated b.id)) accepted (λ b above. ap not (is_among_push fated b.id id (λ s. omega arith))) (Rises-above (a.id + 1) accepted rises.1)) in
-      let new_is : left_by (fated ++ id ∷ []) (a ∷ accepted) ≡ left_by fated accepted = rw gone rest in
-      let old_is : left_by fated (a ∷ accepted) ≡ a ∷ left_by fated accepted = rw was in
-      let sum_new = ap (sum_by f) new_is in
-      let sum_old = ap (sum_by f) old_is ∙ sum_by-cons f a (left_by fated accepted) in
-      let value = ap f is_who in
-      omega arith
-  behind : (a.id ≡ id → ⊥) → (named accepted id ≡ Some who → sum_by f (left_by (fated ++ id ∷ []) accepted) + f who ≡ sum_by f (left_by fated accepted)) → (is_among fated a.id ≡ true) ⊎ (is_among fated a.id ≡ false) → sum_by f (left_by (fated ++ id ∷ []) (a ∷ accepted)) + f who ≡ sum_by f (left_by fated (a ∷ accepted))
-  behind other shorter (inl had) =
-      let found' = rw (ne_eqb a.id id other) at found in
-      let ih = shorter found' in
-      let has : is_among (fated ++ id ∷ []) a.id ≡ true = is_among_push fated a.id id (λ s. other (sym s)) ∙ had in
-      rw (has, had) ih
-  behind other shorter (inr had) =
-      let found' = rw (ne_eqb a.id id other) at found in
-      let ih = shorter found' in
-      let has : is_among (fated ++ id ∷ []) a.id ≡ false = is_among_push fated a.id id (λ s. other (sym s)) ∙ had in
-      let sum_new : sum_by f (left_by (fated ++ id ∷ []) (a ∷ accepted)) ≡ f a + sum_by f (left_by (fated ++ id ∷ []) accepted) = rw has (sum_by-cons f a (left_by (fated ++ id ∷ []) accepted)) in
-      let sum_old : sum_by f (left_by fated (a ∷ accepted)) ≡ f a + sum_by f (left_by fated accepted) = rw had (sum_by-cons f a (left_by fated accepted)) in
-      omega arith
+    here : a.id ≡ id → sum_by f (left_by (fated ++ id ∷ []) (a ∷ accepted)) + f who ≡ sum_by f (left_by fated (a ∷ accepted))
+    here same =
+        let e : Some a ≡ Some who = rw (eq-eqb a.id id same) at found in
+        let is_who : a ≡ who = cc in
+        let gone : is_among (fated ++ id ∷ []) a.id ≡ true = ap (is_among (fated ++ id ∷ [])) same ∙ is_among_last fated id in
+        let was : is_among fated a.id ≡ false = ap (is_among fated) same ∙ new in
+        let rest : left_by (fated ++ id ∷ []) accepted ≡ left_by fated accepted =
+        filter_agree_on (λ b. not (is_among (fated ++ id ∷ []) b.id)) (λ b. not (is_among fated b.id)) accepted
+        (ByRecursion-weaker (λ b. a.id + 1 ≤ b.id) (λ b. not (is_among (fated ++ id ∷ []) b.id) ≡ not (is_among fated b.id)) accepted (λ b above. ap not (is_among_push fated b.id id (λ s. omega arith))) (Rises-above (a.id + 1) accepted rises.1)) in
+        let new_is : left_by (fated ++ id ∷ []) (a ∷ accepted) ≡ left_by fated accepted = rw gone rest in
+        let old_is : left_by fated (a ∷ accepted) ≡ a ∷ left_by fated accepted = rw was in
+        let sum_new = ap (sum_by f) new_is in
+        let sum_old = ap (sum_by f) old_is ∙ sum_by-cons f a (left_by fated accepted) in
+        let value = ap f is_who in
+        omega arith
+
+    behind : (a.id ≡ id → ⊥) → (named accepted id ≡ Some who → sum_by f (left_by (fated ++ id ∷ []) accepted) + f who ≡ sum_by f (left_by fated accepted)) → (is_among fated a.id ≡ true) ⊎ (is_among fated a.id ≡ false) → sum_by f (left_by (fated ++ id ∷ []) (a ∷ accepted)) + f who ≡ sum_by f (left_by fated (a ∷ accepted))
+    behind other shorter (inl had) =
+        let found' = rw (ne_eqb a.id id other) at found in
+        let ih = shorter found' in
+        let has : is_among (fated ++ id ∷ []) a.id ≡ true = is_among_push fated a.id id (λ s. other (sym s)) ∙ had in
+        rw (has, had) ih
+    behind other shorter (inr had) =
+        let found' = rw (ne_eqb a.id id other) at found in
+        let ih = shorter found' in
+        let has : is_among (fated ++ id ∷ []) a.id ≡ false = is_among_push fated a.id id (λ s. other (sym s)) ∙ had in
+        let sum_new : sum_by f (left_by (fated ++ id ∷ []) (a ∷ accepted)) ≡ f a + sum_by f (left_by (fated ++ id ∷ []) accepted) = rw has (sum_by-cons f a (left_by (fated ++ id ∷ []) accepted)) in
+        let sum_old : sum_by f (left_by fated (a ∷ accepted)) ≡ f a + sum_by f (left_by fated accepted) = rw had (sum_by-cons f a (left_by fated accepted)) in
+        omega arith
 
 -- how many are left
 pub length-left_by-fate : (fated : List ℕ) (id : ℕ) (who : Acceptance) (accepted : List Acceptance) → Rises 0 accepted → named accepted id ≡ Some who → is_among fated id ≡ false → length (left_by (fated ++ id ∷ []) accepted) + 1 ≡ length (left_by fated accepted)

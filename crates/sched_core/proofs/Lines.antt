@@ -35,10 +35,10 @@ line_accepts flow waiting accepted fated a found line = record {
   gone = line.gone;
   rest = line.rest ++ filter (of_flow flow) (a ∷ []);
   split =
-    filter-append (of_flow flow) accepted (a ∷ []) ∙ ap (λ r. r ++ filter (of_flow flow) (a ∷ [])) line.split ∙ append_assoc line.gone line.rest (filter (of_flow flow) (a ∷ []));
+      filter-append (of_flow flow) accepted (a ∷ []) ∙ ap (λ r. r ++ filter (of_flow flow) (a ∷ [])) line.split ∙ append_assoc line.gone line.rest (filter (of_flow flow) (a ∷ []));
   fates = passes_stay (of_flow flow) accepted (a ∷ []) fated found ∙ line.fates;
   queue =
-    ap (λ r. r ++ cond (eqb a.flow flow) (waiting_of a ∷ []) []) line.queue ∙ sym (map-append waiting_of line.rest (filter (of_flow flow) (a ∷ [])) ∙ ap (λ r. map waiting_of line.rest ++ r) (arrival_waits flow a));
+      ap (λ r. r ++ cond (eqb a.flow flow) (waiting_of a ∷ []) []) line.queue ∙ sym (map-append waiting_of line.rest (filter (of_flow flow) (a ∷ [])) ∙ ap (λ r. map waiting_of line.rest ++ r) (arrival_waits flow a));
 }
 
 -- What is known of the packet at the head of a flow's queue, and the flow's share once it has a fate.
@@ -76,13 +76,13 @@ head_leaves flow a gone rest accepted fated rises split fates =
       same = refl;
       flow_is = own;
       new =
-        sym (is_among-filter (passes (of_flow flow) accepted) fated a.id test) ∙ ap (λ ids. is_among ids a.id) fates ∙ is_among_none (map id_of gone) a.id apart;
+          sym (is_among-filter (passes (of_flow flow) accepted) fated a.id test) ∙ ap (λ ids. is_among ids a.id) fates ∙ is_among_none (map id_of gone) a.id apart;
       line = record {
         gone = gone ++ a ∷ [];
         rest = rest;
         split = split ∙ sym (append_assoc gone (a ∷ []) rest);
         fates =
-          one_more (passes (of_flow flow) accepted) fated a.id test ∙ ap (λ ids. ids ++ a.id ∷ []) fates ∙ sym (map-append id_of gone (a ∷ []));
+            one_more (passes (of_flow flow) accepted) fated a.id test ∙ ap (λ ids. ids ++ a.id ∷ []) fates ∙ sym (map-append id_of gone (a ∷ []));
         queue = refl;
       };
     }
@@ -91,12 +91,12 @@ head_leaves flow a gone rest accepted fated rises split fates =
 pub line_leaves : (flow : ℕ) (w : Waiting) (waiting : List Waiting) (accepted : List Acceptance) (fated : List ℕ) → Rises 0 accepted → IsLine flow (w ∷ waiting) accepted fated → Leaves flow w waiting accepted fated
 line_leaves flow w waiting accepted fated rises line = from_rest line.gone line.rest line.split line.fates line.queue
   where
-  from_rest : (gone rest : List Acceptance) → filter (of_flow flow) accepted ≡ gone ++ rest → filter (passes (of_flow flow) accepted) fated ≡ map id_of gone → w ∷ waiting ≡ map waiting_of rest → Leaves flow w waiting accepted fated
-  from_rest gone [] split fates queue = absurd cc
-  from_rest gone (a ∷ rest) split fates queue =
-      let head : w ≡ waiting_of a = cc in
-      let tail : waiting ≡ map waiting_of rest = cc in
-      rw (head, tail) (head_leaves flow a gone rest accepted fated rises split fates)
+    from_rest : (gone rest : List Acceptance) → filter (of_flow flow) accepted ≡ gone ++ rest → filter (passes (of_flow flow) accepted) fated ≡ map id_of gone → w ∷ waiting ≡ map waiting_of rest → Leaves flow w waiting accepted fated
+    from_rest gone [] split fates queue = absurd cc
+    from_rest gone (a ∷ rest) split fates queue =
+        let head : w ≡ waiting_of a = cc in
+        let tail : waiting ≡ map waiting_of rest = cc in
+        rw (head, tail) (head_leaves flow a gone rest accepted fated rises split fates)
 
 -- a packet of another flow has a fate
 pub line_stays : (flow : ℕ) (waiting : List Waiting) (accepted : List Acceptance) (fated : List ℕ) (id : ℕ) (who : Acceptance) → named accepted id ≡ Some who → eqb who.flow flow ≡ false → IsLine flow waiting accepted fated

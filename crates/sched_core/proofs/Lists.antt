@@ -9,8 +9,8 @@ pub find-append : {X : Type 0} (p : X → Bool) (xs ys : List X) (x : X) → fin
 find-append p [] ys x e = cc
 find-append p (y ∷ xs) ys x e =
     elim (cases_Bool (p y)) [
-      inl t ↦ rw t (rw t at e)
-    | inr t ↦ rw t (find-append p xs ys x (rw t at e))
+      | inl t ↦ rw t (rw t at e)
+      | inr t ↦ rw t (find-append p xs ys x (rw t at e))
     ]
 
 -- what is found is an element
@@ -18,8 +18,8 @@ pub All-found : {X : Type 0} (P : X → Type 0) (p : X → Bool) (xs : List X) (
 All-found P p [] x h e = absurd cc
 All-found P p (y ∷ xs) x h e =
     elim (cases_Bool (p y)) [
-      inl t ↦ let same : y ≡ x = (let e' : Some y ≡ Some x = rw t at e in cc) in subst P same h.0
-    | inr t ↦ All-found P p xs x h.1 (rw t at e)
+      | inl t ↦ let same : y ≡ x = (let e' : Some y ≡ Some x = rw t at e in cc) in subst P same h.0
+      | inr t ↦ All-found P p xs x h.1 (rw t at e)
     ]
 
 -- two tests that agree at each element of the list keep the same elements
@@ -48,17 +48,17 @@ filter_comm p q [] = refl
 filter_comm p q (x ∷ xs) =
     let ih = filter_comm p q xs in
     elim (cases_Bool (p x)) [
-      inl t ↦
-        elim (cases_Bool (q x)) [
-          inl u ↦
-            ap (filter p) (filter_keep q x xs u) ∙ filter_keep p x (filter q xs) t ∙ ap (λ r. x ∷ r) ih ∙ sym (filter_keep q x (filter p xs) u) ∙ ap (filter q) (sym (filter_keep p x xs t))
-        | inr u ↦ ap (filter p) (filter_skip q x xs u) ∙ ih ∙ sym (filter_skip q x (filter p xs) u) ∙ ap (filter q) (sym (filter_keep p x xs t))
-        ]
-    | inr t ↦
-        elim (cases_Bool (q x)) [
-          inl u ↦ ap (filter p) (filter_keep q x xs u) ∙ filter_skip p x (filter q xs) t ∙ ih ∙ ap (filter q) (sym (filter_skip p x xs t))
-        | inr u ↦ ap (filter p) (filter_skip q x xs u) ∙ ih ∙ ap (filter q) (sym (filter_skip p x xs t))
-        ]
+      | inl t ↦
+          elim (cases_Bool (q x)) [
+            | inl u ↦
+                ap (filter p) (filter_keep q x xs u) ∙ filter_keep p x (filter q xs) t ∙ ap (λ r. x ∷ r) ih ∙ sym (filter_keep q x (filter p xs) u) ∙ ap (filter q) (sym (filter_keep p x xs t))
+            | inr u ↦ ap (filter p) (filter_skip q x xs u) ∙ ih ∙ sym (filter_skip q x (filter p xs) u) ∙ ap (filter q) (sym (filter_keep p x xs t))
+          ]
+      | inr t ↦
+          elim (cases_Bool (q x)) [
+            | inl u ↦ ap (filter p) (filter_keep q x xs u) ∙ filter_skip p x (filter q xs) t ∙ ih ∙ ap (filter q) (sym (filter_skip p x xs t))
+            | inr u ↦ ap (filter p) (filter_skip q x xs u) ∙ ih ∙ ap (filter q) (sym (filter_skip p x xs t))
+          ]
     ]
 
 -- a filter by a test that implies another is a filter of what the other keeps
@@ -66,12 +66,12 @@ pub filter_within : {X : Type 0} (p q : X → Bool) (xs : List X) → AllByRecur
 filter_within p q [] h = refl
 filter_within p q (x ∷ xs) h =
     elim (cases_Bool (q x)) [
-      inl u ↦ rw u (ap (λ r. cond (p x) (x ∷ r) r) (filter_within p q xs h.1))
-    | inr u ↦
-        elim (cases_Bool (p x)) [
-          inl t ↦ absurd (false≢true (sym u ∙ h.0 t))
-        | inr t ↦ rw (u, t) (filter_within p q xs h.1)
-        ]
+      | inl u ↦ rw u (ap (λ r. cond (p x) (x ∷ r) r) (filter_within p q xs h.1))
+      | inr u ↦
+          elim (cases_Bool (p x)) [
+            | inl t ↦ absurd (false≢true (sym u ∙ h.0 t))
+            | inr t ↦ rw (u, t) (filter_within p q xs h.1)
+          ]
     ]
 
 -- a filter of a map
@@ -79,8 +79,8 @@ pub filter-map : {X Y : Type 0} (f : X → Y) (p : Y → Bool) (q : X → Bool) 
 filter-map f p q [] h = refl
 filter-map f p q (x ∷ xs) h =
     elim (cases_Bool (q x)) [
-      inl u ↦ rw (h.0, u) (ap (λ r. f x ∷ r) (filter-map f p q xs h.1))
-    | inr u ↦ rw (h.0, u) (filter-map f p q xs h.1)
+      | inl u ↦ rw (h.0, u) (ap (λ r. f x ∷ r) (filter-map f p q xs h.1))
+      | inr u ↦ rw (h.0, u) (filter-map f p q xs h.1)
     ]
 
 -- what holds of each element holds of each that a filter keeps, and of the parts of a list
@@ -88,16 +88,16 @@ pub ByRecursion-filter : {X : Type 0} (P : X → Type 0) (p : X → Bool) (xs : 
 ByRecursion-filter P p [] h = h
 ByRecursion-filter P p (x ∷ xs) h =
     elim (cases_Bool (p x)) [
-      inl t ↦ rw t (h.0, ByRecursion-filter P p xs h.1)
-    | inr t ↦ rw t (ByRecursion-filter P p xs h.1)
+      | inl t ↦ rw t (h.0, ByRecursion-filter P p xs h.1)
+      | inr t ↦ rw t (ByRecursion-filter P p xs h.1)
     ]
 
 pub ByRecursion-passes : {X : Type 0} (p : X → Bool) (xs : List X) → AllByRecursion (λ x. p x ≡ true) (filter p xs)
 ByRecursion-passes p [] = tt
 ByRecursion-passes p (x ∷ xs) =
     elim (cases_Bool (p x)) [
-      inl t ↦ rw t (t, ByRecursion-passes p xs)
-    | inr t ↦ rw t (ByRecursion-passes p xs)
+      | inl t ↦ rw t (t, ByRecursion-passes p xs)
+      | inr t ↦ rw t (ByRecursion-passes p xs)
     ]
 
 pub ByRecursion-parts : {X : Type 0} (P : X → Type 0) (xs ys : List X) → AllByRecursion P (xs ++ ys) → AllByRecursion P xs × AllByRecursion P ys

@@ -10,10 +10,10 @@ use Rattle.sched_core.specs.State.{State, moment_fault_of, refusal_of}
 pub moment_fits : (moment last : ℕ) → moment_fault_of moment last ≡ None → last ≤ moment
 moment_fits moment last fits = go (leb (2 ^ 60) moment) (ltb moment last) refl fits
   where
-  go : (large low : Bool) → ltb moment last ≡ low → cond large (Some TooLarge) (cond low (Some (Backwards last)) None) ≡ None → last ≤ moment
-  go true low e fits = absurd cc
-  go false true e fits = absurd cc
-  go false false e fits = ltb-false moment last e
+    go : (large low : Bool) → ltb moment last ≡ low → cond large (Some TooLarge) (cond low (Some (Backwards last)) None) ≡ None → last ≤ moment
+    go true low e fits = absurd cc
+    go false true e fits = absurd cc
+    go false false e fits = ltb-false moment last e
 
 pub enqueue_fits : {Q : Type 0} (s : State Q) (moment lane : ℕ) (packet : PacketParts) → moment_fault_of moment s.last ≡ None → s.closed ≡ false → s.next_id < 2 ^ 40 → refusal_of s (Enqueue moment lane packet) ≡ None
 enqueue_fits s moment lane packet fits open' ids = rw (fits, open', lt-leb (2 ^ 40) s.next_id ids)

@@ -19,18 +19,18 @@ module _ {Q : Type 0} (d : Discipline Q) where
   made_answer old new (Enqueue moment lane packet) said events m = ap is_refused m.0
   made_answer old new (Dequeue moment) said events m = ap is_refused m.1 ∙ answered m.0
     where
-    answered : (given : Option Given) → is_refused (dequeue_answer given) ≡ false
-    answered None = refl
-    answered (Some g) = refl
+      answered : (given : Option Given) → is_refused (dequeue_answer given) ≡ false
+      answered None = refl
+      answered (Some g) = refl
   made_answer old new (Close moment) said events m = ap is_refused m.0
 
   -- a step that is answered as refused leaves everything and has no events
   refused_leaves : (old new : State Q) (step : Step) (said : Answer) (events : List Event) → Steps d old step said events new → is_refused said ≡ true → (events ≡ []) × (new ≡ old)
   refused_leaves old new step said events s t = go (refusal_of old step) s
     where
-    go : (o : Option Refusal) → MatchOption o (Makes d old step said events new) (λ r. (said ≡ answer.Refused r) × (events ≡ []) × (new ≡ old)) → (events ≡ []) × (new ≡ old)
-    go None m = absurd (false≢true (sym (made_answer old new step said events m) ∙ t))
-    go (Some r) m = (m.1, m.2)
+      go : (o : Option Refusal) → MatchOption o (Makes d old step said events new) (λ r. (said ≡ answer.Refused r) × (events ≡ []) × (new ≡ old)) → (events ≡ []) × (new ≡ old)
+      go None m = absurd (false≢true (sym (made_answer old new step said events m) ∙ t))
+      go (Some r) m = (m.1, m.2)
 
   pub runs_without : (old new : State Q) (steps : List Step) (made : List Made) → Runs d old steps made new → Runs d old (steps_made steps made) (given_by_made made) new
   runs_without old new [] [] r = r
@@ -39,10 +39,10 @@ module _ {Q : Type 0} (d : Discipline Q) where
   runs_without old new (step ∷ steps) (m ∷ made) r =
       let rest = runs_without r.0 new steps made r.2 in
       elim (cases_Bool (is_refused m.answer)) [
-        inl t ↦
-          let same = (refused_leaves old r.0 step m.answer m.events r.1 t).1 in
-          rw t (subst (λ (x : State Q). Runs d x (steps_made steps made) (given_by_made made) new) same rest)
-      | inr t ↦ rw t (r.0, r.1, rest)
+        | inl t ↦
+            let same = (refused_leaves old r.0 step m.answer m.events r.1 t).1 in
+            rw t (subst (λ (x : State Q). Runs d x (steps_made steps made) (given_by_made made) new) same rest)
+        | inr t ↦ rw t (r.0, r.1, rest)
       ]
 
   pub journal_without : (old new : State Q) (steps : List Step) (made : List Made) → Runs d old steps made new → journal_of (given_by_made made) ≡ journal_of made
@@ -52,8 +52,8 @@ module _ {Q : Type 0} (d : Discipline Q) where
   journal_without old new (step ∷ steps) (m ∷ made) r =
       let rest = journal_without r.0 new steps made r.2 in
       elim (cases_Bool (is_refused m.answer)) [
-        inl t ↦
-          let none = (refused_leaves old r.0 step m.answer m.events r.1 t).0 in
-          rw (t, none) rest
-      | inr t ↦ rw t (ap (λ es. m.events ++ es) rest)
+        | inl t ↦
+            let none = (refused_leaves old r.0 step m.answer m.events r.1 t).0 in
+            rw (t, none) rest
+        | inr t ↦ rw t (ap (λ es. m.events ++ es) rest)
       ]

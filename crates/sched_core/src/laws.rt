@@ -13,12 +13,10 @@ ghost use Rattle.sched_core.specs.State.{State, opening_state};
 pub fn journal_laws()
     ensures laws { (steps : List Step) (made : List Made) (new : State (List Waiting)) → Runs one_queue (opening_state []) steps made new → JournalLaws one_queue.flow_of (journal_of made) }
     ensures waiting { (steps : List Step) (made : List Made) (new : State (List Waiting)) → Runs one_queue (opening_state []) steps made new → WaitWithoutFate (queue_of new.queues) (journal_of made) }
-{
-}
+{}
 
 /// Taking the refused steps out of a list changes neither the state that its run leaves nor the journal.
 pub fn refused_steps_change_nothing()
     ensures state { (steps : List Step) (made : List Made) (new : State (List Waiting)) → Runs one_queue (opening_state []) steps made new → Runs one_queue (opening_state []) (steps_made steps made) (given_by_made made) new }
     ensures journal { (steps : List Step) (made : List Made) (new : State (List Waiting)) → Runs one_queue (opening_state []) steps made new → journal_of (given_by_made made) ≡ journal_of made }
-{
-}
+{}

@@ -23,14 +23,16 @@ returns-clause-made c =
     (record {
       fits = enqueue_fits (standing_of c.self.inside).state c.args.moment c.args.lane c.args.packet c.in_ok-test_moment.ensures c.if-self.false (omega arith);
       made = Accepted c.self.inside.journal.counts.accepted c.args.moment c.args.lane 0 c.args.packet ∷ [];
-      makes =
-        (refl, record {
+      makes = (
+        refl,
+        record {
           lost = [];
           queues = (refl, rw (c.in_ok-push_back.ensures.items, c.counts-id.ensures) refl);
           told = refl;
           next_id = rw (c.accept.ensures, c.in_ok-reserve.ensures.counts) refl;
           last = refl;
           closed = refl;
-        });
+        },
+      );
       journal = rw (c.accept.ensures, c.in_ok-reserve.ensures.events, c.counts-id.ensures) refl;
     })
