@@ -1,9 +1,11 @@
 -- What the fields of a trace's rows say.
-use Rattle.std.specs.Prelude.{◌≡◌, ◌≢◌, ℕ, ◌<◌, ◌^◌, ◌⊎◌, List, ◌∷◌, ◌++◌, All, codes, length, slice_index}
+use Rattle.std.specs.Prelude.{◌≡◌, ◌≢◌, ℕ, ◌<◌, ◌^◌, ◌⊎◌, List, [], ◌∷◌, ◌++◌, All, codes, length, slice_index}
 use Rattle.std.specs.Str.Parse.{IsNumeral, digits_value}
 use Rattle.packet_core.specs.Packets.{IsLengthInRange}
 use Rattle.packet_core.specs.declared.packet.Ecn.{Ecn}
 use Rattle.packet_core.specs.declared.packet.Ecn.TheVariants.{NotEct, Ect1, Ect0, Ce}
+use Rattle.packet_core.specs.declared.packet.Ip.{Ip}
+use Rattle.packet_core.specs.declared.packet.Ip.TheVariants.{V4}
 use Rattle.trace_core.specs.declared.reader.TraceFaultKind.{TraceFaultKind}
 use Rattle.trace_core.specs.declared.reader.TraceFaultKind.TheVariants.{BadNumber, LengthOutOfRange}
 use Rattle.trace_core.specs.declared.row.RowKind.{RowKind}
@@ -42,3 +44,20 @@ HasLeadingZero text = (1 < length text) × (slice_index text 0 ≡ 48)
 -- a number from 0 to 255 without leading zeros
 abbrev pub IsOctet : List ℕ → Type 0
 IsOctet text = IsNumberBelow (2 ^ 8) text × ¬ (HasLeadingZero text)
+
+-- four numbers from 0 to 255 without leading zeros, joined by dots, are the text of the address that they make
+pub record IsAddress (text : List ℕ) (ip : Ip) : Type 0 where
+  pub first : List ℕ
+  pub second : List ℕ
+  pub third : List ℕ
+  pub fourth : List ℕ
+  pub behind_first : List ℕ
+  pub behind_second : List ℕ
+  pub cut_first : IsCutAtDot text first behind_first
+  pub cut_second : IsCutAtDot behind_first second behind_second
+  pub cut_third : IsCutAtDot behind_second third fourth
+  pub first_octet : IsOctet first
+  pub second_octet : IsOctet second
+  pub third_octet : IsOctet third
+  pub fourth_octet : IsOctet fourth
+  pub value : ip ≡ V4 (digits_value 10 first ∷ digits_value 10 second ∷ digits_value 10 third ∷ digits_value 10 fourth ∷ [])

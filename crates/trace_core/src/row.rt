@@ -5,8 +5,9 @@ ghost use Rattle.std.specs.Result.{IsOkUnless, OkIff};
 ghost use Rattle.std.specs.Str.Parse.{IsNumeral, digits_value};
 ghost use Rattle.packet_core.specs.Packets.{IsLengthInRange};
 ghost use Rattle.packet_core.specs.declared.packet.Ecn.{Ecn};
+ghost use Rattle.packet_core.specs.declared.packet.Ip.{Ip};
 ghost use Rattle.trace_core.specs.declared.row.RowKind.{RowKind};
-ghost use Rattle.trace_core.specs.RowGrammar.{HasLeadingZero, IsCutAtDot, IsLengthFault, IsNumberBelow, IsOctet, ecn_digit, kind_name};
+ghost use Rattle.trace_core.specs.RowGrammar.{HasLeadingZero, IsAddress, IsCutAtDot, IsLengthFault, IsNumberBelow, IsOctet, ecn_digit, kind_name};
 
 use crate::reader::TraceFaultKind;
 use csv::ByteRecord;
@@ -154,12 +155,21 @@ fn read_ecn(text: &[u8]) -> Result<Ecn, TraceFaultKind>
 }
 
 /// An address: four numbers from 0 to 255 without leading zeros, joined by dots.
-fn read_address(text: &[u8]) -> Result<Ip, TraceFaultKind> {
-    address(text).ok_or(TraceFaultKind::BadAddress)
+fn read_address(text: &[u8]) -> Result<Ip, TraceFaultKind>
+    ensures address { IfOk result (λ ip. IsAddress text.now ip) }
+    ensures fault { IfErr result (λ fault. (fault ≡ TraceFaultKind.BadAddress) × ((ip : Ip) → ¬ (IsAddress text.now ip))) }
+{
+    match address(text) {
+        Some(ip) => Ok(ip),
+        None => Err(TraceFaultKind::BadAddress),
+    }
 }
 
 /// The address that the text is, if it is one.
-fn address(text: &[u8]) -> Option<Ip> {
+fn address(text: &[u8]) -> Option<Ip>
+    ensures address { IfSome result (λ ip. IsAddress text.now ip) }
+    ensures none { IsNone result → (ip : Ip) → ¬ (IsAddress text.now ip) }
+{
     let (first, text) = cut_at_dot(text)?;
     let (second, text) = cut_at_dot(text)?;
     let (third, fourth) = cut_at_dot(text)?;

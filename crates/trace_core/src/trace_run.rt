@@ -1,6 +1,7 @@
-ghost use Rattle.std.specs.Prelude.{ℕ, OnErr, OnOk, take};
+ghost use Rattle.std.specs.Prelude.{◌≡◌, ◌≢◌, ℕ, IfErr, OnErr, OnOk, take};
 ghost use Rattle.std.specs.Result.{IsOkUnless};
-ghost use Rattle.std.specs.Io.KnownBytes.{Appends};
+ghost use Rattle.std.specs.Io.KnownBytes.{Appends, Keeps};
+ghost use Rattle.trace_core.specs.declared.trace_run.RunFault.TheVariants.{Memory, Trace};
 
 use crate::reader::{TraceFault, read_trace};
 use crate::report::report_of;
@@ -34,12 +35,16 @@ impl fmt::Display for RunFault {
 impl Error for RunFault {}
 
 impl From<TraceFault> for RunFault {
+    ghost from_gives = { λ fault r. r ≡ Trace fault };
+
     fn from(fault: TraceFault) -> RunFault {
         RunFault::Trace(fault)
     }
 }
 
 impl From<AllocError> for RunFault {
+    ghost from_gives = { λ _ r. r ≡ Memory };
+
     fn from(_: AllocError) -> RunFault {
         RunFault::Memory
     }
@@ -47,11 +52,9 @@ impl From<AllocError> for RunFault {
 
 /// Reads a trace, makes its steps with a new scheduler, and writes the report. The whole report is made before
 /// the first byte of it is written. The writer isn't flushed.
-pub fn run<R: Read, W: Write>(
-    alloc: Global,
-    reader: &mut R,
-    writer: &mut W,
-) -> Result<(), RunFault> {
+pub fn run<R: Read, W: Write>(alloc: Global, reader: &mut R, writer: &mut W) -> Result<(), RunFault>
+    ensures untouched { IfErr result (λ fault. (fault ≢ RunFault.Write) → Keeps (W.contents writer.old) (W.contents writer.new)) }
+{
     let steps = read_trace(alloc, reader)?;
     let ran = run_steps(alloc, &steps)?;
     let text = report_of(alloc, &ran)?;

@@ -1,4 +1,4 @@
-use Rattle.std.proofs.Common.{◌≡◌, ◌≢◌, take, All}
+use Rattle.std.proofs.Common.{◌≢◌, take, All}
 use Rattle.trace_core.proofs.row.cut_at_dot.Given as goal
 
 abbrev pub invariant-loop-place : goal.invariant-loop-place

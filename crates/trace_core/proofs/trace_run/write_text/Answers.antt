@@ -1,4 +1,4 @@
-use Rattle.std.proofs.Common.{rules, arith}
+use Rattle.std.proofs.Common.{arith}
 use Rattle.std.proofs.lemmas.List.{take_rest}
 use Rattle.trace_core.proofs.Streams.{appends_more}
 use Rattle.trace_core.proofs.trace_run.write_text.Goals as goal
