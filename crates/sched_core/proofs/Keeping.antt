@@ -22,12 +22,12 @@ use Rattle.sched_core.specs.Disciplines.{Discipline, Given, IsFifoByFlow, Leaves
 use Rattle.sched_core.specs.Happened.{Acceptance, waiting_of, acceptances, accepted_ids, fate_ids, named}
 use Rattle.sched_core.specs.JournalLaws.{IsHonest, JournalLaws, WaitWithoutFate}
 use Rattle.sched_core.specs.History.{IsHistory, IsLine}
-use Rattle.sched_core.specs.State.{State, opening_state, arrival, moment_fault_of, refusal_of, first_of_two, close_refusal_of, id_refusal_of}
+use Rattle.sched_core.specs.State.{State, opening_state, arrival, refusal_of}
 use Rattle.sched_core.specs.Steps.{drop_event, sent_events, Admits, Serves, Closes, Makes, Steps}
 use Rattle.sched_core.specs.Runs.{Made, Runs, journal_of}
 use Rattle.sched_core.proofs.Histories.{history_accepts, history_closes, history_waits, history_fates}
 use Rattle.sched_core.proofs.LawsOfHistory.{laws_of_history, waits_of_history}
-use Rattle.sched_core.proofs.Refusals.{moment_fits}
+use Rattle.sched_core.proofs.Refusals.{dequeue_later, enqueue_open, close_open}
 
 -- no fate before the first event
 nothing_follows : (point : ℕ) → All (Contains (accepted_ids (take point []))) (fate_ids (take point []))
@@ -115,22 +115,6 @@ module _ (flow_of : FiveTuple → ℕ) (n : ℕ) (closed : Bool) (flow moment : 
           let ecn : a.packet.ecn ≡ g.waiting.packet.ecn = ap (λ (w : Waiting). w.packet.ecn) same in
           rw found (ap (sent_ecn g.mark) (sym ecn), subst (MayHave g.mark) (sym ecn) may)
 
--- no refusal means that no test refuses
-first_none : {X : Type 0} (a b : Option X) → first_of_two a b ≡ None → (a ≡ None) × (b ≡ None)
-first_none None b e = (refl, e)
-first_none (Some x) b e = absurd cc
-
-map_none : {X Y : Type 0} (f : X → Y) (o : Option X) → option_map f o ≡ None → o ≡ None
-map_none f None e = refl
-map_none f (Some x) e = absurd cc
-
-still_open : {Q : Type 0} (s : State Q) → close_refusal_of s ≡ None → s.closed ≡ false
-still_open s e = go s.closed refl e
-  where
-    go : (b : Bool) → s.closed ≡ b → cond b (Some ClosedAlready) None ≡ None → s.closed ≡ false
-    go true is e = absurd cc
-    go false is e = is
-
 -- Every discipline that is first in, first out by flow.
 module _ {Q : Type 0} (d : Discipline Q) (queue_of : Q → ℕ → List Waiting) (fifo : IsFifoByFlow d queue_of) where
   -- the journal is a history of the state
@@ -143,9 +127,9 @@ module _ {Q : Type 0} (d : Discipline Q) (queue_of : Q → ℕ → List Waiting)
 
   keeps_admits : (old new : State Q) (moment lane : ℕ) (packet : PacketParts) (made events : List Event) → refusal_of old (Enqueue moment lane packet) ≡ None → Admits d old moment lane packet made new → Keeps old events → Keeps new (events ++ made)
   keeps_admits old new moment lane packet made events fits m h =
-      let tests = first_none (option_map Moment (moment_fault_of moment old.last)) (first_of_two (close_refusal_of old) (id_refusal_of old)) fits in
-      let later = moment_fits moment old.last (map_none Moment (moment_fault_of moment old.last) tests.0) in
-      let open' = still_open old (first_none (close_refusal_of old) (id_refusal_of old) tests.1).0 in
+      let known = (enqueue_open old moment lane packet fits).0 in
+      let later = known.later in
+      let open' = known.open' in
       let w = arrival old moment packet in
       let e = Accepted old.next_id moment lane (d.flow_of packet.tuple) packet in
       let before : IsHistory d.flow_of (queue_of old.queues) events old.next_id old.last false = subst (λ b. IsHistory d.flow_of (queue_of old.queues) events old.next_id old.last b) open' h in
@@ -157,16 +141,16 @@ module _ {Q : Type 0} (d : Discipline Q) (queue_of : Q → ℕ → List Waiting)
 
   keeps_serves : (old new : State Q) (moment : ℕ) (given : Option Given) (made events : List Event) → refusal_of old (Dequeue moment) ≡ None → Serves d old moment given made new → Keeps old events → Keeps new (events ++ made)
   keeps_serves old new moment given made events fits m h =
-      let later = moment_fits moment old.last (map_none Moment (moment_fault_of moment old.last) fits) in
+      let later = dequeue_later old moment fits in
       let leaves = fifo.serves old.queues moment m.dropped given new.queues m.queues in
       let all = history_serves d.flow_of old.next_id old.closed leaves.0.0 moment cause.Codel m.dropped given (queue_of old.queues) (queue_of new.queues) events old.last h leaves.0.1 leaves.1 later in
       keeps_at new (events ++ made) old.next_id moment old.closed m.next_id m.last m.closed (rw m.told all)
 
   keeps_closes : (old new : State Q) (moment : ℕ) (made events : List Event) → refusal_of old (Close moment) ≡ None → Closes old moment made new → Keeps old events → Keeps new (events ++ made)
   keeps_closes old new moment made events fits m h =
-      let tests = first_none (option_map Moment (moment_fault_of moment old.last)) (close_refusal_of old) fits in
-      let later = moment_fits moment old.last (map_none Moment (moment_fault_of moment old.last) tests.0) in
-      let open' = still_open old tests.1 in
+      let known = close_open old moment fits in
+      let later = known.later in
+      let open' = known.open' in
       let before : IsHistory d.flow_of (queue_of old.queues) events old.next_id old.last false = subst (λ b. IsHistory d.flow_of (queue_of old.queues) events old.next_id old.last b) open' h in
       rw (m.told, m.state) (history_closes d.flow_of events old.next_id old.last (queue_of old.queues) moment before later)
 

@@ -1,4 +1,4 @@
-ghost use Rattle.std.specs.Prelude.{◌≡◌, [], Some, None, IfOk, IfErr, OnOk, OnErr, length, option_map};
+ghost use Rattle.std.specs.Prelude.{◌≡◌, [], Some, None, IfOk, IfErr, MatchResult, OnOk, OnErr, length};
 ghost use Rattle.sched_core.specs.State.{moment_fault_of, Tests};
 
 use crate::event::{Event, Mark};
@@ -57,7 +57,7 @@ impl Model for Sched {
 
 impl Sched {
     ghost use Rattle.sched_core.specs.Calls.{Advances, Gives, admitted_at, close_refusal};
-    ghost use Rattle.sched_core.specs.State.{opening_state, refusal_of, IsRefusal};
+    ghost use Rattle.sched_core.specs.State.{opening_state, enqueue_refusal_of, refusal_of, IsRefusal};
     ghost use Rattle.sched_core.specs.OneQueue.{one_queue, queue_of};
     ghost use Rattle.sched_core.specs.JournalLaws.{JournalLaws, WaitWithoutFate};
     ghost use Rattle.sched_core.specs.Statistics.{statistics};
@@ -88,14 +88,8 @@ impl Sched {
         ensures refused { IfErr result (IsRefusal (refusal_of self.old.state (Enqueue moment lane packet))) }
         ensures unchanged { OnErr result (self.new ≡ self.old) }
     {
-        test_moment(moment, self.last_moment)?;
-        if self.is_closed {
-            return Err(Refusal::ClosedAlready);
-        }
+        self.test_enqueue(moment)?;
         let id = self.journal.counts().accepted;
-        if id >= MAX_ACCEPTED {
-            return Err(Refusal::Exhausted);
-        }
         // The acceptance, its fate, that of each waiting packet, and the close.
         self.journal.reserve(self.waiting.len() + 3)?;
         let waiting = Waiting {
@@ -141,10 +135,7 @@ impl Sched {
         ensures refused { IfErr result (λ fault. refusal_of self.old.state (Close moment) ≡ Some (close_refusal fault)) }
         ensures unchanged { OnErr result (self.new ≡ self.old) }
     {
-        test_moment(moment, self.last_moment)?;
-        if self.is_closed {
-            return Err(CloseFault::ClosedAlready);
-        }
+        self.test_close(moment)?;
         self.journal.close(moment);
         self.last_moment = moment;
         self.is_closed = true;
@@ -200,5 +191,30 @@ impl Sched {
         ensures { result ≡ self.now.state.last }
     {
         self.last_moment
+    }
+
+    /// Why an enqueue at that moment is refused, if it is, apart from want of memory.
+    fn test_enqueue(&self, moment: u64) -> Result<(), Refusal>
+        ensures { Tests (enqueue_refusal_of self.now.state moment) result }
+    {
+        test_moment(moment, self.last_moment)?;
+        if self.is_closed {
+            return Err(Refusal::ClosedAlready);
+        }
+        if self.journal.counts().accepted >= MAX_ACCEPTED {
+            return Err(Refusal::Exhausted);
+        }
+        Ok(())
+    }
+
+    /// Why a close at that moment is refused, if it is.
+    fn test_close(&self, moment: u64) -> Result<(), CloseFault>
+        ensures { MatchResult result (λ _. refusal_of self.now.state (Close moment) ≡ None) (λ fault. refusal_of self.now.state (Close moment) ≡ Some (close_refusal fault)) }
+    {
+        test_moment(moment, self.last_moment)?;
+        if self.is_closed {
+            return Err(CloseFault::ClosedAlready);
+        }
+        Ok(())
     }
 }
