@@ -1,9 +1,8 @@
 ghost use Rattle.std.specs.Prelude.{◌≡◌, ◌≤◌, ◌↔◌, IsOk, IfOk};
 ghost use Rattle.packet_core.specs.Packets.{IsLengthInRange};
 
-use std::error::Error;
-use std::fmt;
 use std::marker::Model;
+use thiserror::Error;
 
 /// The longest packet, in bytes: what the length field of an IPv4 header can say (RFC 791, section 3.1).
 pub const MAX_LENGTH: u32 = 65_535;
@@ -64,16 +63,9 @@ impl Model for Packet {
 }
 
 /// A length of 0 or of more than 65,535 bytes, which no packet has.
-#[derive(Clone, Copy, Debug, PartialEq, Eq, Hash)]
+#[derive(Clone, Copy, Debug, PartialEq, Eq, Hash, Error)]
+#[error("a packet has 1 to 65,535 bytes")]
 pub struct LengthOutOfRange;
-
-impl fmt::Display for LengthOutOfRange {
-    fn fmt<W: fmt::Write>(&self, f: &mut fmt::Formatter<W>) -> fmt::Result {
-        f.write_str("a packet has 1 to 65,535 bytes")
-    }
-}
-
-impl Error for LengthOutOfRange {}
 
 impl Packet {
     /// A packet of `len` bytes. It refuses a length outside 1 to 65,535.

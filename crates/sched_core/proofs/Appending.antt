@@ -1,17 +1,16 @@
 -- How one event at a journal's end changes what is read off the journal.
-use Rattle.std.proofs.Common.{◌≡◌, ◌≢◌, ℕ, zero, suc, ◌+◌, ◌<◌, ◌≤◌, Bool, true, false, cond, List, [], ◌∷◌, ◌++◌, length, map, take, All, get_or, find, ◌==◌, ◌-◌, Option, Some, None, refl, sym, ap, subst, ◌∙◌, inl, inr, arith, append-nil, length-append}
+use Rattle.std.proofs.Common.{◌≡◌, ◌≢◌, ℕ, zero, suc, ◌+◌, ◌<◌, ◌≤◌, false, List, [], ◌∷◌, ◌++◌, length, map, All, ◌==◌, ◌-◌, Option, Some, None, refl, sym, ap, subst, ◌∙◌, inl, inr, arith, append-nil}
 use Rattle.std.specs.List.{AllByRecursion, Contains, filter_map, list_any, range_with_len}
-use Rattle.std.specs.List.Sorted.{IsNonDecreasing}
 use Rattle.std.specs.Option.{IsSomeAnd}
-use Rattle.std.proofs.lemmas.Bool.{cases_lt, false≢true, or_parts, cases_Bool}
+use Rattle.std.proofs.lemmas.Bool.{cases_lt, false≢true, or_parts}
 use Rattle.std.proofs.lemmas.List.{take-append-le, take_all, map-append, length_push}
-use Rattle.std.proofs.lemmas.List.Elements.{filter_map-append, All-push, All-weaker, All-get_or, recursion_from_All, All-from_recursion}
+use Rattle.std.proofs.lemmas.List.Elements.{filter_map-append, All-push, All-weaker}
 use Rattle.std.proofs.lemmas.List.FromFn.{length-range_with_len, get_or-range_with_len}
 use Rattle.std.proofs.lemmas.List.Folds.{list_any-append}
 use Rattle.std.proofs.lemmas.List.Sorted.{IsNonDecreasingBy-push}
 use Rattle.sched_core.specs.declared.event.Event.{Event}
 use Rattle.sched_core.specs.declared.event.Event.TheVariants.{Accepted, Sent, Dropped, Closed}
-use Rattle.sched_core.specs.Happened.{Acceptance, acceptance_of, fate_of, moment_of, is_closed, acceptances, accepted_ids, fate_ids, named}
+use Rattle.sched_core.specs.Happened.{Acceptance, moment_of, is_closed, accepted_ids, fate_ids, named}
 use Rattle.sched_core.specs.JournalLaws.{FatesFollow, AreDistinct, IsClosedForGood, IsHonest, is_barred, MomentsRise}
 use Rattle.sched_core.proofs.Lists.{find-append}
 use Rattle.sched_core.proofs.Ids.{named_within, id_of}

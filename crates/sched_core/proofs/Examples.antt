@@ -1,10 +1,10 @@
 -- Worked examples, by computation: the definitions are the ones that are meant.
-use Rattle.std.proofs.Common.{◌≡◌, ℕ, ◌^◌, ◌-◌, Bool, true, false, List, [], ◌∷◌, Option, Some, None, refl}
+use Rattle.std.proofs.Common.{◌≡◌, ℕ, ◌^◌, ◌-◌, Bool, true, false, ◌==◌, All, List, [], ◌∷◌, arith, Some, None, refl}
 use Rattle.packet_core.specs.Packets.{PacketParts}
 use Rattle.packet_core.specs.declared.packet.Waiting.{Waiting}
 use Rattle.packet_core.specs.declared.packet.FiveTuple.{FiveTuple}
 use Rattle.packet_core.specs.declared.packet.Ip.TheVariants.{V4}
-use Rattle.packet_core.specs.declared.packet.Ecn.TheVariants.{NotEct}
+use Rattle.packet_core.specs.declared.packet.Ecn.TheVariants.{NotEct, Ce}
 use Rattle.sched_core.specs.declared.event.Mark.TheVariants.{NoMark, CodelMark}
 use Rattle.sched_core.specs.declared.event.Cause.TheVariants.{Codel, Overflow}
 use Rattle.sched_core.specs.declared.event.Event.{Event}
@@ -14,10 +14,11 @@ use Rattle.sched_core.specs.declared.step.Refusal.TheVariants as refusal
 use Rattle.sched_core.specs.declared.step.Step.{Step}
 use Rattle.sched_core.specs.declared.step.Step.TheVariants.{Enqueue, Dequeue, Close}
 use Rattle.sched_core.specs.declared.run.Answer.TheVariants as answer
-use Rattle.sched_core.specs.declared.totals.Totals.{Totals}
-use Rattle.sched_core.specs.OneQueue.{one_queue, unmarked}
+use Rattle.sched_core.specs.OneQueue.{one_queue, queue_of, unmarked}
 use Rattle.sched_core.specs.State.{State, opening_state, refusal_of}
 use Rattle.sched_core.specs.Statistics.{statistics}
+use Rattle.sched_core.specs.Happened.{acceptances, fate_ids}
+use Rattle.sched_core.specs.JournalLaws.{AreDistinct, FatesFollow, LeaveInOrder, IsClosedForGood, IsHonest, WaitWithoutFate}
 use Rattle.sched_core.specs.Runs.{Made, Runs, journal_of, outcomes_from}
 
 tuple : FiveTuple
@@ -103,3 +104,22 @@ dequeue_after_close = refl
 
 close_after_exhaustion : refusal_of (state_at [] (2 ^ 40) 5 false) (Close 5) ≡ None
 close_after_exhaustion = refl
+
+-- journals that break a law
+sent_twice : AreDistinct (fate_ids (event.Accepted 0 0 0 0 (packet 1) ∷ event.Sent 0 1 NotEct NoMark ∷ event.Sent 0 2 NotEct NoMark ∷ [])) → ⊥
+sent_twice law = law.0 0 0 (omega arith) refl
+
+fate_before_acceptance : FatesFollow (event.Sent 0 0 NotEct NoMark ∷ event.Accepted 0 0 0 0 (packet 1) ∷ []) → ⊥
+fate_before_acceptance law = let among = law 1 0 0 (omega arith) in absurd (omega (arith, among.1))
+
+overtaken : LeaveInOrder (λ a. a.flow == 0) (event.Accepted 0 0 0 0 (packet 1) ∷ event.Accepted 1 0 0 0 (packet 1) ∷ event.Sent 1 1 NotEct NoMark ∷ []) → ⊥
+overtaken law = let e : 1 ∷ [] ≡ 0 ∷ [] = law in cc
+
+accepted_after_close : IsClosedForGood (event.Closed 0 ∷ event.Accepted 0 0 0 0 (packet 1) ∷ []) → ⊥
+accepted_after_close law = let e : true ≡ false = law.0 refl in cc
+
+marked_for_nothing : All (IsHonest (acceptances (event.Accepted 0 0 0 0 (packet 1) ∷ event.Sent 0 1 Ce CodelMark ∷ []))) (event.Accepted 0 0 0 0 (packet 1) ∷ event.Sent 0 1 Ce CodelMark ∷ []) → ⊥
+marked_for_nothing law = let h = law 1 (event.Closed 0) (omega arith) in h.1 refl
+
+lost_silently : WaitWithoutFate (queue_of []) (event.Accepted 0 0 0 0 (packet 1) ∷ []) → ⊥
+lost_silently law = let e = law 0 in cc

@@ -1,19 +1,19 @@
 -- How one event carries a history on.
-use Rattle.std.proofs.Common.{◌≡◌, ◌≢◌, ℕ, ◌+◌, ◌<◌, ◌≤◌, Bool, true, false, cond, ◌||◌, List, [], ◌∷◌, ◌++◌, length, map, filter, sum_by, All, eqb, Option, Some, None, refl, sym, ap, subst, ◌∙◌, inl, inr, arith, append-nil}
-use Rattle.std.specs.List.{AllByRecursion, filter_map, list_any, range_with_len}
-use Rattle.std.proofs.lemmas.Bool.{cases_Bool, false≢true, eqb-true, eqb-false, cases_eq, eq-eqb, ne_eqb}
+use Rattle.std.proofs.Common.{◌≡◌, ◌≢◌, ℕ, ◌+◌, ◌<◌, ◌≤◌, Bool, true, false, ◌||◌, List, [], ◌∷◌, ◌++◌, length, map, sum_by, All, eqb, Some, None, refl, sym, ap, subst, ◌∙◌, inl, inr, arith}
+use Rattle.std.specs.List.{range_with_len}
+use Rattle.std.proofs.lemmas.Bool.{eqb-true, cases_eq, eq-eqb, ne_eqb}
 use Rattle.std.proofs.lemmas.List.{map-append, length_push}
-use Rattle.std.proofs.lemmas.List.Elements.{All-push, All-nil, All-weaker, recursion_from_All}
+use Rattle.std.proofs.lemmas.List.Elements.{All-push, All-weaker, recursion_from_All}
 use Rattle.std.proofs.lemmas.List.Folds.{list_any-append}
 use Rattle.std.proofs.lemmas.List.Sums.{sum_by_push}
 use Rattle.packet_core.specs.Packets.{PacketParts}
 use Rattle.packet_core.specs.declared.packet.FiveTuple.{FiveTuple}
 use Rattle.packet_core.specs.declared.packet.Waiting.{Waiting}
 use Rattle.sched_core.specs.declared.event.Event.{Event}
-use Rattle.sched_core.specs.declared.event.Event.TheVariants.{Accepted, Sent, Dropped, Closed}
-use Rattle.sched_core.specs.Disciplines.{LeavesHead, heads, with_arrival}
-use Rattle.sched_core.specs.Happened.{Acceptance, waiting_of, acceptance_of, fate_of, moment_of, is_closed, acceptances, accepted_ids, fate_ids, named, is_among, unfated}
-use Rattle.sched_core.specs.JournalLaws.{FatesFollow, AreDistinct, IsClosedForGood, IsHonest, is_barred, MomentsRise}
+use Rattle.sched_core.specs.declared.event.Event.TheVariants.{Accepted, Closed}
+use Rattle.sched_core.specs.Disciplines.{LeavesHead, with_arrival}
+use Rattle.sched_core.specs.Happened.{Acceptance, waiting_of, acceptance_of, fate_of, moment_of, is_closed, acceptances, accepted_ids, fate_ids, named, without_fate}
+use Rattle.sched_core.specs.JournalLaws.{IsHonest, is_barred}
 use Rattle.sched_core.specs.Statistics.{length_of, length_named, bytes_named}
 use Rattle.sched_core.specs.History.{IsHistory, IsLine}
 use Rattle.sched_core.proofs.Lists.{sum_by_agree_on, ByRecursion-weaker, find-append, All-found}
@@ -51,7 +51,7 @@ module _ (flow_of : FiveTuple → ℕ) (events : List Event) (n last : ℕ) wher
       let ids : accepted_ids (events ++ e ∷ []) ≡ range_with_len 0 (n + 1) =
       ap (map id_of) accepted ∙ map-append id_of (acceptances events) (a ∷ []) ∙ ap (λ r. r ++ n ∷ []) h.ids ∙ range_next n in
       let known : All (λ id. id < n + 1) (fate_ids (events ++ e ∷ [])) = rw fated (All-weaker (λ id. id < n) (λ id. id < n + 1) (λ id low. omega arith) (fate_ids events) h.known) in
-      let left : unfated (events ++ e ∷ []) ≡ unfated events ++ a ∷ [] = rw (accepted, fated) (left_by-accept (fate_ids events) (acceptances events) a apart) in
+      let left : without_fate (events ++ e ∷ []) ≡ without_fate events ++ a ∷ [] = rw (accepted, fated) (left_by-accept (fate_ids events) (acceptances events) a apart) in
       record {
         ids = ids;
         flows = rw accepted (All-push (λ b. b.flow ≡ flow_of b.packet.tuple) (acceptances events) a h.flows refl);
@@ -64,9 +64,9 @@ module _ (flow_of : FiveTuple → ℕ) (events : List Event) (n last : ℕ) wher
         close = list_any-append is_closed events (e ∷ []) ∙ rw h.close;
         closed_for_good = closed_push_open events e h.close;
         honest = rw accepted (All-push (IsHonest (acceptances events ++ a ∷ [])) events e (all_honest_stay (acceptances events) (a ∷ []) events h.honest) tt);
-        left = let len = ap length left ∙ length_push (unfated events) a in let was = h.left in let f = ap length fated in omega arith;
+        left = let len = ap length left ∙ length_push (without_fate events) a in let was = h.left in let f = ap length fated in omega arith;
         left_bytes =
-            let sum_left = ap (sum_by length_of) left ∙ sum_by_push length_of (unfated events) a in
+            let sum_left = ap (sum_by length_of) left ∙ sum_by_push length_of (without_fate events) a in
             let sum_all = ap (sum_by length_of) accepted ∙ sum_by_push length_of (acceptances events) a in
             let was = h.left_bytes in
             let fates : bytes_named (acceptances (events ++ e ∷ [])) (fate_ids (events ++ e ∷ [])) ≡ bytes_named (acceptances events) (fate_ids events) = rw (accepted, fated) (bytes_stay (acceptances events) (a ∷ []) (fate_ids events) found) in
@@ -144,14 +144,14 @@ module _ (flow_of : FiveTuple → ℕ) (events : List Event) (n last : ℕ) wher
         closed_for_good = closed_push_free events e free h.closed_for_good;
         honest = rw accepted (All-push (IsHonest (acceptances events)) events e h.honest (honest who left.found left.same));
         left =
-            let now : unfated (events ++ e ∷ []) ≡ left_by (fate_ids events ++ w.id ∷ []) (acceptances events) = rw (accepted, fated) in
+            let now : without_fate (events ++ e ∷ []) ≡ left_by (fate_ids events ++ w.id ∷ []) (acceptances events) = rw (accepted, fated) in
             let one = length-left_by-fate (fate_ids events) w.id who (acceptances events) rises left.found left.new in
             let len = ap length now in
             let fates = ap length fated ∙ length_push (fate_ids events) w.id in
             let was = h.left in
             omega arith;
         left_bytes =
-            let now : unfated (events ++ e ∷ []) ≡ left_by (fate_ids events ++ w.id ∷ []) (acceptances events) = rw (accepted, fated) in
+            let now : without_fate (events ++ e ∷ []) ≡ left_by (fate_ids events ++ w.id ∷ []) (acceptances events) = rw (accepted, fated) in
             let one = left_by-fate length_of 0 (fate_ids events) w.id who (acceptances events) rises left.found left.new in
             let sum_left = ap (sum_by length_of) now in
             let value : length_named (acceptances events) w.id ≡ length_of who = rw left.found in

@@ -1,12 +1,9 @@
 -- Lemmas on acceptances whose ids are consecutive numbers.
-use Rattle.std.proofs.Common.{◌≡◌, ◌≢◌, ℕ, zero, suc, ◌+◌, ◌<◌, ◌≤◌, Bool, true, false, cond, not, List, [], ◌∷◌, ◌++◌, length, map, filter, sum_by, find, eqb, Option, Some, None, refl, sym, ap, subst, ◌∙◌, inl, inr, arith}
-use Rattle.std.specs.List.{AllByRecursion, range_with_len, list_any}
-use Rattle.std.specs.Option.{option_map_or}
-use Rattle.std.proofs.lemmas.Bool.{cases_Bool, false≢true, eqb-true, eqb-false, eq-eqb, ne_eqb, cases_eq, or_parts}
-use Rattle.std.proofs.lemmas.List.Sums.{sum_by-cons}
-use Rattle.std.proofs.lemmas.List.Folds.{list_any-append}
+use Rattle.std.proofs.Common.{◌≡◌, ◌≢◌, ℕ, zero, suc, ◌+◌, ◌<◌, ◌≤◌, Bool, true, false, List, [], ◌∷◌, ◌++◌, map, filter, eqb, Some, None, refl, sym, ap, subst, ◌∙◌, inl, inr, arith}
+use Rattle.std.specs.List.{AllByRecursion, range_with_len}
+use Rattle.std.proofs.lemmas.Bool.{cases_Bool, false≢true, eqb-false, eq-eqb, ne_eqb, cases_eq, or_parts}
 use Rattle.sched_core.specs.Happened.{Acceptance, named, is_among, passes}
-use Rattle.sched_core.proofs.Lists.{ByRecursion-weaker, ByRecursion-filter, filter_agree_on, find-append}
+use Rattle.sched_core.proofs.Lists.{ByRecursion-weaker, find-append}
 
 abbrev pub id_of : Acceptance → ℕ
 id_of a = a.id

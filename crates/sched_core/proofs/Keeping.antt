@@ -1,24 +1,22 @@
 -- Every step of a discipline that is first in, first out by flow carries its history on, and so does every run.
-use Rattle.std.proofs.Common.{◌≡◌, ◌≢◌, ℕ, zero, suc, ◌+◌, ◌<◌, ◌≤◌, ◌^◌, Bool, true, false, cond, List, [], ◌∷◌, ◌++◌, length, map, filter, All, IfSome, take, eqb, ltb, leb, Option, Some, None, MatchOption, option_map, refl, sym, ap, subst, ◌∙◌, inl, inr, arith, append_assoc, append-nil}
-use Rattle.std.specs.List.{AllByRecursion, Contains, flat_map}
-use Rattle.std.proofs.lemmas.Bool.{cases_Bool, false≢true, ltb-false, cases_eq, eq-eqb}
+use Rattle.std.proofs.Common.{◌≡◌, ℕ, zero, suc, ◌+◌, ◌<◌, ◌≤◌, Bool, false, List, [], ◌∷◌, ◌++◌, map, All, IfSome, take, eqb, Option, Some, None, MatchOption, refl, sym, ap, subst, ◌∙◌, inl, inr, arith, append_assoc, append-nil}
+use Rattle.std.specs.List.{Contains, flat_map}
+use Rattle.std.proofs.lemmas.Bool.{cases_Bool}
+use Rattle.std.proofs.lemmas.List.{map-append}
 use Rattle.std.proofs.lemmas.List.Elements.{All-nil}
 use Rattle.packet_core.specs.Packets.{PacketParts}
 use Rattle.packet_core.specs.declared.packet.FiveTuple.{FiveTuple}
 use Rattle.packet_core.specs.declared.packet.Waiting.{Waiting}
-use Rattle.packet_core.specs.declared.packet.Ecn.{Ecn}
 use Rattle.sched_core.specs.declared.event.Cause.{Cause}
 use Rattle.sched_core.specs.declared.event.Cause.TheVariants as cause
 use Rattle.sched_core.specs.declared.event.Event.{Event}
-use Rattle.sched_core.specs.declared.event.Event.TheVariants.{Accepted, Sent, Dropped, Closed}
+use Rattle.sched_core.specs.declared.event.Event.TheVariants.{Accepted, Sent}
 use Rattle.sched_core.specs.declared.step.Step.{Step}
 use Rattle.sched_core.specs.declared.step.Step.TheVariants.{Enqueue, Dequeue, Close}
-use Rattle.sched_core.specs.declared.step.MomentFault.TheVariants.{TooLarge, Backwards}
 use Rattle.sched_core.specs.declared.step.Refusal.{Refusal}
-use Rattle.sched_core.specs.declared.step.Refusal.TheVariants.{Moment, ClosedAlready}
 use Rattle.sched_core.specs.declared.run.Answer.{Answer}
 use Rattle.sched_core.specs.declared.run.Answer.TheVariants as answer
-use Rattle.sched_core.specs.Disciplines.{Discipline, Given, IsFifoByFlow, LeavesHead, heads, with_arrival, given_packet, sent_ecn, MayHave}
+use Rattle.sched_core.specs.Disciplines.{Discipline, Given, Batch, packets_of, LeaveHeads, IsFifoByFlow, LeavesHead, heads, with_arrival, given_packet, sent_ecn, MayHave}
 use Rattle.sched_core.specs.Happened.{Acceptance, waiting_of, acceptances, accepted_ids, fate_ids, named}
 use Rattle.sched_core.specs.JournalLaws.{IsHonest, JournalLaws, WaitWithoutFate}
 use Rattle.sched_core.specs.History.{IsHistory, IsLine}
@@ -27,7 +25,7 @@ use Rattle.sched_core.specs.Steps.{drop_event, sent_events, Admits, Serves, Clos
 use Rattle.sched_core.specs.Runs.{Made, Runs, journal_of}
 use Rattle.sched_core.proofs.Histories.{history_accepts, history_closes, history_waits, history_fates}
 use Rattle.sched_core.proofs.LawsOfHistory.{laws_of_history, waits_of_history}
-use Rattle.sched_core.proofs.Refusals.{dequeue_later, enqueue_open, close_open}
+use Rattle.sched_core.proofs.Refusals.{dequeue_next, enqueue_open, close_open}
 
 -- no fate before the first event
 nothing_follows : (point : ℕ) → All (Contains (accepted_ids (take point []))) (fate_ids (take point []))
@@ -115,6 +113,21 @@ module _ (flow_of : FiveTuple → ℕ) (n : ℕ) (closed : Bool) (flow moment : 
           let ecn : a.packet.ecn ≡ g.waiting.packet.ecn = ap (λ (w : Waiting). w.packet.ecn) same in
           rw found (ap (sent_ecn g.mark) (sym ecn), subst (MayHave g.mark) (sym ecn) may)
 
+-- batches leave the heads of their flows' queues, one after another
+history_batches : (flow_of : FiveTuple → ℕ) (n : ℕ) (closed : Bool) (moment : ℕ) (why : Cause) (batches : List Batch) (queue_of queue_of' : ℕ → List Waiting) (events : List Event) (last : ℕ) → IsHistory flow_of queue_of events n last closed → LeaveHeads queue_of batches queue_of' → last ≤ moment
+    → IsHistory flow_of queue_of' (events ++ map (drop_event moment why) (packets_of batches)) n moment closed
+history_batches flow_of n closed moment why [] queue_of queue_of' events last h leave later =
+    rw (append-nil events) (history_same flow_of queue_of queue_of' events n moment closed leave (history_waits flow_of events n last queue_of closed moment h later))
+history_batches flow_of n closed moment why (b ∷ batches) queue_of queue_of' events last h leave later =
+    let mid = λ (f : ℕ). flat_map (λ (c : Batch). heads c.flow c.gone f) batches ++ queue_of' f in
+    let first : LeavesHead queue_of b.flow b.gone mid = λ f. leave f ∙ append_assoc (heads b.flow b.gone f) (flat_map (λ (c : Batch). heads c.flow c.gone f) batches) (queue_of' f) in
+    let drops = map (drop_event moment why) b.gone in
+    let rest = map (drop_event moment why) (packets_of batches) in
+    let dropped = history_drops flow_of n closed b.flow moment why b.gone queue_of mid events last h first later in
+    let all = history_batches flow_of n closed moment why batches mid queue_of' (events ++ drops) moment dropped (λ f. refl) (omega arith) in
+    let joined : (events ++ drops) ++ rest ≡ events ++ map (drop_event moment why) (b.gone ++ packets_of batches) = append_assoc events drops rest ∙ ap (λ es. events ++ es) (sym (map-append (drop_event moment why) b.gone (packets_of batches))) in
+    subst (λ es. IsHistory flow_of queue_of' es n moment closed) joined all
+
 -- Every discipline that is first in, first out by flow.
 module _ {Q : Type 0} (d : Discipline Q) (queue_of : Q → ℕ → List Waiting) (fifo : IsFifoByFlow d queue_of) where
   -- the journal is a history of the state
@@ -128,20 +141,20 @@ module _ {Q : Type 0} (d : Discipline Q) (queue_of : Q → ℕ → List Waiting)
   keeps_admits : (old new : State Q) (moment lane : ℕ) (packet : PacketParts) (made events : List Event) → refusal_of old (Enqueue moment lane packet) ≡ None → Admits d old moment lane packet made new → Keeps old events → Keeps new (events ++ made)
   keeps_admits old new moment lane packet made events fits m h =
       let known = (enqueue_open old moment lane packet fits).0 in
-      let later = known.later in
+      let later = known.next.later in
       let open' = known.open' in
       let w = arrival old moment packet in
       let e = Accepted old.next_id moment lane (d.flow_of packet.tuple) packet in
       let before : IsHistory d.flow_of (queue_of old.queues) events old.next_id old.last false = subst (λ b. IsHistory d.flow_of (queue_of old.queues) events old.next_id old.last b) open' h in
       let accepted = history_accepts d.flow_of events old.next_id old.last (queue_of old.queues) moment lane packet before later in
-      let leaves = fifo.admits old.queues w m.lost new.queues m.queues in
-      let all = history_drops d.flow_of (old.next_id + 1) false leaves.0 moment cause.Overflow m.lost (with_arrival (queue_of old.queues) (d.flow_of packet.tuple) w) (queue_of new.queues) (events ++ e ∷ []) moment accepted leaves.1 (omega arith) in
+      let batches = fifo.admits old.queues w m.lost new.queues m.queues in
+      let all = history_batches d.flow_of (old.next_id + 1) false moment cause.Overflow batches.0 (with_arrival (queue_of old.queues) (d.flow_of packet.tuple) w) (queue_of new.queues) (events ++ e ∷ []) moment accepted batches.2 (omega arith) in
       keeps_at new (events ++ made) (old.next_id + 1) moment false m.next_id m.last (m.closed ∙ open')
-      (rw m.told (subst (λ es. IsHistory d.flow_of (queue_of new.queues) es (old.next_id + 1) moment false) (append_assoc events (e ∷ []) (map (drop_event moment cause.Overflow) m.lost)) all))
+      (rw (m.told, batches.1) (subst (λ es. IsHistory d.flow_of (queue_of new.queues) es (old.next_id + 1) moment false) (append_assoc events (e ∷ []) (map (drop_event moment cause.Overflow) (packets_of batches.0))) all))
 
   keeps_serves : (old new : State Q) (moment : ℕ) (given : Option Given) (made events : List Event) → refusal_of old (Dequeue moment) ≡ None → Serves d old moment given made new → Keeps old events → Keeps new (events ++ made)
   keeps_serves old new moment given made events fits m h =
-      let later = dequeue_later old moment fits in
+      let later = (dequeue_next old moment fits).later in
       let leaves = fifo.serves old.queues moment m.dropped given new.queues m.queues in
       let all = history_serves d.flow_of old.next_id old.closed leaves.0.0 moment cause.Codel m.dropped given (queue_of old.queues) (queue_of new.queues) events old.last h leaves.0.1 leaves.1 later in
       keeps_at new (events ++ made) old.next_id moment old.closed m.next_id m.last m.closed (rw m.told all)
@@ -149,7 +162,7 @@ module _ {Q : Type 0} (d : Discipline Q) (queue_of : Q → ℕ → List Waiting)
   keeps_closes : (old new : State Q) (moment : ℕ) (made events : List Event) → refusal_of old (Close moment) ≡ None → Closes old moment made new → Keeps old events → Keeps new (events ++ made)
   keeps_closes old new moment made events fits m h =
       let known = close_open old moment fits in
-      let later = known.later in
+      let later = known.next.later in
       let open' = known.open' in
       let before : IsHistory d.flow_of (queue_of old.queues) events old.next_id old.last false = subst (λ b. IsHistory d.flow_of (queue_of old.queues) events old.next_id old.last b) open' h in
       rw (m.told, m.state) (history_closes d.flow_of events old.next_id old.last (queue_of old.queues) moment before later)

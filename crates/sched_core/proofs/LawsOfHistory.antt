@@ -1,8 +1,7 @@
 -- The laws of the journal, from a history.
-use Rattle.std.proofs.Common.{◌≡◌, ◌≢◌, ℕ, ◌+◌, ◌<◌, ◌≤◌, Bool, true, false, cond, not, ◌&&◌, List, [], ◌∷◌, ◌++◌, length, map, filter, take, All, eqb, find, Option, Some, None, refl, sym, ap, subst, ◌∙◌, inl, inr, arith}
-use Rattle.std.specs.List.{AllByRecursion, filter_map, list_any, range_with_len}
-use Rattle.std.specs.Str.{bytes_eq}
-use Rattle.std.proofs.lemmas.Bool.{cases_Bool, false≢true, and_parts, eqb-true, eq-eqb, not_from_true, not_from_false}
+use Rattle.std.proofs.Common.{◌≡◌, ◌≢◌, ℕ, ◌+◌, ◌<◌, ◌≤◌, Bool, true, false, not, ◌&&◌, List, [], ◌∷◌, ◌++◌, length, map, filter, take, eqb, Decides, Some, refl, sym, ap, subst, ◌∙◌, arith}
+use Rattle.std.specs.List.{AllByRecursion, range_with_len}
+use Rattle.std.proofs.lemmas.Bool.{and_parts, eqb-true, eq-eqb, not_from_true, not_from_false}
 use Rattle.std.proofs.lemmas.List.{map-append, take_at, length-map}
 use Rattle.std.proofs.lemmas.List.Elements.{recursion_from_All, filter-append}
 use Rattle.std.proofs.lemmas.List.FromFn.{length-range_with_len}
@@ -13,8 +12,8 @@ use Rattle.packet_core.specs.declared.packet.Ip.{Ip}
 use Rattle.packet_core.specs.declared.packet.Ip.TheVariants.{V4}
 use Rattle.packet_core.specs.declared.packet.Waiting.{Waiting}
 use Rattle.sched_core.specs.declared.event.Event.{Event}
-use Rattle.sched_core.specs.Happened.{Acceptance, waiting_of, acceptances, accepted_ids, fate_ids, named, is_among, passes, unfated}
-use Rattle.sched_core.specs.JournalLaws.{JournalLaws, LeaveInOrder, WaitWithoutFate}
+use Rattle.sched_core.specs.Happened.{Acceptance, waiting_of, acceptances, fate_ids, named, is_among, passes}
+use Rattle.sched_core.specs.JournalLaws.{JournalLaws, WaitWithoutFate}
 use Rattle.sched_core.specs.History.{IsHistory, IsLine}
 use Rattle.sched_core.proofs.Lists.{filter_comm, filter_within, filter-map, filter_keeps_all, filter_keeps_none, All-found, ByRecursion-filter, ByRecursion-passes, ByRecursion-parts, ByRecursion-weaker, ByRecursion-both, ByRecursion-all}
 use Rattle.sched_core.proofs.Ids.{id_of, Rises, Rises-range, Rises-filter, Rises-above, named_itself, passes_at, is_among_none, is_among-filter, is_among_itself}
@@ -39,6 +38,16 @@ same_tuple-true a b e =
     let sport = eqb-true a.sport b.sport q.1 in
     let dport = eqb-true a.dport b.dport p.1 in
     λ i. record { proto = proto i; src = src i; dst = dst i; sport = sport i; dport = dport i }
+
+-- the test of two five-tuples is right
+same_ip-refl : (a : Ip) → same_ip a a ≡ true
+same_ip-refl (V4 a) = (bytes_eq-Decides a a).1 refl
+
+pub same_tuple-Decides : (a b : FiveTuple) → Decides (same_tuple a b) (a ≡ b)
+same_tuple-Decides a b = (same_tuple-true a b, λ same. subst (λ (t : FiveTuple). same_tuple a t ≡ true) same (itself a))
+  where
+    itself : (t : FiveTuple) → same_tuple t t ≡ true
+    itself t = rw (eq-eqb t.proto t.proto refl, same_ip-refl t.src, same_ip-refl t.dst, eq-eqb t.sport t.sport refl, eq-eqb t.dport t.dport refl)
 
 -- Within one flow's share, the acceptances that pass a test leave in order.
 module _ (flow : ℕ) (waiting : List Waiting) (accepted : List Acceptance) (fated : List ℕ) (rises : Rises 0 accepted) (found : AreFound accepted fated) (line : IsLine flow waiting accepted fated) where

@@ -1,13 +1,13 @@
 -- How an event carries on one flow's share of a journal.
-use Rattle.std.proofs.Common.{◌≡◌, ◌≢◌, ℕ, ◌+◌, ◌<◌, ◌≤◌, Bool, true, false, cond, not, List, [], ◌∷◌, ◌++◌, length, map, filter, find, eqb, Option, Some, None, refl, sym, ap, subst, ◌∙◌, inl, inr, arith, append_assoc, append-nil}
-use Rattle.std.specs.List.{AllByRecursion, list_any}
-use Rattle.std.proofs.lemmas.Bool.{cases_Bool, false≢true}
+use Rattle.std.proofs.Common.{◌≡◌, ◌≢◌, ℕ, ◌+◌, ◌≤◌, Bool, true, false, cond, List, [], ◌∷◌, ◌++◌, map, filter, eqb, Some, refl, sym, ap, subst, ◌∙◌, inl, inr, arith, append_assoc, append-nil}
+use Rattle.std.specs.List.{AllByRecursion}
+use Rattle.std.proofs.lemmas.Bool.{cases_Bool}
 use Rattle.std.proofs.lemmas.List.{map-append}
 use Rattle.std.proofs.lemmas.List.Elements.{filter-append}
 use Rattle.packet_core.specs.declared.packet.Waiting.{Waiting}
 use Rattle.sched_core.specs.Happened.{Acceptance, waiting_of, named, is_among, passes}
 use Rattle.sched_core.specs.History.{IsLine}
-use Rattle.sched_core.proofs.Lists.{filter_agree_on, filter_keeps_all, ByRecursion-filter, ByRecursion-passes, ByRecursion-parts, ByRecursion-weaker}
+use Rattle.sched_core.proofs.Lists.{filter_agree_on, ByRecursion-filter, ByRecursion-passes, ByRecursion-parts, ByRecursion-weaker}
 use Rattle.sched_core.proofs.Ids.{id_of, Rises, Rises-filter, Rises-before, named_itself, passes_at, passes-append, is_among_none, is_among-filter}
 
 -- each id has an acceptance

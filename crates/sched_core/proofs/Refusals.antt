@@ -7,14 +7,19 @@ use Rattle.sched_core.specs.declared.step.Refusal.TheVariants.{Moment, ClosedAlr
 use Rattle.sched_core.specs.declared.step.Step.TheVariants.{Enqueue, Dequeue, Close}
 use Rattle.sched_core.specs.State.{State, moment_fault_of, first_of_two, closed_refusal_of, id_refusal_of, refusal_of}
 
--- a moment that isn't refused is not before the last one
-moment_fits : (moment last : ℕ) → moment_fault_of moment last ≡ None → last ≤ moment
-moment_fits moment last fits = go (leb (2 ^ 60) moment) (ltb moment last) refl fits
+-- a moment at which a step may be made
+pub record IsNext (moment last : ℕ) : Type 0 where
+  pub later : last ≤ moment
+  pub soon : moment < 2 ^ 60
+
+-- a moment that isn't refused is one
+moment_fits : (moment last : ℕ) → moment_fault_of moment last ≡ None → IsNext moment last
+moment_fits moment last fits = go (leb (2 ^ 60) moment) (ltb moment last) refl refl fits
   where
-    go : (large low : Bool) → ltb moment last ≡ low → cond large (Some TooLarge) (cond low (Some (Backwards last)) None) ≡ None → last ≤ moment
-    go true low e fits = absurd cc
-    go false true e fits = absurd cc
-    go false false e fits = ltb-false moment last e
+    go : (large low : Bool) → leb (2 ^ 60) moment ≡ large → ltb moment last ≡ low → cond large (Some TooLarge) (cond low (Some (Backwards last)) None) ≡ None → IsNext moment last
+    go true low d e fits = absurd cc
+    go false true d e fits = absurd cc
+    go false false d e fits = record { later = ltb-false moment last e; soon = leb-false (2 ^ 60) moment d }
 
 -- no refusal means that no test refuses
 first_none : {X : Type 0} (a b : Option X) → first_of_two a b ≡ None → (a ≡ None) × (b ≡ None)
@@ -41,19 +46,19 @@ ids_left s e = go (leb (2 ^ 40) s.next_id) refl e
 
 -- what is known of the state where a step isn't refused
 pub record Open {Q : Type 0} (s : State Q) (moment : ℕ) : Type 0 where
-  pub later : s.last ≤ moment
+  pub next : IsNext moment s.last
   pub open' : s.closed ≡ false
 
-pub dequeue_later : {Q : Type 0} (s : State Q) (moment : ℕ) → refusal_of s (Dequeue moment) ≡ None → s.last ≤ moment
-dequeue_later s moment fits = moment_fits moment s.last (map_none Moment (moment_fault_of moment s.last) fits)
+pub dequeue_next : {Q : Type 0} (s : State Q) (moment : ℕ) → refusal_of s (Dequeue moment) ≡ None → IsNext moment s.last
+dequeue_next s moment fits = moment_fits moment s.last (map_none Moment (moment_fault_of moment s.last) fits)
 
 pub enqueue_open : {Q : Type 0} (s : State Q) (moment lane : ℕ) (packet : PacketParts) → refusal_of s (Enqueue moment lane packet) ≡ None → Open s moment × (s.next_id < 2 ^ 40)
 enqueue_open s moment lane packet fits =
     let tests = first_none (option_map Moment (moment_fault_of moment s.last)) (first_of_two (closed_refusal_of s) (id_refusal_of s)) fits in
     let others = first_none (closed_refusal_of s) (id_refusal_of s) tests.1 in
-    (record { later = moment_fits moment s.last (map_none Moment (moment_fault_of moment s.last) tests.0); open' = still_open s others.0 }, ids_left s others.1)
+    (record { next = moment_fits moment s.last (map_none Moment (moment_fault_of moment s.last) tests.0); open' = still_open s others.0 }, ids_left s others.1)
 
 pub close_open : {Q : Type 0} (s : State Q) (moment : ℕ) → refusal_of s (Close moment) ≡ None → Open s moment
 close_open s moment fits =
     let tests = first_none (option_map Moment (moment_fault_of moment s.last)) (closed_refusal_of s) fits in
-    record { later = moment_fits moment s.last (map_none Moment (moment_fault_of moment s.last) tests.0); open' = still_open s tests.1 }
+    record { next = moment_fits moment s.last (map_none Moment (moment_fault_of moment s.last) tests.0); open' = still_open s tests.1 }

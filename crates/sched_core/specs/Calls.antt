@@ -1,6 +1,5 @@
 use Rattle.std.specs.Prelude.{◌≡◌, ℕ, List, ◌++◌, Option, None, option_map}
 use Rattle.packet_core.specs.Packets.{PacketParts}
-use Rattle.packet_core.specs.declared.packet.Waiting.{Waiting}
 use Rattle.sched_core.specs.declared.event.Event.{Event}
 use Rattle.sched_core.specs.declared.run.Answer.{Answer}
 use Rattle.sched_core.specs.declared.step.Admitted.{Admitted}

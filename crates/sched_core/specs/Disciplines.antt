@@ -1,5 +1,5 @@
-use Rattle.std.specs.Prelude.{◌≡◌, ◌≢◌, ℕ, Bool, List, [], ◌∷◌, ◌++◌, Option, Some, None, IfSome, if◌then◌else◌, ◌==◌}
-use Rattle.packet_core.specs.Packets.{PacketParts}
+use Rattle.std.specs.Prelude.{◌≡◌, ◌≢◌, ℕ, List, [], ◌∷◌, ◌++◌, Option, Some, None, IfSome, if◌then◌else◌, ◌==◌}
+use Rattle.std.specs.List.{flat_map}
 use Rattle.packet_core.specs.declared.packet.FiveTuple.{FiveTuple}
 use Rattle.packet_core.specs.declared.packet.Waiting.{Waiting}
 use Rattle.packet_core.specs.declared.packet.Ecn.{Ecn}
@@ -39,6 +39,19 @@ heads flow gone f = if flow == f then gone else []
 abbrev pub LeavesHead : (ℕ → List Waiting) → ℕ → List Waiting → (ℕ → List Waiting) → Type 0
 LeavesHead old flow gone new = (f : ℕ) → old f ≡ heads flow gone f ++ new f
 
+-- packets that leave the head of one flow's queue
+pub record Batch : Type 0 where
+  pub flow : ℕ
+  pub gone : List Waiting
+
+-- the packets of all batches, in order
+abbrev pub packets_of : List Batch → List Waiting
+packets_of batches = flat_map (λ b. b.gone) batches
+
+-- the queues by flow, once each batch in turn has left the head of its flow's queue
+abbrev pub LeaveHeads : (ℕ → List Waiting) → List Batch → (ℕ → List Waiting) → Type 0
+LeaveHeads old batches new = (f : ℕ) → old f ≡ flat_map (λ b. heads b.flow b.gone f) batches ++ new f
+
 -- the queues by flow, once the packet stands at the tail of its flow's
 abbrev pub with_arrival : (ℕ → List Waiting) → ℕ → Waiting → ℕ → List Waiting
 with_arrival old flow w f = old f ++ (if flow == f then w ∷ [] else [])
@@ -48,13 +61,14 @@ abbrev pub given_packet : Option Given → List Waiting
 given_packet None = []
 given_packet (Some g) = g.waiting ∷ []
 
--- The discipline drops from the head of one flow's queue alone and gives the packet behind those, it takes a
--- packet in at the tail of its flow's queue, and it marks only packets that may be. The laws of the journal
+-- The discipline drops from heads alone: what an acceptance loses, batch by batch, and what a dequeue drops of one
+-- flow's queue, and then it gives the packet behind those. It takes a packet in at the tail of its flow's queue,
+-- and it marks only packets that may be. The laws of the journal
 -- hold of every such discipline.
 pub record IsFifoByFlow {Q : Type 0} (d : Discipline Q) (queue_of : Q → ℕ → List Waiting) : Type 0 where
   pub opens : (f : ℕ) → queue_of d.opening f ≡ []
   pub admits : (old : Q) (w : Waiting) (lost : List Waiting) (new : Q) → d.admits old w lost new
-      → (flow : ℕ) × LeavesHead (with_arrival (queue_of old) (d.flow_of w.packet.tuple) w) flow lost (queue_of new)
+      → (batches : List Batch) × (lost ≡ packets_of batches) × LeaveHeads (with_arrival (queue_of old) (d.flow_of w.packet.tuple) w) batches (queue_of new)
   pub serves : (old : Q) (moment : ℕ) (dropped : List Waiting) (given : Option Given) (new : Q)
       → d.serves old moment dropped given new
       → ((flow : ℕ) × LeavesHead (queue_of old) flow (dropped ++ given_packet given) (queue_of new))

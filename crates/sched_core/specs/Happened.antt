@@ -1,4 +1,4 @@
-use Rattle.std.specs.Prelude.{◌≡◌, ℕ, Bool, true, false, List, map, filter, Option, Some, None, find, not, ◌==◌, ◌&&◌}
+use Rattle.std.specs.Prelude.{ℕ, Bool, true, false, List, map, filter, Option, Some, None, find, not, ◌==◌}
 use Rattle.std.specs.List.{filter_map, list_any}
 use Rattle.std.specs.Option.{option_map_or}
 use Rattle.packet_core.specs.Packets.{PacketParts}
@@ -68,5 +68,5 @@ abbrev pub passes : (Acceptance → Bool) → List Acceptance → ℕ → Bool
 passes test accepted id = option_map_or test (named accepted id) false
 
 -- the acceptances without a fate, in order
-abbrev pub unfated : List Event → List Acceptance
-unfated events = filter (λ a. not (is_among (fate_ids events) a.id)) (acceptances events)
+abbrev pub without_fate : List Event → List Acceptance
+without_fate events = filter (λ a. not (is_among (fate_ids events) a.id)) (acceptances events)

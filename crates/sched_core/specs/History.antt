@@ -1,10 +1,10 @@
-use Rattle.std.specs.Prelude.{◌≡◌, ℕ, ◌<◌, ◌≤◌, ◌+◌, Bool, true, false, List, [], ◌∷◌, ◌++◌, All, length, map, filter, sum_by, ◌==◌}
+use Rattle.std.specs.Prelude.{◌≡◌, ℕ, ◌<◌, ◌≤◌, ◌+◌, Bool, List, ◌++◌, All, length, map, filter, sum_by, ◌==◌}
 use Rattle.std.specs.List.{range_with_len, list_any}
 use Rattle.packet_core.specs.declared.packet.FiveTuple.{FiveTuple}
 use Rattle.packet_core.specs.declared.packet.Waiting.{Waiting}
 use Rattle.sched_core.specs.declared.event.Event.{Event}
 use Rattle.sched_core.specs.declared.journal.Counts.{Counts}
-use Rattle.sched_core.specs.Happened.{Acceptance, waiting_of, is_closed, moment_of, acceptances, accepted_ids, fate_ids, passes, unfated}
+use Rattle.sched_core.specs.Happened.{Acceptance, waiting_of, is_closed, moment_of, acceptances, accepted_ids, fate_ids, passes, without_fate}
 use Rattle.sched_core.specs.JournalLaws.{FlowsAreNamed, MomentsRise, FatesFollow, AreDistinct, IsClosedForGood, IsHonest}
 use Rattle.sched_core.specs.Statistics.{length_of, bytes_named, statistics}
 
@@ -31,8 +31,8 @@ pub record IsHistory (flow_of : FiveTuple → ℕ) (queue_of : ℕ → List Wait
   pub close : list_any is_closed events ≡ closed
   pub closed_for_good : IsClosedForGood events
   pub honest : All (IsHonest (acceptances events)) events
-  pub left : length (unfated events) + length (fate_ids events) ≡ next_id
-  pub left_bytes : sum_by length_of (unfated events) + bytes_named (acceptances events) (fate_ids events) ≡ sum_by length_of (acceptances events)
+  pub left : length (without_fate events) + length (fate_ids events) ≡ next_id
+  pub left_bytes : sum_by length_of (without_fate events) + bytes_named (acceptances events) (fate_ids events) ≡ sum_by length_of (acceptances events)
 
 -- the counts that run along are the statistics
 pub record AreCounts (counts : Counts) (events : List Event) : Type 0 where

@@ -1,14 +1,13 @@
-use Rattle.std.specs.Prelude.{◌≡◌, ◌≢◌, ℕ, Bool, true, false, List, [], ◌∷◌, All, Contains, length, map, filter, take, Some, None, IsSomeAnd, ◌==◌}
+use Rattle.std.specs.Prelude.{◌≡◌, ◌≢◌, ℕ, Bool, true, false, List, [], ◌∷◌, All, Contains, length, map, filter, take, IsSomeAnd, ◌==◌}
 use Rattle.std.specs.List.{range_with_len, list_any}
 use Rattle.std.specs.List.Sorted.{IsNonDecreasing}
 use Rattle.packet_core.specs.Packets.{same_tuple}
 use Rattle.packet_core.specs.declared.packet.FiveTuple.{FiveTuple}
 use Rattle.packet_core.specs.declared.packet.Waiting.{Waiting}
-use Rattle.packet_core.specs.declared.packet.Ecn.{Ecn}
 use Rattle.sched_core.specs.declared.event.Event.{Event}
 use Rattle.sched_core.specs.declared.event.Event.TheVariants.{Accepted, Sent, Dropped, Closed}
 use Rattle.sched_core.specs.Disciplines.{MayHave, sent_ecn}
-use Rattle.sched_core.specs.Happened.{Acceptance, waiting_of, is_closed, moment_of, acceptances, accepted_ids, fate_ids, named, passes, unfated}
+use Rattle.sched_core.specs.Happened.{Acceptance, waiting_of, is_closed, moment_of, acceptances, accepted_ids, fate_ids, named, passes, without_fate}
 
 -- IDS IN ORDER
 
@@ -82,4 +81,4 @@ pub record JournalLaws (flow_of : FiveTuple → ℕ) (events : List Event) : Typ
 -- The packets that wait in a flow are those accepted into it that have no fate, in order, each stamped with the
 -- moment of its acceptance.
 abbrev pub WaitWithoutFate : (ℕ → List Waiting) → List Event → Type 0
-WaitWithoutFate queue_of events = (flow : ℕ) → queue_of flow ≡ map waiting_of (filter (λ a. a.flow == flow) (unfated events))
+WaitWithoutFate queue_of events = (flow : ℕ) → queue_of flow ≡ map waiting_of (filter (λ a. a.flow == flow) (without_fate events))

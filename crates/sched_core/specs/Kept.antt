@@ -1,4 +1,4 @@
-use Rattle.std.specs.Prelude.{◌≡◌, ℕ, ◌+◌, ◌*◌, ◌^◌, ◌≤◌, Bool, List, length, if◌then◌else◌}
+use Rattle.std.specs.Prelude.{ℕ, ◌+◌, ◌*◌, ◌^◌, ◌<◌, ◌≤◌, Bool, List, length, if◌then◌else◌}
 use Rattle.packet_core.specs.declared.packet.Waiting.{Waiting}
 use Rattle.sched_core.specs.declared.sched.Sched.TheInside.{Inside}
 use Rattle.sched_core.specs.Books.{Book}
@@ -23,6 +23,7 @@ pub record IsBookKept (queue : List Waiting) (book : Book) (last : ℕ) (closed 
   pub room : length queue + closes_left closed ≤ book.room
   pub long : length book.events + length queue + closes_left closed ≤ 2 * book.counts.accepted + 1
   pub few : book.counts.accepted ≤ 2 ^ 40
+  pub soon : last < 2 ^ 60
   pub history : IsHistory one_queue.flow_of (queue_of queue) book.events book.counts.accepted last closed
   pub counts : AreCounts book.counts book.events
 

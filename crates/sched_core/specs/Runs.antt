@@ -63,7 +63,7 @@ pub record IsRun {Q : Type 0} (d : Discipline Q) (steps : List Step) (sched : St
   pub journal : sched.events ≡ journal_of made
   pub told : outcomes ≡ outcomes_from 0 made
 
--- The outcome's own events stand in the journal.
+-- The outcome's places lie in the journal, the first not behind the end.
 pub record StandsIn (events : List Event) (o : Outcome) : Type 0 where
   pub first : o.first_event ≤ o.end_event
   pub end : o.end_event ≤ length events

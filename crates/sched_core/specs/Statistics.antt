@@ -1,13 +1,12 @@
-use Rattle.std.specs.Prelude.{ℕ, ◌+◌, Bool, true, false, List, length, Option, Some, None, count_by, sum_by}
+use Rattle.std.specs.Prelude.{ℕ, Bool, true, false, List, length, Option, Some, None, count_by, sum_by}
 use Rattle.std.specs.List.{filter_map, list_any}
 use Rattle.std.specs.Option.{option_map_or}
-use Rattle.sched_core.specs.declared.event.Cause.{Cause}
 use Rattle.sched_core.specs.declared.event.Cause.TheVariants.{Codel, Overflow}
 use Rattle.sched_core.specs.declared.event.Mark.TheVariants.{NoMark, CodelMark}
 use Rattle.sched_core.specs.declared.event.Event.{Event}
 use Rattle.sched_core.specs.declared.event.Event.TheVariants.{Accepted, Sent, Dropped, Closed}
 use Rattle.sched_core.specs.declared.totals.Totals.{Totals}
-use Rattle.sched_core.specs.Happened.{Acceptance, is_closed, acceptances, named, unfated}
+use Rattle.sched_core.specs.Happened.{Acceptance, is_closed, acceptances, named, without_fate}
 
 -- the id that a Sent names
 abbrev pub sent_of : Event → Option ℕ
@@ -69,7 +68,7 @@ statistics events = record {
   dropped_overflow = count_by is_overflow_drop events;
   dropped_bytes = bytes_named (acceptances events) (filter_map dropped_of events);
   marked = count_by is_marked events;
-  queued = length (unfated events);
-  queued_bytes = sum_by length_of (unfated events);
+  queued = length (without_fate events);
+  queued_bytes = sum_by length_of (without_fate events);
   closed = list_any is_closed events;
 }

@@ -14,6 +14,6 @@ mod totals;
 
 pub use event::{Cause, Event, Mark};
 pub use run::{Answer, Outcome, Ran, run_steps};
-pub use sched::Sched;
+pub use sched::{MAX_ACCEPTED, MAX_MOMENT, Sched};
 pub use step::{Admitted, CloseFault, Memory, MomentFault, Refusal, Sent, Step};
 pub use totals::Totals;

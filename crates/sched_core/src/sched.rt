@@ -1,4 +1,4 @@
-ghost use Rattle.std.specs.Prelude.{◌≡◌, [], Some, None, IfOk, IfErr, MatchResult, OnOk, OnErr, length};
+ghost use Rattle.std.specs.Prelude.{◌≡◌, ◌+◌, ◌<◌, [], Some, None, IfOk, IfErr, MatchResult, OnOk, OnErr, length};
 ghost use Rattle.sched_core.specs.State.{moment_fault_of, Tests};
 
 use crate::event::{Event, Mark};
@@ -153,7 +153,8 @@ impl Sched {
 
     /// The statistics of the journal.
     pub fn totals(&self) -> Totals
-        ensures { result ≡ statistics self.now.events }
+        ensures value { result ≡ statistics self.now.events }
+        ensures balance { result.accepted ≡ result.sent + result.dropped_codel + result.dropped_overflow + result.queued }
     {
         let counts = self.journal.counts();
         Totals {
@@ -174,21 +175,24 @@ impl Sched {
 
     /// How many packets wait.
     pub fn queued(&self) -> u64
-        ensures { result ≡ length self.now.state.queues }
+        ensures value { result ≡ length self.now.state.queues }
+        ensures journal { result ≡ (statistics self.now.events).queued }
     {
         self.waiting.len() as u64
     }
 
     /// Whether there was a close.
     pub fn is_closed(&self) -> bool
-        ensures { result ≡ self.now.state.closed }
+        ensures value { result ≡ self.now.state.closed }
+        ensures journal { result ≡ (statistics self.now.events).closed }
     {
         self.is_closed
     }
 
     /// The moment of the last step that wasn't refused, in microseconds, and 0 before the first.
     pub fn last_moment(&self) -> u64
-        ensures { result ≡ self.now.state.last }
+        ensures value { result ≡ self.now.state.last }
+        ensures range { result < MAX_MOMENT }
     {
         self.last_moment
     }

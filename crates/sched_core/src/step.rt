@@ -9,21 +9,26 @@ use std::alloc::{AllocError, AllocFailed};
 /// Want of memory: a growth was refused.
 pub type Memory = AllocError;
 
-/// What a scheduler is asked to do. Moments are in microseconds.
+/// What a scheduler is asked to do, each at a moment in microseconds.
 #[derive(Clone, Copy, Debug, PartialEq, Eq)]
 pub enum Step {
-    /// A packet comes in from a lane.
+    /// A packet comes in.
     Enqueue {
+        /// The moment.
         moment: u64,
+        /// The lane that it comes from.
         lane: u32,
+        /// The packet.
         packet: Packet,
     },
     /// The device asks for a packet.
     Dequeue {
+        /// The moment.
         moment: u64,
     },
     /// From here on nothing is accepted.
     Close {
+        /// The moment.
         moment: u64,
     },
 }
@@ -33,8 +38,11 @@ pub enum Step {
 pub enum MomentFault {
     /// The moment is 2^60 microseconds or more.
     TooLarge,
-    /// The moment is before `last`, that of the last step that wasn't refused.
-    Backwards { last: u64 },
+    /// The moment is before that of the last step that wasn't refused.
+    Backwards {
+        /// The last step's moment, in microseconds.
+        last: u64,
+    },
 }
 
 /// Why a close is refused.

@@ -1,5 +1,4 @@
-use Rattle.std.proofs.Common.{take, refl, sym, subst, arith}
-use Rattle.std.proofs.lemmas.List.{take_all}
+use Rattle.std.proofs.Common.{arith}
 use Rattle.sched_core.specs.OneQueue.{one_queue}
 use Rattle.sched_core.proofs.OneQueueLaws.{one_queue_laws}
 use Rattle.sched_core.proofs.Running.{run_more, places}

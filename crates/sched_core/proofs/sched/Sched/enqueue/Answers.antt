@@ -1,4 +1,4 @@
-use Rattle.std.proofs.Common.{◌≡◌, false, List, [], ◌∷◌, None, refl, sym, ap, subst, ◌∙◌, arith}
+use Rattle.std.proofs.Common.{◌≡◌, false, List, [], ◌∷◌, None, refl, sym, subst, arith}
 use Rattle.packet_core.specs.declared.packet.Waiting.{Waiting}
 use Rattle.sched_core.specs.declared.step.Step.TheVariants.{Enqueue}
 use Rattle.sched_core.specs.Calls.{Standing}
@@ -16,7 +16,7 @@ invariant_of-self-2 c =
     let known = enqueue_open (standing_of s).state c.args.moment c.args.lane c.args.packet fits in
     let open' = known.0.open' in
     let kept : IsBookKept s.waiting.items s.journal s.last_moment false = subst (λ b. IsBookKept s.waiting.items s.journal s.last_moment b) open' c.self.invariant in
-    let next = kept_accepts s.waiting.items s.journal c.reserve.new.self s.last_moment c.args.moment c.args.lane c.args.packet kept known.0.later known.1 c.in_ok-reserve.ensures.events c.in_ok-reserve.ensures.counts (omega (arith, c.in_ok-reserve.ensures.ok)) in
+    let next = kept_accepts s.waiting.items s.journal c.reserve.new.self s.last_moment c.args.moment c.args.lane c.args.packet kept known.0.next known.1 c.in_ok-reserve.ensures.events c.in_ok-reserve.ensures.counts (omega (arith, c.in_ok-reserve.ensures.ok)) in
     rw (c.in_ok-push_back.ensures.items, c.accept.ensures, c.counts-id.ensures, open') next
 
 pub returns-clause-made : goal.returns-clause-made

@@ -1,4 +1,3 @@
-use Rattle.std.proofs.Common.{refl}
 use Rattle.sched_core.specs.OneQueue.{one_queue, queue_of}
 use Rattle.sched_core.proofs.LawsOfHistory.{laws_of_history, waits_of_history}
 use Rattle.sched_core.proofs.sched.Sched.events.Goals as goal
