@@ -1,3 +1,4 @@
 pub mod Digits
 pub mod Dots
+pub mod Fields
 pub mod Streams

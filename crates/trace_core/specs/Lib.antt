@@ -1,1 +1,2 @@
 pub mod RowGrammar
+pub mod Rows
