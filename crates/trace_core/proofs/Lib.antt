@@ -1,4 +1,5 @@
 pub mod Digits
 pub mod Dots
 pub mod Fields
+pub mod Records
 pub mod Streams

@@ -67,7 +67,7 @@ pub(crate) fn read_row(row: &ByteRecord) -> Result<Step, TraceFaultKind>
 }
 
 /// The field at a place, from 0, and an empty one behind the last.
-fn field(row: &ByteRecord, place: usize) -> &[u8]
+pub(crate) fn field(row: &ByteRecord, place: usize) -> &[u8]
     ensures { result.now ≡ field_of (fields_of row.now) place }
 {
     match row.get(place) {

@@ -1,0 +1,82 @@
+-- The text of a run's report.
+use Rattle.std.specs.Prelude.{◌≡◌, ℕ, Bool, true, false, List, [], ◌∷◌, ◌++◌, Option, Some, map}
+use Rattle.std.specs.Prelude.{codes}
+use Rattle.std.specs.Fmt.{decimal}
+use Rattle.std.specs.List.{flat_map}
+use Rattle.csv.specs.Writing.{default_writer, fields_written, has_written, row_text, text_written, with_flexible, writer_setup}
+use Rattle.sched_core.specs.Runs.{Made, journal_of}
+use Rattle.sched_core.specs.Statistics.{statistics}
+use Rattle.sched_core.specs.declared.event.Cause.{Cause}
+use Rattle.sched_core.specs.declared.event.Cause.TheVariants as cause
+use Rattle.sched_core.specs.declared.event.Event.{Event}
+use Rattle.sched_core.specs.declared.event.Event.TheVariants as event
+use Rattle.sched_core.specs.declared.run.Answer.{Answer}
+use Rattle.sched_core.specs.declared.run.Answer.TheVariants as answer
+use Rattle.sched_core.specs.declared.step.MomentFault.TheVariants as moment_fault
+use Rattle.sched_core.specs.declared.step.Refusal.{Refusal}
+use Rattle.sched_core.specs.declared.step.Refusal.TheVariants as refusal
+use Rattle.sched_core.specs.declared.totals.Totals.{Totals}
+use Rattle.trace_core.specs.declared.report.Rows.{Rows}
+use Rattle.trace_core.specs.RowGrammar.{ecn_digit}
+
+-- the word for a cause
+abbrev pub cause_name : Cause → List ℕ
+cause_name cause.Codel = codes "codel"
+cause_name cause.Overflow = codes "overflow"
+
+-- the word for whether there was a close
+abbrev pub state_name : Bool → List ℕ
+state_name true = codes "closed"
+state_name false = codes "open"
+
+-- the fields of an event's row
+abbrev pub event_row : Event → List (List ℕ)
+event_row (event.Accepted id moment lane flow packet) = codes "accepted" ∷ decimal id ∷ decimal flow ∷ []
+event_row (event.Sent id moment ecn mark) = codes "sent" ∷ decimal id ∷ ecn_digit ecn ∷ []
+event_row (event.Dropped id moment why) = codes "dropped" ∷ decimal id ∷ cause_name why ∷ []
+event_row (event.Closed moment) = codes "closed" ∷ []
+
+-- the fields of a refusal's row
+abbrev pub refusal_row : Refusal → List (List ℕ)
+refusal_row (refusal.Moment (moment_fault.Backwards last)) = codes "refused" ∷ codes "backwards" ∷ decimal last ∷ []
+refusal_row (refusal.Moment moment_fault.TooLarge) = codes "refused" ∷ codes "too_large" ∷ []
+refusal_row refusal.ClosedAlready = codes "refused" ∷ codes "closed" ∷ []
+refusal_row refusal.Exhausted = codes "refused" ∷ codes "exhausted" ∷ []
+refusal_row refusal.Memory = codes "refused" ∷ codes "memory" ∷ []
+
+-- the rows of an answer, beside those of its events: an idle step and a refused one have a row each
+abbrev pub answer_rows : Answer → List (List (List ℕ))
+answer_rows answer.Accepted = []
+answer_rows answer.Sent = []
+answer_rows answer.Closed = []
+answer_rows answer.Idle = (codes "idle" ∷ []) ∷ []
+answer_rows (answer.Refused why) = refusal_row why ∷ []
+
+-- the rows of what a step gave: one for each event, in order, and then that of its answer
+abbrev pub made_rows : Made → List (List (List ℕ))
+made_rows m = map event_row m.events ++ answer_rows m.answer
+
+-- the fields of the totals' row
+abbrev pub totals_row : Totals → List (List ℕ)
+totals_row t =
+    codes "totals" ∷ decimal t.accepted ∷ decimal t.accepted_bytes ∷ decimal t.sent ∷ decimal t.sent_bytes ∷ decimal t.dropped_codel
+    ∷ decimal t.dropped_overflow ∷ decimal t.dropped_bytes ∷ decimal t.marked ∷ decimal t.queued ∷ decimal t.queued_bytes ∷ state_name t.closed ∷ []
+
+-- a row, as `csv` writes it: the fields with a comma between each two, and one line feed
+unfoldable pub line_of : List (List ℕ) → List ℕ
+line_of fields = row_text (with_flexible default_writer true) fields
+
+-- the rows, one after the other
+abbrev pub lines_of : List (List (List ℕ)) → List ℕ
+lines_of rows = flat_map line_of rows
+
+-- The report of a run: the rows of each step, in order, and the row of the totals of the whole journal.
+abbrev pub report_of : List Made → List ℕ
+report_of made = lines_of (flat_map made_rows made) ++ line_of (totals_row (statistics (journal_of made)))
+
+-- The rows that were written are this text, and the next row starts at its end.
+pub record HasText (rows : Rows) (text : List ℕ) : Type 0 where
+  pub setup : writer_setup rows.writer ≡ with_flexible default_writer true
+  pub fields : fields_written rows.writer ≡ 0
+  pub wrote : has_written rows.writer ≡ false
+  pub written : text_written (λ v. Some v.items) rows.writer ≡ Some text
