@@ -1,10 +1,10 @@
 -- The text of a run's report.
-use Rattle.std.specs.Prelude.{◌≡◌, ℕ, Bool, true, false, List, [], ◌∷◌, ◌++◌, Option, Some, map}
+use Rattle.std.specs.Prelude.{◌≡◌, ℕ, Bool, true, false, List, [], ◌∷◌, ◌++◌, Option, Some, Ok, map}
 use Rattle.std.specs.Prelude.{codes}
 use Rattle.std.specs.Fmt.{decimal}
 use Rattle.std.specs.List.{flat_map}
 use Rattle.csv.specs.Writing.{default_writer, fields_written, has_written, row_text, text_written, with_flexible, writer_setup}
-use Rattle.sched_core.specs.Runs.{Made, journal_of}
+use Rattle.sched_core.specs.Runs.{Made, Runs, journal_of}
 use Rattle.sched_core.specs.Statistics.{statistics}
 use Rattle.sched_core.specs.declared.event.Cause.{Cause}
 use Rattle.sched_core.specs.declared.event.Cause.TheVariants as cause
@@ -12,10 +12,16 @@ use Rattle.sched_core.specs.declared.event.Event.{Event}
 use Rattle.sched_core.specs.declared.event.Event.TheVariants as event
 use Rattle.sched_core.specs.declared.run.Answer.{Answer}
 use Rattle.sched_core.specs.declared.run.Answer.TheVariants as answer
+use Rattle.sched_core.specs.declared.step.MomentFault.{MomentFault}
 use Rattle.sched_core.specs.declared.step.MomentFault.TheVariants as moment_fault
 use Rattle.sched_core.specs.declared.step.Refusal.{Refusal}
 use Rattle.sched_core.specs.declared.step.Refusal.TheVariants as refusal
 use Rattle.sched_core.specs.declared.totals.Totals.{Totals}
+use Rattle.packet_core.specs.declared.packet.Waiting.{Waiting}
+use Rattle.sched_core.specs.OneQueue.{one_queue}
+use Rattle.sched_core.specs.State.{State, opening_state}
+use Rattle.sched_core.specs.declared.step.Step.{Step}
+use Rattle.trace_core.specs.Traces.{trace_of}
 use Rattle.trace_core.specs.declared.report.Rows.{Rows}
 use Rattle.trace_core.specs.RowGrammar.{ecn_digit}
 
@@ -36,10 +42,14 @@ event_row (event.Sent id moment ecn mark) = codes "sent" ∷ decimal id ∷ ecn_
 event_row (event.Dropped id moment why) = codes "dropped" ∷ decimal id ∷ cause_name why ∷ []
 event_row (event.Closed moment) = codes "closed" ∷ []
 
+-- the fields of the row of a step that is refused for its moment
+abbrev pub moment_row : MomentFault → List (List ℕ)
+moment_row (moment_fault.Backwards last) = codes "refused" ∷ codes "backwards" ∷ decimal last ∷ []
+moment_row moment_fault.TooLarge = codes "refused" ∷ codes "too_large" ∷ []
+
 -- the fields of a refusal's row
 abbrev pub refusal_row : Refusal → List (List ℕ)
-refusal_row (refusal.Moment (moment_fault.Backwards last)) = codes "refused" ∷ codes "backwards" ∷ decimal last ∷ []
-refusal_row (refusal.Moment moment_fault.TooLarge) = codes "refused" ∷ codes "too_large" ∷ []
+refusal_row (refusal.Moment fault) = moment_row fault
 refusal_row refusal.ClosedAlready = codes "refused" ∷ codes "closed" ∷ []
 refusal_row refusal.Exhausted = codes "refused" ∷ codes "exhausted" ∷ []
 refusal_row refusal.Memory = codes "refused" ∷ codes "memory" ∷ []
@@ -74,9 +84,22 @@ lines_of rows = flat_map line_of rows
 abbrev pub report_of : List Made → List ℕ
 report_of made = lines_of (flat_map made_rows made) ++ line_of (totals_row (statistics (journal_of made)))
 
+-- The text is the report of a trace with these bytes: that of the run of its steps with a new scheduler.
+pub record IsReportOf (bytes text : List ℕ) : Type 0 where
+  pub steps : List Step
+  pub made : List Made
+  pub last : State (List Waiting)
+  pub read : trace_of bytes ≡ Ok steps
+  pub runs : Runs one_queue (opening_state []) steps made last
+  pub told : text ≡ report_of made
+
 -- The rows that were written are this text, and the next row starts at its end.
 pub record HasText (rows : Rows) (text : List ℕ) : Type 0 where
   pub setup : writer_setup rows.writer ≡ with_flexible default_writer true
   pub fields : fields_written rows.writer ≡ 0
   pub wrote : has_written rows.writer ≡ false
   pub written : text_written (λ v. Some v.items) rows.writer ≡ Some text
+
+-- These bytes are written behind the rows so far, whatever those are.
+abbrev pub Adds : Rows → Rows → List ℕ → Type 0
+Adds old new more = (text : List ℕ) → HasText old text → HasText new (text ++ more)

@@ -1,0 +1,10 @@
+use Rattle.std.proofs.Common.{◌∙◌}
+use Rattle.trace_core.proofs.report.Rows.moment_fault.Goals as goal
+
+pub returns-in_ok-last-in-Backwards : goal.returns-in_ok-last-in-Backwards
+returns-in_ok-last-in-Backwards c =
+    let last = c.as_bytes.ensures.value ∙ c.in_ok-last-in-Backwards.ensures in
+    rw c.in-Backwards.is (rw last at c.row.ensures)
+
+pub returns-in-TooLarge : goal.returns-in-TooLarge
+returns-in-TooLarge c = rw c.in-TooLarge.is c.row-in-TooLarge.ensures
