@@ -1,6 +1,6 @@
 -- Facts on the records that a reader has reached, and on the steps of records.
-use Rattle.std.proofs.Common.{◌≡◌, ◌∙◌, ℕ, zero, suc, ◌+◌, ◌≤◌, ◌<◌, Bool, true, false, List, [], ◌∷◌, ◌++◌, Option, Some, None, Result, Ok, Err, length, refl, sym, ap, arith, rules, append_assoc, inl, inr, ◌-◌, add-zero}
-use Rattle.std.specs.Prelude.{◌⊎◌, IfErr, IfOk, IfSome, nat_lt, if◌then◌else◌}
+use Rattle.std.proofs.Common.{◌≡◌, ◌∙◌, ℕ, zero, suc, ◌+◌, ◌≤◌, ◌<◌, true, false, List, [], ◌∷◌, ◌++◌, Option, Some, None, Result, Ok, Err, length, refl, ap, arith, append_assoc, inl, inr, ◌-◌, add-zero}
+use Rattle.std.specs.Prelude.{◌⊎◌, IfErr, IfOk, IfSome, nat_lt}
 use Rattle.std.proofs.lemmas.Bool.{cases_Bool, lt-ltb, ltb-true}
 use Rattle.std.proofs.lemmas.List.{append-nil}
 use Rattle.csv.specs.Machine.{Read as Cut, ends_at_end, field_after, fields_after, is_end, next_record, step}

@@ -1,5 +1,5 @@
 -- How a report's rows come one after the other.
-use Rattle.std.proofs.Common.{◌≡◌, ◌∙◌, ℕ, ◌+◌, ◌-◌, ◌<◌, List, [], ◌∷◌, ◌++◌, Option, Some, None, Result, Ok, Err, take, drop, get_or, length, map, refl, sym, ap, arith, append_assoc, append-nil, length-append}
+use Rattle.std.proofs.Common.{◌≡◌, ◌∙◌, ℕ, ◌+◌, ◌-◌, ◌<◌, List, [], ◌∷◌, ◌++◌, Option, Some, None, Result, Ok, Err, take, get_or, length, map, refl, sym, ap, arith, append_assoc, append-nil, length-append}
 use Rattle.std.specs.Prelude.{IfErr, IfOk, OnOk}
 use Rattle.std.specs.List.{flat_map, slice_range}
 use Rattle.std.specs.Io.KnownBytes.{Appends}
@@ -10,7 +10,7 @@ use Rattle.sched_core.specs.Runs.{Made, journal_of, outcomes_from}
 use Rattle.sched_core.specs.declared.event.Event.{Event}
 use Rattle.sched_core.specs.declared.run.Outcome.{Outcome}
 use Rattle.trace_core.specs.declared.report.Rows.{Rows}
-use Rattle.trace_core.specs.Report.{Adds, HasText, answer_rows, event_row, line_of, lines_of, made_rows}
+use Rattle.trace_core.specs.Report.{Adds, answer_rows, event_row, line_of, lines_of, made_rows}
 
 -- what was written is known
 pub appends_known : (o : Option (List ℕ)) (xs bytes : List ℕ) → Appends (Some xs) o bytes → o ≡ Some (xs ++ bytes)

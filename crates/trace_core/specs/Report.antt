@@ -1,9 +1,9 @@
 -- The text of a run's report.
-use Rattle.std.specs.Prelude.{◌≡◌, ℕ, Bool, true, false, List, [], ◌∷◌, ◌++◌, Option, Some, Ok, map}
+use Rattle.std.specs.Prelude.{◌≡◌, ◌<◌, length, ℕ, Bool, true, false, List, [], ◌∷◌, ◌++◌, Some, Ok, map}
 use Rattle.std.specs.Prelude.{codes}
 use Rattle.std.specs.Fmt.{decimal}
 use Rattle.std.specs.List.{flat_map}
-use Rattle.csv.specs.Writing.{default_writer, fields_written, has_written, row_text, text_written, with_flexible, writer_setup}
+use Rattle.csv.specs.Writing.{default_writer, fields_written, has_written, needs_quotes, text_written, with_flexible, writer_setup}
 use Rattle.sched_core.specs.Runs.{Made, Runs, journal_of}
 use Rattle.sched_core.specs.Statistics.{statistics}
 use Rattle.sched_core.specs.declared.event.Cause.{Cause}
@@ -72,9 +72,15 @@ totals_row t =
     codes "totals" ∷ decimal t.accepted ∷ decimal t.accepted_bytes ∷ decimal t.sent ∷ decimal t.sent_bytes ∷ decimal t.dropped_codel
     ∷ decimal t.dropped_overflow ∷ decimal t.dropped_bytes ∷ decimal t.marked ∷ decimal t.queued ∷ decimal t.queued_bytes ∷ state_name t.closed ∷ []
 
--- a row, as `csv` writes it: the fields with a comma between each two, and one line feed
+-- the fields behind a row's first one, each with a comma before it
+unfoldable pub behind : List (List ℕ) → List ℕ
+behind [] = []
+behind (field ∷ rest) = 44 ∷ (field ++ behind rest)
+
+-- a row: its fields with a comma between each two, and one line feed
 unfoldable pub line_of : List (List ℕ) → List ℕ
-line_of fields = row_text (with_flexible default_writer true) fields
+line_of [] = 10 ∷ []
+line_of (field ∷ rest) = field ++ behind rest ++ 10 ∷ []
 
 -- the rows, one after the other
 abbrev pub lines_of : List (List (List ℕ)) → List ℕ
@@ -99,6 +105,19 @@ pub record HasText (rows : Rows) (text : List ℕ) : Type 0 where
   pub fields : fields_written rows.writer ≡ 0
   pub wrote : has_written rows.writer ≡ false
   pub written : text_written (λ v. Some v.items) rows.writer ≡ Some text
+
+-- a field that `csv` writes without quotes
+abbrev pub IsPlain : List ℕ → Type 0
+IsPlain field = needs_quotes (with_flexible default_writer true) field ≡ false
+
+abbrev pub ArePlain : List (List ℕ) → Type 0
+ArePlain [] = Unit {0}
+ArePlain (field ∷ rest) = IsPlain field × ArePlain rest
+
+-- a row of such fields, the first of which isn't empty
+abbrev pub IsPlainRow : List (List ℕ) → Type 0
+IsPlainRow [] = ⊥
+IsPlainRow (field ∷ rest) = (0 < length field) × IsPlain field × ArePlain rest
 
 -- These bytes are written behind the rows so far, whatever those are.
 abbrev pub Adds : Rows → Rows → List ℕ → Type 0

@@ -62,6 +62,7 @@ impl Rows {
 
     /// One row. A write to a `Vec` fails for want of memory alone.
     fn row(&mut self, fields: &[&[u8]]) -> Result<(), Memory>
+        requires { Report.IsPlainRow (map (λ f. f.now) fields.now) }
         ensures { OnOk result (Report.Adds self.old self.new (Report.line_of (map (λ f. f.now) fields.now))) }
     {
         match self.writer.write_fields(fields) {
@@ -72,7 +73,8 @@ impl Rows {
 
     /// A number in decimal digits, without leading zeros.
     fn decimal(&self, value: u64) -> Result<String, Memory>
-        ensures { IfOk result (λ text. string_bytes text ≡ decimal value) }
+        ensures text { IfOk result (λ text. string_bytes text ≡ decimal value) }
+        ensures plain { IfOk result (λ text. Report.IsPlain (string_bytes text)) }
     {
         format!(in self.alloc; "{value}")
     }

@@ -1,4 +1,4 @@
-use Rattle.std.proofs.Common.{◌≤◌, inl, inr, length, refl, rules}
+use Rattle.std.proofs.Common.{◌≤◌, inl, inr, length, rules}
 use Rattle.trace_core.proofs.Records.{large_trace, rows_fault, rows_steps}
 use Rattle.trace_core.proofs.reader.read_trace.Goals as goal
 
