@@ -1,1 +1,4 @@
+pub mod Report
 pub mod RowGrammar
+pub mod Rows
+pub mod Traces

@@ -1,6 +1,9 @@
-ghost use Rattle.std.specs.Prelude.{◌≡◌, ◌<◌, ◌≤◌, ◌⊎◌, IfErr, IfOk, IfSome, IsErrOf, length, vec_len};
+ghost use Rattle.std.specs.Prelude.{◌≡◌, ◌<◌, ◌≤◌, ◌⊎◌, ◌∷◌, [], ℕ, ◌++◌, IfErr, IfOk, IfSome, IsErrOf, List, Ok, Err, false, length, true, vec_len};
+ghost use Rattle.csv.specs.Reading.{default_config, records, strip_bom};
+ghost use Rattle.csv.specs.Records.{fields_of};
+ghost use Rattle.trace_core.specs.Traces as Traces;
 
-use crate::row::read_row;
+use crate::row::{field, read_row};
 use csv::{ByteRecord, ErrorKind, ReaderBuilder};
 use sched_core::Step;
 use std::alloc::Global;
@@ -78,10 +81,13 @@ impl Error for TraceFault {}
 
 /// The steps of the trace that a reader gives, one for each row, in order. It refuses a trace whose bytes
 /// can't be read or are too many, and then the first faulty row.
-pub fn read_trace<R: Read>(alloc: Global, reader: &mut R) -> Result<Vec<Step>, TraceFault> {
+pub fn read_trace<R: Read>(alloc: Global, reader: &mut R) -> Result<Vec<Step>, TraceFault>
+    ensures steps { IfOk result (λ steps. IfSome (R.remaining reader.old) (λ bytes. Traces.trace_of bytes ≡ Ok steps.items)) }
+    ensures fault { IfErr result (λ fault. (fault.what ≡ TraceFaultKind.Read) ⊎ (fault.what ≡ TraceFaultKind.Memory) ⊎ IfSome (R.remaining reader.old) (λ bytes. Traces.trace_of bytes ≡ Err fault)) }
+{
     match read_bytes(alloc, reader) {
         Ok(text) => read_rows(alloc, &text),
-        Err(what) => Err(TraceFault { row: 0, what }),
+        Err(what) => Err(fault(0, what)),
     }
 }
 
@@ -115,7 +121,11 @@ fn read_bytes<R: Read>(alloc: Global, reader: &mut R) -> Result<Vec<u8>, TraceFa
 
 /// The steps of a trace's text, one for each row. A row of one empty field stands for no step, and isn't
 /// counted.
-fn read_rows(alloc: Global, text: &[u8]) -> Result<Vec<Step>, TraceFault> {
+fn read_rows(alloc: Global, text: &[u8]) -> Result<Vec<Step>, TraceFault>
+    requires { length text.now ≤ MAX_BYTES }
+    ensures steps { IfOk result (λ steps. Traces.steps_of text.now ≡ Ok steps.items) }
+    ensures fault { IfErr result (λ fault. (fault.what ≡ TraceFaultKind.Read) ⊎ (fault.what ≡ TraceFaultKind.Memory) ⊎ (Traces.steps_of text.now ≡ Err fault)) }
+{
     let mut rows = ReaderBuilder::new()
         .has_headers(false)
         .flexible(true)
@@ -124,40 +134,55 @@ fn read_rows(alloc: Global, text: &[u8]) -> Result<Vec<Step>, TraceFault> {
     let mut steps = Vec::new(alloc);
     let mut row_number = 1;
     // A row takes a byte or more, so the text ends before the turns do.
-    for _ in 0..u64::MAX {
-        let fault = |what| TraceFault {
-            row: row_number,
-            what,
-        };
-        if !next_row(&mut rows, &mut row).map_err(fault)? {
-            return Ok(steps);
+    for _turn in 0..u64::MAX {
+        match next_row(&mut rows, &mut row) {
+            Ok(true) => {}
+            Ok(false) => return Ok(steps),
+            Err(what) => return Err(fault(row_number, what)),
         }
         if is_blank(&row) {
             continue;
         }
         if row_number > MAX_ROWS {
-            return Err(fault(TraceFaultKind::TooLarge));
+            return Err(fault(row_number, TraceFaultKind::TooLarge));
         }
-        let step = read_row(&row).map_err(fault)?;
-        steps.push(step).map_err(|_| fault(TraceFaultKind::Memory))?;
+        let step = match read_row(&row) {
+            Ok(step) => step,
+            Err(what) => return Err(fault(row_number, what)),
+        };
+        if steps.push(step).is_err() {
+            return Err(fault(row_number, TraceFaultKind::Memory));
+        }
         row_number += 1;
     }
-    Err(TraceFault {
-        row: row_number,
-        what: TraceFaultKind::TooLarge,
-    })
+    Err(fault(row_number, TraceFaultKind::TooLarge))
+}
+
+/// What is wrong at a row.
+fn fault(row: u64, what: TraceFaultKind) -> TraceFault
+    ensures { result ≡ record { row = row; what = what } }
+{
+    TraceFault { row, what }
 }
 
 /// Cuts the next row off the text, and says whether there was one.
-fn next_row(rows: &mut csv::Reader<&[u8]>, row: &mut ByteRecord) -> Result<bool, TraceFaultKind> {
-    rows.read_byte_record(row)
-        .map_err(|error| match error.kind() {
-            ErrorKind::OutOfMemory => TraceFaultKind::Memory,
-            _ => TraceFaultKind::Read,
-        })
+fn next_row(rows: &mut csv::Reader<&[u8]>, row: &mut ByteRecord) -> Result<bool, TraceFaultKind>
+    ensures more { IfOk result (λ found. found ≡ true → (text : List ℕ) (before : List (List (List ℕ))) → Traces.HasRead text rows.old before → Traces.HasRead text rows.new (before ++ fields_of row.new ∷ [])) }
+    ensures end { IfOk result (λ found. found ≡ false → (text : List ℕ) (before : List (List (List ℕ))) → Traces.HasRead text rows.old before → records default_config (strip_bom text) ≡ before) }
+    ensures fault { IfErr result (λ fault. (fault ≡ TraceFaultKind.Read) ⊎ (fault ≡ TraceFaultKind.Memory)) }
+{
+    match rows.read_byte_record(row) {
+        Ok(found) => Ok(found),
+        Err(error) => match error.kind() {
+            ErrorKind::OutOfMemory => Err(TraceFaultKind::Memory),
+            _ => Err(TraceFaultKind::Read),
+        },
+    }
 }
 
 /// Whether a row's only field is empty.
-fn is_blank(row: &ByteRecord) -> bool {
-    row.len() == 1 && row.as_slice().is_empty()
+fn is_blank(row: &ByteRecord) -> bool
+    ensures { result ≡ Traces.is_blank (fields_of row.now) }
+{
+    row.len() == 1 && field(row, 0).is_empty()
 }

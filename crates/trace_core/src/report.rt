@@ -1,4 +1,7 @@
-ghost use Rattle.std.specs.Prelude.{◌≡◌};
+ghost use Rattle.std.specs.Prelude.{◌≡◌, All, ◌++◌, ◌∷◌, [], ℕ, List, IfOk, OnOk, map, slice_range, string_bytes};
+ghost use Rattle.std.specs.Fmt.{decimal};
+ghost use Rattle.sched_core.specs.Runs.{Made, StandsIn, journal_of, outcomes_from};
+ghost use Rattle.trace_core.specs.Report as Report;
 ghost use Rattle.trace_core.specs.RowGrammar.{ecn_digit};
 
 use csv::{Writer, WriterBuilder};
@@ -8,7 +11,10 @@ use std::alloc::{AllocError, Global};
 
 /// The report of a run, as text: the rows of each step, in order, and the row of the totals. It answers Err
 /// where a growth is refused.
-pub(crate) fn report_of(alloc: Global, ran: &Ran) -> Result<Vec<u8>, Memory> {
+pub(crate) fn report_of(alloc: Global, ran: &Ran) -> Result<Vec<u8>, Memory>
+    requires { All (StandsIn ran.now.sched.events) ran.now.outcomes.items }
+    ensures { IfOk result (λ text. (made : List Made) → ran.now.sched.events ≡ journal_of made → ran.now.outcomes.items ≡ outcomes_from 0 made → text.items ≡ Report.report_of made) }
+{
     let mut rows = Rows::new(alloc);
     for outcome in &ran.outcomes {
         rows.outcome(outcome, own_events(ran.sched.events(), outcome))?;
@@ -18,10 +24,11 @@ pub(crate) fn report_of(alloc: Global, ran: &Ran) -> Result<Vec<u8>, Memory> {
 }
 
 /// A step's own events, out of the whole journal.
-fn own_events<'a>(events: &'a [Event], outcome: &Outcome) -> &'a [Event] {
-    events
-        .get(outcome.first_event..outcome.end_event)
-        .unwrap_or(&[])
+fn own_events<'a>(events: &'a [Event], outcome: &Outcome) -> &'a [Event]
+    requires { StandsIn events.now outcome.now }
+    ensures { result.now ≡ slice_range events.now outcome.now.first_event outcome.now.end_event }
+{
+    &events[outcome.first_event..outcome.end_event]
 }
 
 /// The rows of a report, as they are written.
@@ -33,7 +40,9 @@ struct Rows {
 
 impl Rows {
     /// No rows yet.
-    fn new(alloc: Global) -> Rows {
+    fn new(alloc: Global) -> Rows
+        ensures { Report.HasText result [] }
+    {
         Rows {
             alloc,
             // Rows have different numbers of fields.
@@ -44,23 +53,36 @@ impl Rows {
     }
 
     /// The text of all rows.
-    fn into_text(self) -> Result<Vec<u8>, Memory> {
+    fn into_text(self) -> Result<Vec<u8>, Memory>
+        ensures { IfOk result (λ text. (written : List ℕ) → Report.HasText self written → text.items ≡ written) }
+    {
         let Rows { alloc: _, writer } = self;
         writer.into_inner().map_err(|_| AllocError)
     }
 
     /// One row. A write to a `Vec` fails for want of memory alone.
-    fn row(&mut self, fields: &[&[u8]]) -> Result<(), Memory> {
-        self.writer.write_fields(fields).map_err(|_| AllocError)
+    fn row(&mut self, fields: &[&[u8]]) -> Result<(), Memory>
+        requires { Report.IsPlainRow (map (λ f. f.now) fields.now) }
+        ensures { OnOk result (Report.Adds self.old self.new (Report.line_of (map (λ f. f.now) fields.now))) }
+    {
+        match self.writer.write_fields(fields) {
+            Ok(()) => Ok(()),
+            Err(_) => Err(AllocError),
+        }
     }
 
     /// A number in decimal digits, without leading zeros.
-    fn decimal(&self, value: u64) -> Result<String, Memory> {
+    fn decimal(&self, value: u64) -> Result<String, Memory>
+        ensures text { IfOk result (λ text. string_bytes text ≡ decimal value) }
+        ensures plain { IfOk result (λ text. Report.IsPlain (string_bytes text)) }
+    {
         format!(in self.alloc; "{value}")
     }
 
     /// The rows of a step with these events: one for each event, and one where the step made none.
-    fn outcome(&mut self, outcome: &Outcome, own_events: &[Event]) -> Result<(), Memory> {
+    fn outcome(&mut self, outcome: &Outcome, own_events: &[Event]) -> Result<(), Memory>
+        ensures { OnOk result (Report.Adds self.old self.new (Report.lines_of (map Report.event_row own_events.now ++ Report.answer_rows outcome.now.answer))) }
+    {
         for event in own_events {
             self.event(event)?;
         }
@@ -72,7 +94,9 @@ impl Rows {
     }
 
     /// The row of an event.
-    fn event(&mut self, event: &Event) -> Result<(), Memory> {
+    fn event(&mut self, event: &Event) -> Result<(), Memory>
+        ensures { OnOk result (Report.Adds self.old self.new (Report.line_of (Report.event_row event.now))) }
+    {
         match *event {
             Event::Accepted { id, flow, .. } => {
                 let (id, flow) = (self.decimal(id)?, self.decimal(u64::from(flow))?);
@@ -93,21 +117,34 @@ impl Rows {
     /// The row of a refused step. A trace's moments and its number of rows are too small for all but the
     /// refusals as closed and as backwards, and want of memory ends a run; the others have a row each so
     /// that every refusal has one.
-    fn refusal(&mut self, refusal: Refusal) -> Result<(), Memory> {
+    fn refusal(&mut self, refusal: Refusal) -> Result<(), Memory>
+        ensures { OnOk result (Report.Adds self.old self.new (Report.line_of (Report.refusal_row refusal))) }
+    {
         match refusal {
-            Refusal::Moment(MomentFault::Backwards { last }) => {
-                let last = self.decimal(last)?;
-                self.row(&[b"refused", b"backwards", last.as_bytes()])
-            }
-            Refusal::Moment(MomentFault::TooLarge) => self.row(&[b"refused", b"too_large"]),
+            Refusal::Moment(fault) => self.moment_fault(fault),
             Refusal::ClosedAlready => self.row(&[b"refused", b"closed"]),
             Refusal::Exhausted => self.row(&[b"refused", b"exhausted"]),
             Refusal::Memory => self.row(&[b"refused", b"memory"]),
         }
     }
 
+    /// The row of a step that is refused for its moment.
+    fn moment_fault(&mut self, fault: MomentFault) -> Result<(), Memory>
+        ensures { OnOk result (Report.Adds self.old self.new (Report.line_of (Report.moment_row fault))) }
+    {
+        match fault {
+            MomentFault::Backwards { last } => {
+                let last = self.decimal(last)?;
+                self.row(&[b"refused", b"backwards", last.as_bytes()])
+            }
+            MomentFault::TooLarge => self.row(&[b"refused", b"too_large"]),
+        }
+    }
+
     /// The row of the totals.
-    fn totals(&mut self, totals: &Totals) -> Result<(), Memory> {
+    fn totals(&mut self, totals: &Totals) -> Result<(), Memory>
+        ensures { OnOk result (Report.Adds self.old self.new (Report.line_of (Report.totals_row totals.now))) }
+    {
         let accepted = self.decimal(totals.accepted)?;
         let accepted_bytes = self.decimal(totals.accepted_bytes)?;
         let sent = self.decimal(totals.sent)?;
@@ -148,7 +185,9 @@ fn ecn_digit(ecn: Ecn) -> &'static [u8]
 }
 
 /// The word for a cause.
-fn cause_name(cause: Cause) -> &'static [u8] {
+fn cause_name(cause: Cause) -> &'static [u8]
+    ensures { result.now ≡ Report.cause_name cause }
+{
     match cause {
         Cause::Codel => b"codel",
         Cause::Overflow => b"overflow",
@@ -156,6 +195,8 @@ fn cause_name(cause: Cause) -> &'static [u8] {
 }
 
 /// The word for whether there was a close.
-fn state_name(is_closed: bool) -> &'static [u8] {
+fn state_name(is_closed: bool) -> &'static [u8]
+    ensures { result.now ≡ Report.state_name is_closed }
+{
     if is_closed { b"closed" } else { b"open" }
 }

@@ -6,7 +6,9 @@ ghost use Rattle.std.specs.Str.Parse.{IsNumeral, digits_value};
 ghost use Rattle.packet_core.specs.Packets.{IsLengthInRange};
 ghost use Rattle.packet_core.specs.declared.packet.Ecn.{Ecn};
 ghost use Rattle.packet_core.specs.declared.packet.Ip.{Ip};
+ghost use Rattle.csv.specs.Records.{fields_of};
 ghost use Rattle.trace_core.specs.declared.row.RowKind.{RowKind};
+ghost use Rattle.trace_core.specs.Rows.{address_of, field_of, fields_of_kind, four_octets_of, packet_of, row_of};
 ghost use Rattle.trace_core.specs.RowGrammar.{HasLeadingZero, IsAddress, IsCutAtDot, IsLengthFault, IsNumberBelow, IsOctet, ecn_digit, kind_name};
 
 use crate::reader::TraceFaultKind;
@@ -33,7 +35,9 @@ enum RowKind {
 
 impl RowKind {
     /// How many fields such a row has, the first one counted.
-    fn field_count(self) -> usize {
+    fn field_count(self) -> usize
+        ensures { result ≡ fields_of_kind self }
+    {
         match self {
             RowKind::Enqueue => 9,
             RowKind::Dequeue | RowKind::Close => 2,
@@ -43,12 +47,14 @@ impl RowKind {
 
 /// The step that a row asks for. It refuses a first field that names no kind, then another number of fields
 /// than the kind has, then the first faulty field from the left.
-pub(crate) fn read_row(row: &ByteRecord) -> Result<Step, TraceFaultKind> {
-    let kind = read_kind(row.get(0).unwrap_or(&[]))?;
+pub(crate) fn read_row(row: &ByteRecord) -> Result<Step, TraceFaultKind>
+    ensures { result ≡ row_of (fields_of row.now) }
+{
+    let kind = read_kind(field(row, 0))?;
     if row.len() != kind.field_count() {
         return Err(TraceFaultKind::BadFieldCount);
     }
-    let moment = read_moment(field(row, 1)?)?;
+    let moment = read_moment(field(row, 1))?;
     match kind {
         RowKind::Enqueue => Ok(Step::Enqueue {
             moment,
@@ -60,9 +66,14 @@ pub(crate) fn read_row(row: &ByteRecord) -> Result<Step, TraceFaultKind> {
     }
 }
 
-/// The field at a place, from 0.
-fn field(row: &ByteRecord, place: usize) -> Result<&[u8], TraceFaultKind> {
-    row.get(place).ok_or(TraceFaultKind::BadFieldCount)
+/// The field at a place, from 0, and an empty one behind the last.
+pub(crate) fn field(row: &ByteRecord, place: usize) -> &[u8]
+    ensures { result.now ≡ field_of (fields_of row.now) place }
+{
+    match row.get(place) {
+        Some(field) => field,
+        None => &[],
+    }
 }
 
 /// What a row's first field asks for.
@@ -80,14 +91,16 @@ fn read_kind(name: &[u8]) -> Result<RowKind, TraceFaultKind>
 }
 
 /// The packet of a row that has all its fields, which are read from left to right.
-fn read_packet(row: &ByteRecord) -> Result<Packet, TraceFaultKind> {
-    let proto = read_u8(field(row, 2)?)?;
-    let src = read_address(field(row, 3)?)?;
-    let dst = read_address(field(row, 4)?)?;
-    let sport = read_u16(field(row, 5)?)?;
-    let dport = read_u16(field(row, 6)?)?;
-    let len = read_length(field(row, 7)?)?;
-    let ecn = read_ecn(field(row, 8)?)?;
+fn read_packet(row: &ByteRecord) -> Result<Packet, TraceFaultKind>
+    ensures { result ≡ packet_of (fields_of row.now) }
+{
+    let proto = read_u8(field(row, 2))?;
+    let src = read_address(field(row, 3))?;
+    let dst = read_address(field(row, 4))?;
+    let sport = read_u16(field(row, 5))?;
+    let dport = read_u16(field(row, 6))?;
+    let len = read_length(field(row, 7))?;
+    let ecn = read_ecn(field(row, 8))?;
     let tuple = FiveTuple {
         proto,
         src,
@@ -158,6 +171,7 @@ fn read_ecn(text: &[u8]) -> Result<Ecn, TraceFaultKind>
 fn read_address(text: &[u8]) -> Result<Ip, TraceFaultKind>
     ensures address { IfOk result (λ ip. IsAddress text.now ip) }
     ensures fault { IfErr result (λ fault. (fault ≡ TraceFaultKind.BadAddress) × ((ip : Ip) → ¬ (IsAddress text.now ip))) }
+    ensures reading { result ≡ address_of text.now }
 {
     match address(text) {
         Some(ip) => Ok(ip),
@@ -169,6 +183,7 @@ fn read_address(text: &[u8]) -> Result<Ip, TraceFaultKind>
 fn address(text: &[u8]) -> Option<Ip>
     ensures address { IfSome result (λ ip. IsAddress text.now ip) }
     ensures none { IsNone result → (ip : Ip) → ¬ (IsAddress text.now ip) }
+    ensures reading { result ≡ four_octets_of text.now }
 {
     let (first, text) = cut_at_dot(text)?;
     let (second, text) = cut_at_dot(text)?;

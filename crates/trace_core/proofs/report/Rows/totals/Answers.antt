@@ -1,0 +1,20 @@
+use Rattle.std.proofs.Common.{◌∙◌, arith, refl}
+use Rattle.trace_core.proofs.Lines.{state_plain}
+use Rattle.trace_core.proofs.report.Rows.totals.Goals as goal
+
+pub returns : goal.returns
+returns c =
+    let accepted = c.as_bytes.ensures.value ∙ c.in_ok-accepted.ensures.text in
+    let accepted_bytes = c.as_bytes-2.ensures.value ∙ c.in_ok-accepted_bytes.ensures.text in
+    let sent = c.as_bytes-3.ensures.value ∙ c.in_ok-sent.ensures.text in
+    let sent_bytes = c.as_bytes-4.ensures.value ∙ c.in_ok-sent_bytes.ensures.text in
+    let dropped_codel = c.as_bytes-5.ensures.value ∙ c.in_ok-dropped_codel.ensures.text in
+    let dropped_overflow = c.as_bytes-6.ensures.value ∙ c.in_ok-dropped_overflow.ensures.text in
+    let dropped_bytes = c.as_bytes-7.ensures.value ∙ c.in_ok-dropped_bytes.ensures.text in
+    let marked = c.as_bytes-8.ensures.value ∙ c.in_ok-marked.ensures.text in
+    let queued = c.as_bytes-9.ensures.value ∙ c.in_ok-queued.ensures.text in
+    let queued_bytes = c.as_bytes-10.ensures.value ∙ c.in_ok-queued_bytes.ensures.text in
+    rw (accepted, accepted_bytes, sent, sent_bytes, dropped_codel, dropped_overflow, dropped_bytes, marked, queued, queued_bytes, c.state_name.ensures) at c.row.ensures
+
+pub row-requires : goal.row-requires
+row-requires c = rw (c.as_bytes.ensures.value, c.as_bytes-2.ensures.value, c.as_bytes-3.ensures.value, c.as_bytes-4.ensures.value, c.as_bytes-5.ensures.value, c.as_bytes-6.ensures.value, c.as_bytes-7.ensures.value, c.as_bytes-8.ensures.value, c.as_bytes-9.ensures.value, c.as_bytes-10.ensures.value, c.state_name.ensures) (omega arith, refl, (c.in_ok-accepted.ensures.plain, (c.in_ok-accepted_bytes.ensures.plain, (c.in_ok-sent.ensures.plain, (c.in_ok-sent_bytes.ensures.plain, (c.in_ok-dropped_codel.ensures.plain, (c.in_ok-dropped_overflow.ensures.plain, (c.in_ok-dropped_bytes.ensures.plain, (c.in_ok-marked.ensures.plain, (c.in_ok-queued.ensures.plain, (c.in_ok-queued_bytes.ensures.plain, (state_plain _, tt))))))))))))

@@ -1,0 +1,124 @@
+-- The text of a run's report.
+use Rattle.std.specs.Prelude.{◌≡◌, ◌<◌, length, ℕ, Bool, true, false, List, [], ◌∷◌, ◌++◌, Some, Ok, map}
+use Rattle.std.specs.Prelude.{codes}
+use Rattle.std.specs.Fmt.{decimal}
+use Rattle.std.specs.List.{flat_map}
+use Rattle.csv.specs.Writing.{default_writer, fields_written, has_written, needs_quotes, text_written, with_flexible, writer_setup}
+use Rattle.sched_core.specs.Runs.{Made, Runs, journal_of}
+use Rattle.sched_core.specs.Statistics.{statistics}
+use Rattle.sched_core.specs.declared.event.Cause.{Cause}
+use Rattle.sched_core.specs.declared.event.Cause.TheVariants as cause
+use Rattle.sched_core.specs.declared.event.Event.{Event}
+use Rattle.sched_core.specs.declared.event.Event.TheVariants as event
+use Rattle.sched_core.specs.declared.run.Answer.{Answer}
+use Rattle.sched_core.specs.declared.run.Answer.TheVariants as answer
+use Rattle.sched_core.specs.declared.step.MomentFault.{MomentFault}
+use Rattle.sched_core.specs.declared.step.MomentFault.TheVariants as moment_fault
+use Rattle.sched_core.specs.declared.step.Refusal.{Refusal}
+use Rattle.sched_core.specs.declared.step.Refusal.TheVariants as refusal
+use Rattle.sched_core.specs.declared.totals.Totals.{Totals}
+use Rattle.packet_core.specs.declared.packet.Waiting.{Waiting}
+use Rattle.sched_core.specs.OneQueue.{one_queue}
+use Rattle.sched_core.specs.State.{State, opening_state}
+use Rattle.sched_core.specs.declared.step.Step.{Step}
+use Rattle.trace_core.specs.Traces.{trace_of}
+use Rattle.trace_core.specs.declared.report.Rows.{Rows}
+use Rattle.trace_core.specs.RowGrammar.{ecn_digit}
+
+-- the word for a cause
+abbrev pub cause_name : Cause → List ℕ
+cause_name cause.Codel = codes "codel"
+cause_name cause.Overflow = codes "overflow"
+
+-- the word for whether there was a close
+abbrev pub state_name : Bool → List ℕ
+state_name true = codes "closed"
+state_name false = codes "open"
+
+-- the fields of an event's row
+abbrev pub event_row : Event → List (List ℕ)
+event_row (event.Accepted id moment lane flow packet) = codes "accepted" ∷ decimal id ∷ decimal flow ∷ []
+event_row (event.Sent id moment ecn mark) = codes "sent" ∷ decimal id ∷ ecn_digit ecn ∷ []
+event_row (event.Dropped id moment why) = codes "dropped" ∷ decimal id ∷ cause_name why ∷ []
+event_row (event.Closed moment) = codes "closed" ∷ []
+
+-- the fields of the row of a step that is refused for its moment
+abbrev pub moment_row : MomentFault → List (List ℕ)
+moment_row (moment_fault.Backwards last) = codes "refused" ∷ codes "backwards" ∷ decimal last ∷ []
+moment_row moment_fault.TooLarge = codes "refused" ∷ codes "too_large" ∷ []
+
+-- the fields of a refusal's row
+abbrev pub refusal_row : Refusal → List (List ℕ)
+refusal_row (refusal.Moment fault) = moment_row fault
+refusal_row refusal.ClosedAlready = codes "refused" ∷ codes "closed" ∷ []
+refusal_row refusal.Exhausted = codes "refused" ∷ codes "exhausted" ∷ []
+refusal_row refusal.Memory = codes "refused" ∷ codes "memory" ∷ []
+
+-- the rows of an answer, beside those of its events: an idle step and a refused one have a row each
+abbrev pub answer_rows : Answer → List (List (List ℕ))
+answer_rows answer.Accepted = []
+answer_rows answer.Sent = []
+answer_rows answer.Closed = []
+answer_rows answer.Idle = (codes "idle" ∷ []) ∷ []
+answer_rows (answer.Refused why) = refusal_row why ∷ []
+
+-- the rows of what a step gave: one for each event, in order, and then that of its answer
+abbrev pub made_rows : Made → List (List (List ℕ))
+made_rows m = map event_row m.events ++ answer_rows m.answer
+
+-- the fields of the totals' row
+abbrev pub totals_row : Totals → List (List ℕ)
+totals_row t =
+    codes "totals" ∷ decimal t.accepted ∷ decimal t.accepted_bytes ∷ decimal t.sent ∷ decimal t.sent_bytes ∷ decimal t.dropped_codel
+    ∷ decimal t.dropped_overflow ∷ decimal t.dropped_bytes ∷ decimal t.marked ∷ decimal t.queued ∷ decimal t.queued_bytes ∷ state_name t.closed ∷ []
+
+-- the fields behind a row's first one, each with a comma before it
+unfoldable pub behind : List (List ℕ) → List ℕ
+behind [] = []
+behind (field ∷ rest) = 44 ∷ (field ++ behind rest)
+
+-- a row: its fields with a comma between each two, and one line feed
+unfoldable pub line_of : List (List ℕ) → List ℕ
+line_of [] = 10 ∷ []
+line_of (field ∷ rest) = field ++ behind rest ++ 10 ∷ []
+
+-- the rows, one after the other
+abbrev pub lines_of : List (List (List ℕ)) → List ℕ
+lines_of rows = flat_map line_of rows
+
+-- The report of a run: the rows of each step, in order, and the row of the totals of the whole journal.
+abbrev pub report_of : List Made → List ℕ
+report_of made = lines_of (flat_map made_rows made) ++ line_of (totals_row (statistics (journal_of made)))
+
+-- The text is the report of a trace with these bytes: that of the run of its steps with a new scheduler.
+pub record IsReportOf (bytes text : List ℕ) : Type 0 where
+  pub steps : List Step
+  pub made : List Made
+  pub last : State (List Waiting)
+  pub read : trace_of bytes ≡ Ok steps
+  pub runs : Runs one_queue (opening_state []) steps made last
+  pub told : text ≡ report_of made
+
+-- The rows that were written are this text, and the next row starts at its end.
+pub record HasText (rows : Rows) (text : List ℕ) : Type 0 where
+  pub setup : writer_setup rows.writer ≡ with_flexible default_writer true
+  pub fields : fields_written rows.writer ≡ 0
+  pub wrote : has_written rows.writer ≡ false
+  pub written : text_written (λ v. Some v.items) rows.writer ≡ Some text
+
+-- a field that `csv` writes without quotes
+abbrev pub IsPlain : List ℕ → Type 0
+IsPlain field = needs_quotes (with_flexible default_writer true) field ≡ false
+
+abbrev pub ArePlain : List (List ℕ) → Type 0
+ArePlain [] = Unit {0}
+ArePlain (field ∷ rest) = IsPlain field × ArePlain rest
+
+-- a row of such fields, the first of which isn't empty
+abbrev pub IsPlainRow : List (List ℕ) → Type 0
+IsPlainRow [] = ⊥
+IsPlainRow (field ∷ rest) = (0 < length field) × IsPlain field × ArePlain rest
+
+-- These bytes are written behind the rows so far, whatever those are.
+abbrev pub Adds : Rows → Rows → List ℕ → Type 0
+Adds old new more = (text : List ℕ) → HasText old text → HasText new (text ++ more)

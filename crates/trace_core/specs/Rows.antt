@@ -1,0 +1,127 @@
+-- How a row's fields read, as the step that they ask for or the first fault.
+use Rattle.std.specs.Prelude.{ℕ, ◌^◌, Bool, not, List, [], ◌∷◌, Option, Some, None, Result, Ok, Err, option_and_then, option_map, length, get_or, nat_lt, nat_le, ◌==◌, ◌&&◌, if◌then◌else◌}
+use Rattle.std.specs.Prelude.{ok_or, codes}
+use Rattle.std.specs.Char.{digit_value}
+use Rattle.std.specs.List.{list_all}
+use Rattle.std.specs.Str.{bytes_eq}
+use Rattle.std.specs.Str.Parse.{digits_value}
+use Rattle.packet_core.specs.Packets.{PacketParts}
+use Rattle.packet_core.specs.declared.packet.Ecn.{Ecn}
+use Rattle.packet_core.specs.declared.packet.Ecn.TheVariants.{NotEct, Ect1, Ect0, Ce}
+use Rattle.packet_core.specs.declared.packet.Ip.{Ip}
+use Rattle.packet_core.specs.declared.packet.Ip.TheVariants.{V4}
+use Rattle.sched_core.specs.declared.step.Step.{Step}
+use Rattle.sched_core.specs.declared.step.Step.TheVariants as step
+use Rattle.trace_core.specs.declared.reader.TraceFaultKind.{TraceFaultKind}
+use Rattle.trace_core.specs.declared.reader.TraceFaultKind.TheVariants.{BadKind, BadFieldCount, BadNumber, BadAddress, BadEcn, LengthOutOfRange}
+use Rattle.trace_core.specs.declared.row.RowKind.{RowKind}
+use Rattle.trace_core.specs.declared.row.RowKind.TheVariants.{Enqueue, Dequeue, Close}
+
+infixl 10 ◌>>=◌
+infixl 10 ◌>>?◌
+-- the next reading, where there is no fault yet
+abbrev pub ◌>>=◌ : {A B E : Type 0} → Result A E → (A → Result B E) → Result B E
+Ok x >>= next = next x
+Err fault >>= next = Err fault
+
+abbrev pub ◌>>?◌ : {A B : Type 0} → Option A → (A → Option B) → Option B
+x >>? next = option_and_then next x
+
+-- whether a text is one or more decimal digits
+abbrev pub is_numeral : List ℕ → Bool
+is_numeral text = nat_lt 0 (length text) && list_all (λ byte. nat_lt (digit_value byte) 10) text
+
+-- a number below a bound
+unfoldable pub number_of : ℕ → List ℕ → Result ℕ TraceFaultKind
+number_of bound text = if is_numeral text && nat_lt (digits_value 10 text) bound then Ok (digits_value 10 text) else Err BadNumber
+
+-- whether a packet can have this length
+abbrev pub is_length : ℕ → Bool
+is_length len = nat_le 1 len && nat_le len 65535
+
+-- a packet's length
+unfoldable pub length_of : List ℕ → Result ℕ TraceFaultKind
+length_of text = if is_numeral text then (if is_length (digits_value 10 text) then Ok (digits_value 10 text) else Err LengthOutOfRange) else Err BadNumber
+
+-- an ECN field
+unfoldable pub ecn_of : List ℕ → Result Ecn TraceFaultKind
+ecn_of text =
+    if bytes_eq text (codes "0") then Ok NotEct
+    else if bytes_eq text (codes "1") then Ok Ect1
+    else if bytes_eq text (codes "2") then Ok Ect0
+    else if bytes_eq text (codes "3") then Ok Ce
+    else Err BadEcn
+
+-- what a row's first field asks for
+unfoldable pub kind_of : List ℕ → Result RowKind TraceFaultKind
+kind_of name =
+    if bytes_eq name (codes "enq") then Ok Enqueue
+    else if bytes_eq name (codes "deq") then Ok Dequeue
+    else if bytes_eq name (codes "close") then Ok Close
+    else Err BadKind
+
+-- what stands before a text's first dot, and what behind it
+unfoldable pub cut_of : List ℕ → Option (List ℕ × List ℕ)
+cut_of [] = None
+cut_of (byte ∷ text) = if byte == 46 then Some ([], text) else option_map (λ parts. (byte ∷ parts.0, parts.1)) (cut_of text)
+
+-- whether a zero stands before another byte
+abbrev pub starts_with_zero : List ℕ → Bool
+starts_with_zero text = nat_lt 1 (length text) && (get_or text 0 0 == 48)
+
+-- a number from 0 to 255 without leading zeros
+unfoldable pub octet_of : List ℕ → Option ℕ
+octet_of text =
+    if is_numeral text && nat_lt (digits_value 10 text) (2 ^ 8) && not (starts_with_zero text) then Some (digits_value 10 text) else None
+
+-- four of them, joined by dots
+unfoldable pub four_octets_of : List ℕ → Option Ip
+four_octets_of text =
+    cut_of text >>? λ one.
+    cut_of one.1 >>? λ two.
+    cut_of two.1 >>? λ three.
+    octet_of one.0 >>? λ a.
+    octet_of two.0 >>? λ b.
+    octet_of three.0 >>? λ c.
+    octet_of three.1 >>? λ d.
+    Some (V4 (a ∷ b ∷ c ∷ d ∷ []))
+
+-- an address
+unfoldable pub address_of : List ℕ → Result Ip TraceFaultKind
+address_of text = ok_or (four_octets_of text) BadAddress
+
+-- the field of a row at a place, from 0
+abbrev pub field_of : List (List ℕ) → ℕ → List ℕ
+field_of fields place = get_or fields place []
+
+-- the packet of a row, its fields read from left to right
+unfoldable pub packet_of : List (List ℕ) → Result PacketParts TraceFaultKind
+packet_of fields =
+    number_of (2 ^ 8) (field_of fields 2) >>= λ proto.
+    address_of (field_of fields 3) >>= λ src.
+    address_of (field_of fields 4) >>= λ dst.
+    number_of (2 ^ 16) (field_of fields 5) >>= λ sport.
+    number_of (2 ^ 16) (field_of fields 6) >>= λ dport.
+    length_of (field_of fields 7) >>= λ len.
+    ecn_of (field_of fields 8) >>= λ ecn.
+    Ok (record { tuple = record { proto = proto; src = src; dst = dst; sport = sport; dport = dport }; len = len; ecn = ecn })
+
+-- how many fields a row has, its first one counted
+abbrev pub fields_of_kind : RowKind → ℕ
+fields_of_kind Enqueue = 9
+fields_of_kind Dequeue = 2
+fields_of_kind Close = 2
+
+-- the step of a row of this kind, at this moment; every packet comes from lane 0
+abbrev pub step_of : RowKind → ℕ → List (List ℕ) → Result Step TraceFaultKind
+step_of Enqueue moment fields = packet_of fields >>= λ packet. Ok (step.Enqueue moment 0 packet)
+step_of Dequeue moment fields = Ok (step.Dequeue moment)
+step_of Close moment fields = Ok (step.Close moment)
+
+-- The step that a row asks for, or its first fault: a first field that names no kind, then another number of
+-- fields than the kind has, then the first faulty field from the left.
+unfoldable pub row_of : List (List ℕ) → Result Step TraceFaultKind
+row_of fields =
+    kind_of (field_of fields 0) >>= λ kind.
+    if length fields == fields_of_kind kind then (number_of (2 ^ 60) (field_of fields 1) >>= λ moment. step_of kind moment fields)
+    else Err BadFieldCount

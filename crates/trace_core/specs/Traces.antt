@@ -1,0 +1,47 @@
+-- How a trace's text reads, as its steps or the first fault with its row.
+use Rattle.std.specs.Prelude.{◌≡◌, ℕ, ◌+◌, Bool, List, [], ◌∷◌, Some, Result, Ok, Err, length, nat_lt, ◌==◌, ◌&&◌, if◌then◌else◌}
+use Rattle.std.proofs.Common.{Bor}
+use Rattle.csv.specs.Reading.{Reached, Ready, default_config, reader_config, reader_state, reader_trim, records, source_of, strip_bom}
+use Rattle.csv.specs.declared.parser.State.TheVariants as st
+use Rattle.csv.specs.declared.reader.Reader.{Reader}
+use Rattle.csv.specs.declared.reader.Trim.TheVariants as trim
+use Rattle.sched_core.specs.declared.step.Step.{Step}
+use Rattle.trace_core.specs.declared.reader.TraceFault.{TraceFault}
+use Rattle.trace_core.specs.declared.reader.TraceFaultKind.{TraceFaultKind}
+use Rattle.trace_core.specs.declared.reader.TraceFaultKind.TheVariants.{TooLarge}
+use Rattle.trace_core.specs.Rows.{◌>>=◌, field_of, row_of}
+
+-- whether a record's only field is empty: it stands for no row, and isn't counted
+abbrev pub is_blank : List (List ℕ) → Bool
+is_blank fields = (length fields == 1) && (length (field_of fields 0) == 0)
+
+-- what a row reads as, a fault with the row's number
+abbrev pub at_row : {A : Type 0} → ℕ → Result A TraceFaultKind → Result A TraceFault
+at_row row (Ok x) = Ok x
+at_row row (Err what) = Err (record { row = row; what = what })
+
+-- The steps of these records, the first row having that number: there are at most 1,000,000 rows, and the first
+-- faulty one is answered.
+unfoldable pub steps_from : ℕ → List (List (List ℕ)) → Result (List Step) TraceFault
+steps_from row [] = Ok []
+steps_from row (fields ∷ records) =
+    if is_blank fields then steps_from row records
+    else if nat_lt 1000000 row then Err (record { row = row; what = TooLarge })
+    else (at_row row (row_of fields) >>= λ step. steps_from (row + 1) records >>= λ steps. Ok (step ∷ steps))
+
+-- the steps of a text: `csv` cuts it into records, and rows are counted from 1
+abbrev pub steps_of : List ℕ → Result (List Step) TraceFault
+steps_of text = steps_from 1 (records default_config (strip_bom text))
+
+-- the steps of a trace, which has at most 134,217,728 bytes
+abbrev pub trace_of : List ℕ → Result (List Step) TraceFault
+trace_of text = if nat_lt 134217728 (length text) then Err (record { row = 0; what = TooLarge }) else steps_of text
+
+-- The reader has read these records of a text, and reads on behind them.
+pub record HasRead (text : List ℕ) (reader : Reader (Bor (List ℕ))) (before : List (List (List ℕ))) : Type 0 where
+  pub trim : reader_trim reader ≡ trim.None
+  pub ready : Ready reader
+  pub config : reader_config reader ≡ default_config
+  pub rest : List ℕ
+  pub source : source_of (λ (s : Bor (List ℕ)). Some s.now) reader ≡ Some rest
+  pub reached : Reached default_config st.StartRecord (strip_bom text) before (reader_state reader) rest
