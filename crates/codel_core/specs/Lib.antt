@@ -1,2 +1,5 @@
+pub mod Queue
 pub mod Root
+pub mod Schedule
 pub mod Spacing
+pub mod Verdict
