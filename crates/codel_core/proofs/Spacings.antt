@@ -12,16 +12,16 @@ squares_mono a b n h = mul-le-mul_right n (mul-le-mul h h)
 root_le : (a b n v : ℕ) → a * a * n ≤ v → v < (b + 1) * (b + 1) * n → a ≤ b
 root_le a b n v low high =
     elim (leb_tells a b) [
-      inl t ↦ t.1
-    | inr t ↦ let more : (b + 1) * (b + 1) * n ≤ a * a * n = squares_mono (b + 1) a n (omega arith) in absurd (omega arith)
+      | inl t ↦ t.1
+      | inr t ↦ let more : (b + 1) * (b + 1) * n ≤ a * a * n = squares_mono (b + 1) a n (omega arith) in absurd (omega arith)
     ]
 
 -- a root that fits isn't one that doesn't
 below_less : (v n r m : ℕ) → r ≤ suc m → r * r * n ≤ v → v < suc m * suc m * n → r ≤ m
 below_less v n r m below low high =
     elim (leb_tells r m) [
-      inl t ↦ t.1
-    | inr t ↦ let more : suc m * suc m * n ≤ r * r * n = squares_mono (suc m) r n (omega arith) in absurd (omega arith)
+      | inl t ↦ t.1
+      | inr t ↦ let more : suc m * suc m * n ≤ r * r * n = squares_mono (suc m) r n (omega arith) in absurd (omega arith)
     ]
 
 -- the search from above finds the one r that fits
@@ -29,12 +29,12 @@ greatest_found : (v n r most : ℕ) → r ≤ most → r * r * n ≤ v → v < (
 greatest_found v n r zero below low high = omega arith
 greatest_found v n r (suc m) below low high =
     elim (leb_tells (suc m * suc m * n) v) [
-      inl t ↦
-        let least : suc m ≤ r = root_le (suc m) r n v t.1 high in
-        let same : suc m ≡ r = omega arith in
-        rw t.0 same
-    | inr t ↦
-        rw t.0 (greatest_found v n r m (below_less v n r m below low t.1) low high)
+      | inl t ↦
+          let least : suc m ≤ r = root_le (suc m) r n v t.1 high in
+          let same : suc m ≡ r = omega arith in
+          rw t.0 same
+      | inr t ↦
+          rw t.0 (greatest_found v n r m (below_less v n r m below low t.1) low high)
     ]
 
 -- a spacing is at most the interval

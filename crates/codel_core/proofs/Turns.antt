@@ -56,8 +56,8 @@ next_taken q k w e =
 below_next : (P : ℕ → Type 0) (k : ℕ) → ((j : ℕ) → j < k → P j) → P k → (j : ℕ) → j < k + 1 → P j
 below_next P k before at j h =
     elim (leb_tells (j + 1) k) [
-      inl t ↦ before j (omega arith)
-    | inr t ↦ let e : k ≡ j = omega arith in subst P e at
+      | inl t ↦ before j (omega arith)
+      | inr t ↦ let e : k ≡ j = omega arith in subst P e at
     ]
 
 -- the line and the sink behind the first pull
@@ -113,9 +113,9 @@ unset_not_come (Some t) now h e = cc
 pub kept : (p : ParamFields) (now : ℕ) (q : List Waiting) (k : ℕ) (old new : Option ℕ) → FirstAbove (IsLate p now q k) p.interval now old new → IsDroppable p now q old k → new ≡ old
 kept p now q k old new f d =
     elim f [
-      given_up early e ↦ absurd (early d.0)
-    | stays late t is e ↦ e
-    | set late is e ↦ absurd (unset_not_come old now d.1 is)
+      | given_up early e ↦ absurd (early d.0)
+      | stays late t is e ↦ e
+      | set late is e ↦ absurd (unset_not_come old now d.1 is)
     ]
 
 -- an empty line
@@ -269,11 +269,11 @@ is_dropped : {A B : Type 0} (items : A → List Waiting) (pulled : A → ℕ →
 is_dropped items pulled taken p now old state line line' sink sink' k head may m due may_is cannot =
     let moment : state.drop_next ≡ drop_moment p.interval old k = ap (λ (s : CodelState). s.drop_next) m.state_is in
     below_next (IsDropped p now (items line) old) k m.dropped
-      (record {
-        droppable = m.droppable;
-        due = omega arith;
-        unmarkable = not_markable p (items line) k head may m.head_is may_is cannot;
-      })
+    (record {
+      droppable = m.droppable;
+      due = omega arith;
+      unmarkable = not_markable p (items line) k head may m.head_is may_is cannot;
+    })
 
 -- the schedule's next moment
 next_moment : (interval : ℕ) (old : CodelState) (k r : ℕ) → r ≡ spacing_of interval (old.count + k + 1) → drop_moment interval old k + r ≡ drop_moment interval old (k + 1)
@@ -297,7 +297,7 @@ goes_on items pulled taken p now old state state' line line' line'' sink sink' s
     let d : IsDroppable p now (items line) old.first_above (k + 1) = j.droppable.0 holds in
     let same : state'.first_above ≡ old.first_above = kept p now (items line) (k + 1) old.first_above state'.first_above j.fate d in
     let all : state' ≡ record old { count = old.count + k + 1; drop_next = drop_moment p.interval old k } =
-      rest ∙ (λ x. record (m.state_is x) { count = (m.state_is x).count + 1; first_above = same x }) in
+    rest ∙ (λ x. record (m.state_is x) { count = (m.state_is x).count + 1; first_above = same x }) in
     let count : state'.count ≡ old.count + k + 1 = ap (λ (s : CodelState). s.count) all in
     let counts : old.count + k + 1 ≡ old.count + (k + 1) = omega arith in
     let moments = next_moment p.interval old k r (spacing_by i p.interval state'.count (old.count + k + 1) r interval_is count (omega arith) spaced) in
@@ -325,16 +325,16 @@ pub gives_undroppable : {A B : Type 0} (items : A → List Waiting) (pulled : A 
     → Serves items pulled taken p now old line sink (Some answer) (record state' { dropping = false }) line'' sink''
 gives_undroppable items pulled taken p now old state state' line line' line'' sink sink' sink'' k head next answer droppable may m due may_is cannot next_is l j fails rest told =
     let all : state' ≡ record old { count = old.count + k + 1; drop_next = drop_moment p.interval old k; first_above = state'.first_above } =
-      rest ∙ (λ x. record (m.state_is x) { count = (m.state_is x).count + 1; first_above = state'.first_above }) in
+    rest ∙ (λ x. record (m.state_is x) { count = (m.state_is x).count + 1; first_above = state'.first_above }) in
     let counts : old.count + k + 1 ≡ old.count + (k + 1) = omega arith in
     let place : k ≡ k + 1 - 1 = omega arith in
     record {
       drops = k + 1;
       mark = NoMark;
       verdict = drops m.first m.dropping (is_dropped items pulled taken p now old state line line' sink sink' k head may m due may_is cannot)
-        (leaves (λ d. let t : droppable ≡ true = j.droppable.1 d in cc) refl
+          (leaves (λ d. let t : droppable ≡ true = j.droppable.1 d in cc) refl
           (ap (λ (s : CodelState). record s { dropping = false }) all
-            ∙ (λ x. record old { first_above = state'.first_above; dropping = false; count = counts x; drop_next = drop_moment p.interval old (place x) })));
+          ∙ (λ x. record old { first_above = state'.first_above; dropping = false; count = counts x; drop_next = drop_moment p.interval old (place x) })));
       first_above = j.fate;
       given = ap Some told ∙ ap (option_map (served NoMark)) next_is;
       left = l;
@@ -360,7 +360,7 @@ gives_undue items pulled taken p now old state line line' sink sink' k head answ
       drops = k;
       mark = NoMark;
       verdict = drops m.first m.dropping m.dropped
-        (waits m.droppable (omega arith) refl
+          (waits m.droppable (omega arith) refl
           (m.state_is ∙ (λ x. record old { first_above = back x; count = old.count + k; drop_next = drop_moment p.interval old k })));
       first_above = unmoved (IsLate p now (items line) k) p.interval now old.first_above state.first_above m.droppable.0 m.droppable.1 same;
       given = ap Some told ∙ ap (option_map (served NoMark)) m.head_is;
@@ -387,9 +387,9 @@ gives_marked items pulled taken p now old state line line' sink sink' k head ans
       drops = k;
       mark = CodelMark;
       verdict = drops m.first m.dropping m.dropped
-        (marks m.droppable (omega arith) at_place refl
+          (marks m.droppable (omega arith) at_place refl
           (ap (λ (s : CodelState). record s { count = s.count + 1; drop_next = s.drop_next + r }) m.state_is
-            ∙ (λ x. record old { first_above = back x; count = old.count + k + 1; drop_next = moments x })));
+          ∙ (λ x. record old { first_above = back x; count = old.count + k + 1; drop_next = moments x })));
       first_above = unmoved (IsLate p now (items line) k) p.interval now old.first_above state.first_above m.droppable.0 m.droppable.1 same;
       given = ap Some told ∙ ap (option_map (served CodelMark)) m.head_is;
       left = m.left;

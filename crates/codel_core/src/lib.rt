@@ -6,11 +6,15 @@ mod codel;
 mod control_law;
 mod judge;
 mod line;
+#[cfg(test)]
+mod lines;
 mod narrow;
 mod served;
 mod state;
 #[cfg(test)]
 mod tests;
+#[cfg(test)]
+mod verdicts;
 mod wide;
 
 pub use codel::Codel;
