@@ -1,3 +1,5 @@
 pub mod Digits
 pub mod Quotients
 pub mod Examples
+pub mod Spacings
+pub mod Turns

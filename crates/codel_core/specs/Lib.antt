@@ -1,2 +1,6 @@
+pub mod Queue
 pub mod Root
+pub mod Schedule
+pub mod SeveralLines
 pub mod Spacing
+pub mod Verdict

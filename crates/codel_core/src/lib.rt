@@ -1,11 +1,25 @@
-//! CoDel's control law: how far apart the drops of one queue stand. Nothing in this crate takes memory.
+//! CoDel for one queue (RFC 8289, section 5, with the marks of RFC 8290, section 4): which packets of a line
+//! are dropped, which one is given and with what mark. Nothing in this crate takes memory.
 #![tactic(auto)]
 
+mod codel;
 mod control_law;
+mod judge;
+mod line;
+#[cfg(test)]
+mod lines;
 mod narrow;
+mod served;
+mod state;
 #[cfg(test)]
 mod tests;
+#[cfg(test)]
+mod verdicts;
 mod wide;
 
+pub use codel::Codel;
 pub use control_law::spacing;
+pub use line::{DropSink, Pull};
+pub use served::{Mark, Served};
+pub use state::CodelState;
 pub use wide::root;

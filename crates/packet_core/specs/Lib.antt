@@ -1,1 +1,3 @@
+pub mod FlowNumber
 pub mod Packets
+pub mod Params

@@ -1,6 +1,13 @@
-//! Packets as the scheduler sees them. Nothing in this crate takes memory.
+//! Packets as the scheduler sees them, its parameters and the choice of a packet's flow. Nothing in this
+//! crate takes memory.
 #![tactic(auto)]
 
+mod flow;
 mod packet;
+mod params;
+#[cfg(test)]
+mod tests;
 
+pub use flow::{Seed, flow_of};
 pub use packet::{Ecn, FiveTuple, Ip, LengthOutOfRange, MAX_LENGTH, Packet, Waiting};
+pub use params::{Classify, EcnUse, ParamFields, ParamName, Params};

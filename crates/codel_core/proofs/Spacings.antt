@@ -1,0 +1,52 @@
+-- The spacing that the drop schedule is made of is the one that the code finds.
+use Rattle.std.proofs.Common.{◌≡◌, ℕ, zero, suc, ◌+◌, ◌*◌, ◌<◌, ◌≤◌, inl, inr, refl, sym, ap, ◌∙◌, arith}
+use Rattle.std.proofs.Math.Nat.{mul-le-mul, mul-le-mul_left, mul-le-mul_right}
+use Rattle.std.proofs.lemmas.Bool.Decides.{leb_tells}
+use Rattle.codel_core.specs.Spacing.{IsSpacing}
+use Rattle.codel_core.specs.Schedule.{greatest_root, spacing_of}
+
+squares_mono : (a b n : ℕ) → a ≤ b → a * a * n ≤ b * b * n
+squares_mono a b n h = mul-le-mul_right n (mul-le-mul h h)
+
+-- a root that fits is at most the one behind which nothing fits
+root_le : (a b n v : ℕ) → a * a * n ≤ v → v < (b + 1) * (b + 1) * n → a ≤ b
+root_le a b n v low high =
+    elim (leb_tells a b) [
+      | inl t ↦ t.1
+      | inr t ↦ let more : (b + 1) * (b + 1) * n ≤ a * a * n = squares_mono (b + 1) a n (omega arith) in absurd (omega arith)
+    ]
+
+-- a root that fits isn't one that doesn't
+below_less : (v n r m : ℕ) → r ≤ suc m → r * r * n ≤ v → v < suc m * suc m * n → r ≤ m
+below_less v n r m below low high =
+    elim (leb_tells r m) [
+      | inl t ↦ t.1
+      | inr t ↦ let more : suc m * suc m * n ≤ r * r * n = squares_mono (suc m) r n (omega arith) in absurd (omega arith)
+    ]
+
+-- the search from above finds the one r that fits
+greatest_found : (v n r most : ℕ) → r ≤ most → r * r * n ≤ v → v < (r + 1) * (r + 1) * n → greatest_root v n most ≡ r
+greatest_found v n r zero below low high = omega arith
+greatest_found v n r (suc m) below low high =
+    elim (leb_tells (suc m * suc m * n) v) [
+      | inl t ↦
+          let least : suc m ≤ r = root_le (suc m) r n v t.1 high in
+          let same : suc m ≡ r = omega arith in
+          rw t.0 same
+      | inr t ↦
+          rw t.0 (greatest_found v n r m (below_less v n r m below low t.1) low high)
+    ]
+
+-- a spacing is at most the interval
+pub spacing_le : (interval n r : ℕ) → 1 ≤ n → IsSpacing interval n r → r ≤ interval
+spacing_le interval n r some h =
+    let least : (interval + 1) * (interval + 1) * 1 ≤ (interval + 1) * (interval + 1) * n = mul-le-mul_left ((interval + 1) * (interval + 1)) some in
+    root_le r interval n (interval * interval) h.0 (omega arith)
+
+pub spacing_found : (interval n r : ℕ) → 1 ≤ n → IsSpacing interval n r → spacing_of interval n ≡ r
+unfolding spacing_of
+spacing_found interval n r some h = greatest_found (interval * interval) n r interval (spacing_le interval n r some h) h.0 h.1
+
+-- the spacing that the code finds, at the schedule's numbers
+pub spacing_by : (i interval n m r : ℕ) → i ≡ interval → n ≡ m → 1 ≤ n → IsSpacing i n r → r ≡ spacing_of interval m
+spacing_by i interval n m r e f some h = sym (spacing_found i n r some h) ∙ ap (λ (x : ℕ). spacing_of x n) e ∙ ap (λ (x : ℕ). spacing_of interval x) f

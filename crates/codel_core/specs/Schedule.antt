@@ -1,0 +1,38 @@
+use Rattle.std.specs.Prelude.{ℕ, zero, suc, ◌+◌, ◌-◌, ◌*◌, ◌^◌, ◌≤◌, if◌then◌else◌, nat_lt, nat_le, ◌&&◌, true}
+use Rattle.packet_core.specs.declared.params.ParamFields.{ParamFields}
+use Rattle.codel_core.specs.declared.state.CodelState.{CodelState}
+
+-- the greatest r, up to most, with r * r * n at most v
+abbrev pub greatest_root : ℕ → ℕ → ℕ → ℕ
+greatest_root v n zero = 0
+greatest_root v n (suc r) = if nat_le (suc r * suc r * n) v then suc r else greatest_root v n r
+
+-- interval / sqrt(n), rounded down
+unfoldable pub spacing_of : ℕ → ℕ → ℕ
+spacing_of interval n = greatest_root (interval * interval) n interval
+
+-- the drop schedule: when the packet at place j is due, if all before it are dropped (RFC 8289, section 5.6)
+abbrev pub drop_moment : ℕ → CodelState → ℕ → ℕ
+drop_moment interval s zero = s.drop_next
+drop_moment interval s (suc j) = drop_moment interval s j + spacing_of interval (s.count + j + 1)
+
+-- The count that dropping begins with. It goes on from what the count grew by when the queue dropped last, where that was short ago.
+abbrev pub resumed_count : ParamFields → ℕ → CodelState → ℕ
+resumed_count p now s =
+    if nat_lt 1 (s.count - s.lastcount) && nat_lt now (s.drop_next + 16 * p.interval) then s.count - s.lastcount else 1
+
+-- a state that begins to drop
+abbrev pub entered : ParamFields → ℕ → CodelState → CodelState
+entered p now s =
+    record s {
+      dropping = true;
+      count = resumed_count p now s;
+      lastcount = resumed_count p now s;
+      drop_next = now + spacing_of p.interval (resumed_count p now s);
+    }
+
+-- the numbers of a state, so that sums with them fit 64 bits
+pub record IsStateInRange (s : CodelState) : Type 0 where
+  pub drop_next : s.drop_next ≤ 2 ^ 61
+  pub count : s.count ≤ 2 ^ 61
+  pub lastcount : s.lastcount ≤ 2 ^ 61

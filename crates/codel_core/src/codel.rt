@@ -1,0 +1,137 @@
+ghost use Rattle.std.specs.Prelude.{◌≡◌, ◌^◌, ◌<◌, ◌≤◌, ◌↔◌, [], length, IsNone, None, false};
+ghost use Rattle.codel_core.specs.Schedule.{IsStateInRange};
+ghost use Rattle.codel_core.specs.Verdict.{Serves};
+
+use crate::control_law::spacing;
+use crate::judge::{enter, judge, may_mark};
+use crate::line::{DropSink, Pull};
+use crate::served::Served;
+use crate::state::CodelState;
+use packet_core::{Params, Waiting};
+use std::marker::Model;
+
+/// CoDel for one queue (RFC 8289, section 5, with the marks of RFC 8290, section 4).
+#[derive(Clone, Copy, Debug, PartialEq, Eq)]
+pub struct Codel {
+    state: CodelState,
+}
+
+impl Model for Codel {
+    ghost use Rattle.codel_core.specs.declared.state.CodelState.{CodelState};
+
+    ghost Value = { CodelState };
+
+    ghost view = { λ c. c.state };
+
+    ghost inverse = { λ v. record { state = v } };
+}
+
+impl Codel {
+    ghost use Rattle.codel_core.specs.Verdict.{opening};
+
+    /// CoDel of a queue that nothing was taken from.
+    pub fn new() -> Codel
+        ensures { result ≡ opening }
+    {
+        Codel {
+            state: CodelState {
+                first_above: None,
+                drop_next: 0,
+                count: 0,
+                lastcount: 0,
+                dropping: false,
+            },
+        }
+    }
+
+    /// CoDel that goes on from that state.
+    pub fn from_state(state: CodelState) -> Codel
+        ensures { result ≡ state }
+    {
+        Codel { state }
+    }
+
+    /// What is kept of the queue.
+    pub fn state(&self) -> CodelState
+        ensures { result ≡ self.now }
+    {
+        self.state
+    }
+
+    /// Takes packets from the head of the line: drops those that CoDel drops, and gives the next one,
+    /// marked or not. None where the line is empty.
+    pub fn serve<L: Pull, S: DropSink>(
+        &mut self,
+        line: &mut L,
+        now: u64,
+        params: &Params,
+        sink: &mut S,
+    ) -> Option<Served>
+        requires room { length (L.items line.old) ≤ S.room sink.old }
+        requires size { length (L.items line.old) ≤ 2 ^ 40 }
+        requires moment { now < 2 ^ 60 }
+        requires numbers { IsStateInRange self.old }
+        ensures none { IsNone result ↔ (L.items line.old ≡ []) }
+        ensures served { Serves L.items L.pulled S.taken params.now now self.old line.old sink.old result self.new line.new sink.new }
+    {
+        serve_from(&mut self.state, line, now, params, sink)
+    }
+}
+
+fn serve_from<L: Pull, S: DropSink>(
+    state: &mut CodelState,
+    line: &mut L,
+    now: u64,
+    params: &Params,
+    sink: &mut S,
+) -> Option<Served>
+    requires room { length (L.items line.old) ≤ S.room sink.old }
+    requires size { length (L.items line.old) ≤ 2 ^ 40 }
+    requires moment { now < 2 ^ 60 }
+    requires numbers { IsStateInRange state.old }
+    ensures none { IsNone result ↔ (L.items line.old ≡ []) }
+    ensures served { Serves L.items L.pulled S.taken params.now now state.old line.old sink.old result state.new line.new sink.new }
+{
+    let Some(first) = line.pull() else {
+        state.first_above = None;
+        state.dropping = false;
+        return None;
+    };
+    if !judge(state, &first, line, now, params) {
+        state.dropping = false;
+        return Some(Served::unmarked(first));
+    }
+    if !state.dropping {
+        if may_mark(params, &first) {
+            enter(state, now, params);
+            return Some(Served::marked(first));
+        }
+        sink.take(first);
+        let Some(second) = line.pull() else {
+            unreachable!()
+        };
+        judge(state, &second, line, now, params);
+        enter(state, now, params);
+        return Some(Served::unmarked(second));
+    }
+    let mut head = first;
+    while state.drop_next <= now {
+        if may_mark(params, &head) {
+            state.count += 1;
+            state.drop_next += spacing(params.interval(), state.count);
+            return Some(Served::marked(head));
+        }
+        sink.take(head);
+        state.count += 1;
+        let Some(next) = line.pull() else {
+            unreachable!()
+        };
+        head = next;
+        if !judge(state, &head, line, now, params) {
+            state.dropping = false;
+            return Some(Served::unmarked(head));
+        }
+        state.drop_next += spacing(params.interval(), state.count);
+    }
+    Some(Served::unmarked(head))
+}

@@ -1,0 +1,88 @@
+ghost use Rattle.std.specs.Prelude.{◌≡◌, ◌+◌, ◌^◌, ◌<◌, ◌≤◌, ◌↔◌, IsTrue, length};
+ghost use Rattle.codel_core.specs.Queue.{IsLateBefore, HasCome, is_markable};
+ghost use Rattle.codel_core.specs.Schedule.{IsStateInRange, entered, resumed_count};
+ghost use Rattle.codel_core.specs.Verdict.{FirstAbove};
+
+use crate::control_law::spacing;
+use crate::line::Pull;
+use crate::state::CodelState;
+use packet_core::{Ecn, EcnUse, Params, Waiting};
+
+/// Whether a packet that was just pulled is late: it waited for the target, and more than `mtu` bytes
+/// are left behind it.
+fn is_late<L: Pull>(head: &Waiting, line: &L, now: u64, params: &Params) -> bool
+    requires { length (L.items line.now) ≤ 2 ^ 40 }
+    ensures { IsTrue result ↔ IsLateBefore params.now now head.now (L.items line.now) }
+{
+    head.stamp <= now
+        && params.target() <= now - head.stamp
+        && u64::from(params.mtu()) < line.bytes_left()
+}
+
+/// Whether a packet that was just pulled is droppable (RFC 8289, section 5.6, `dodequeue`). It keeps
+/// `first_above`.
+pub(crate) fn judge<L: Pull>(
+    state: &mut CodelState,
+    head: &Waiting,
+    line: &L,
+    now: u64,
+    params: &Params,
+) -> bool
+    requires size { length (L.items line.now) ≤ 2 ^ 40 }
+    requires moment { now < 2 ^ 60 }
+    ensures droppable { IsTrue result ↔ (IsLateBefore params.now now head.now (L.items line.now) × HasCome state.old.first_above now) }
+    ensures first_above { FirstAbove (IsLateBefore params.now now head.now (L.items line.now)) params.now.interval now state.old.first_above state.new.first_above }
+    ensures rest { state.new ≡ record state.old { first_above = state.new.first_above } }
+{
+    if !is_late(head, line, now, params) {
+        state.first_above = None;
+        return false;
+    }
+    match state.first_above {
+        None => {
+            state.first_above = Some(now + params.interval());
+            false
+        }
+        Some(first_above) => first_above <= now,
+    }
+}
+
+/// Whether a packet that would be dropped is marked and sent instead (RFC 8290, section 4.2).
+pub(crate) fn may_mark(params: &Params, head: &Waiting) -> bool
+    ensures { result ≡ is_markable params.now.ecn head.now.packet.ecn }
+{
+    match params.ecn() {
+        EcnUse::Drop => false,
+        EcnUse::Mark => match head.packet.ecn() {
+            Ecn::NotEct => false,
+            Ecn::Ect1 | Ecn::Ect0 | Ecn::Ce => true,
+        },
+    }
+}
+
+/// The count that dropping begins with.
+fn first_count(state: &CodelState, now: u64, params: &Params) -> u64
+    requires { IsStateInRange state.now }
+    ensures value { result ≡ resumed_count params.now now state.now }
+    ensures range { (1 ≤ result) × (result ≤ 2 ^ 61) }
+{
+    let grown = state.count.saturating_sub(state.lastcount);
+    if grown > 1 && now < state.drop_next + 16 * params.interval() {
+        grown
+    } else {
+        1
+    }
+}
+
+/// Begins to drop (RFC 8289, section 5.5).
+pub(crate) fn enter(state: &mut CodelState, now: u64, params: &Params)
+    requires numbers { IsStateInRange state.old }
+    requires moment { now < 2 ^ 60 }
+    ensures { state.new ≡ entered params.now now state.old }
+{
+    let count = first_count(state, now, params);
+    state.dropping = true;
+    state.count = count;
+    state.lastcount = count;
+    state.drop_next = now + spacing(params.interval(), count);
+}

@@ -1,0 +1,48 @@
+ghost use Rattle.std.specs.Prelude.{◌≡◌, ℕ, ◌+◌, ◌^◌, ◌<◌, ◌≤◌, List, [], ◌∷◌, ◌++◌, length, drop, slice_get};
+ghost use Rattle.packet_core.specs.declared.packet.Waiting.{Waiting};
+ghost use Rattle.codel_core.specs.Queue.{bytes_of};
+
+use packet_core::Waiting;
+
+/// A line of waiting packets that CoDel takes from the head of.
+pub trait Pull {
+    /// The packets that wait, the head first.
+    ghost items: { Self → List Waiting };
+
+    /// That many pulls, one after another, make the second of the first.
+    ghost pulled: { Self → ℕ → Self → Type 0 };
+
+    /// Takes the head. None where nothing waits.
+    fn pull(&mut self) -> Option<Waiting>
+        ensures head { result ≡ slice_get (items self.old) 0 }
+        ensures rest { items self.new ≡ drop 1 (items self.old) }
+        ensures step { pulled self.old 1 self.new };
+
+    /// The lengths of the packets that wait, added up.
+    fn bytes_left(&self) -> u64
+        requires { length (items self.now) ≤ 2 ^ 40 }
+        ensures { result ≡ bytes_of (items self.now) };
+
+    ghost pulled_none: { (a : Self) → pulled a 0 a };
+
+    ghost pulled_more: { (a b c : Self) (n : ℕ) → pulled a n b → pulled b 1 c → pulled a (n + 1) c };
+}
+
+/// What takes the packets that CoDel drops.
+pub trait DropSink {
+    /// How many more packets it takes.
+    ghost room: { Self → ℕ };
+
+    /// Those packets, taken one after another, make the second of the first.
+    ghost taken: { Self → List Waiting → Self → Type 0 };
+
+    /// Takes a packet that is dropped.
+    fn take(&mut self, dropped: Waiting)
+        requires { 0 < room self.old }
+        ensures room { room self.new + 1 ≡ room self.old }
+        ensures step { taken self.old (dropped ∷ []) self.new };
+
+    ghost taken_none: { (a : Self) → taken a [] a };
+
+    ghost taken_more: { (a b c : Self) (ws : List Waiting) (w : Waiting) → taken a ws b → taken b (w ∷ []) c → taken a (ws ++ w ∷ []) c };
+}

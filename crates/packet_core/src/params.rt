@@ -1,0 +1,201 @@
+ghost use Rattle.std.specs.Prelude.{◌≡◌, ◌↔◌, IsOk, IfOk, IfErr};
+ghost use Rattle.packet_core.specs.Params.{IsLimitInRange, IsFlowsInRange, IsQuantumInRange, IsMtuInRange, IsTargetInRange, IsIntervalInRange};
+
+use std::error::Error;
+use std::fmt;
+use std::marker::Model;
+
+/// Whether packets are marked in place of being dropped (tc-fq_codel(8), `ecn` and `noecn`).
+#[derive(Clone, Copy, Debug, PartialEq, Eq, Hash)]
+pub enum EcnUse {
+    /// Every packet is dropped that CoDel would drop.
+    Drop,
+    /// A packet whose sender takes part in ECN is marked and sent instead.
+    Mark,
+}
+
+/// How the flow of a packet is found from its five-tuple.
+#[derive(Clone, Copy, Debug, PartialEq, Eq, Hash)]
+pub enum Classify {
+    /// By the destination port alone.
+    Dport,
+}
+
+/// A parameter that has a range, in the order in which the ranges are tested.
+#[derive(Clone, Copy, Debug, PartialEq, Eq, Hash)]
+pub enum ParamName {
+    Limit,
+    Flows,
+    Quantum,
+    Mtu,
+    Target,
+    Interval,
+}
+
+impl fmt::Display for ParamName {
+    fn fmt<W: fmt::Write>(&self, f: &mut fmt::Formatter<W>) -> fmt::Result {
+        f.write_str(match self {
+            ParamName::Limit => "limit",
+            ParamName::Flows => "flows",
+            ParamName::Quantum => "quantum",
+            ParamName::Mtu => "mtu",
+            ParamName::Target => "target",
+            ParamName::Interval => "interval",
+        })
+    }
+}
+
+impl Error for ParamName {}
+
+/// The parameters as they are written down (tc-fq_codel(8)), in range or not.
+#[derive(Clone, Copy, Debug, PartialEq, Eq, Hash)]
+pub struct ParamFields {
+    /// The most packets that wait, in all flows together.
+    pub limit: u32,
+    /// How many flows there are.
+    pub flows: u32,
+    /// The bytes that a flow sends before the next one has its turn.
+    pub quantum: u32,
+    /// Where no more than this many bytes wait behind a packet, the packet isn't dropped.
+    pub mtu: u32,
+    /// A packet that waited less than this, in microseconds, isn't dropped.
+    pub target: u64,
+    /// How long packets wait too long before the first one is dropped, in microseconds.
+    pub interval: u64,
+    /// Whether packets are marked in place of being dropped.
+    pub ecn: EcnUse,
+    /// How the flow of a packet is found.
+    pub classify: Classify,
+}
+
+impl ParamFields {
+    ghost use Rattle.packet_core.specs.Params.{AreInRange};
+
+    /// The parameters where nothing else is said (tc-fq_codel(8)).
+    pub fn standard() -> ParamFields
+        ensures { AreInRange result }
+    {
+        ParamFields {
+            limit: 10_240,
+            flows: 1_024,
+            quantum: 1_514,
+            mtu: 1_514,
+            target: 5_000,
+            interval: 100_000,
+            ecn: EcnUse::Mark,
+            classify: Classify::Dport,
+        }
+    }
+}
+
+/// The parameters of a scheduler, each in its range.
+#[derive(Clone, Copy, Debug, PartialEq, Eq, Hash)]
+pub struct Params {
+    fields: ParamFields,
+}
+
+impl Model for Params {
+    ghost use Rattle.packet_core.specs.declared.params.ParamFields.{ParamFields};
+    ghost use Rattle.packet_core.specs.Params.{AreInRange};
+
+    ghost Value = { ParamFields };
+
+    ghost view = { λ p. p.fields };
+
+    ghost invariant = { λ p. AreInRange p.fields };
+
+    ghost inverse = { λ v. record { fields = v } };
+}
+
+impl Params {
+    ghost use Rattle.packet_core.specs.Params.{AreInRange, IsFirstOutOfRange};
+
+    /// The parameters, where each is in its range. Otherwise it names the first that isn't.
+    pub fn try_new(fields: ParamFields) -> Result<Params, ParamName>
+        ensures ranges { IsOk result ↔ AreInRange fields }
+        ensures value { IfOk result (λ params. params ≡ fields) }
+        ensures first { IfErr result (λ name. IsFirstOutOfRange name fields) }
+    {
+        if fields.limit < 1 || fields.limit > 1_048_576 {
+            return Err(ParamName::Limit);
+        }
+        if fields.flows < 1 || fields.flows > 65_536 {
+            return Err(ParamName::Flows);
+        }
+        if fields.quantum < 1 || fields.quantum > 1_000_000 {
+            return Err(ParamName::Quantum);
+        }
+        if fields.mtu > 65_535 {
+            return Err(ParamName::Mtu);
+        }
+        if fields.target > 1_000_000_000 {
+            return Err(ParamName::Target);
+        }
+        if fields.interval < 1 || fields.interval > 1_000_000_000 {
+            return Err(ParamName::Interval);
+        }
+        Ok(Params { fields })
+    }
+
+    /// The most packets that wait, from 1 to 1,048,576.
+    pub fn limit(&self) -> u32
+        ensures value { result ≡ self.now.limit }
+        ensures range { IsLimitInRange result }
+    {
+        self.fields.limit
+    }
+
+    /// How many flows there are, from 1 to 65,536.
+    pub fn flows(&self) -> u32
+        ensures value { result ≡ self.now.flows }
+        ensures range { IsFlowsInRange result }
+    {
+        self.fields.flows
+    }
+
+    /// The bytes of a turn, from 1 to 1,000,000.
+    pub fn quantum(&self) -> u32
+        ensures value { result ≡ self.now.quantum }
+        ensures range { IsQuantumInRange result }
+    {
+        self.fields.quantum
+    }
+
+    /// The bytes behind a packet that aren't enough for a drop, up to 65,535.
+    pub fn mtu(&self) -> u32
+        ensures value { result ≡ self.now.mtu }
+        ensures range { IsMtuInRange result }
+    {
+        self.fields.mtu
+    }
+
+    /// The wait that isn't too long, in microseconds, up to 1,000 seconds.
+    pub fn target(&self) -> u64
+        ensures value { result ≡ self.now.target }
+        ensures range { IsTargetInRange result }
+    {
+        self.fields.target
+    }
+
+    /// The time before the first drop, in microseconds, from 1 to 1,000 seconds.
+    pub fn interval(&self) -> u64
+        ensures value { result ≡ self.now.interval }
+        ensures range { IsIntervalInRange result }
+    {
+        self.fields.interval
+    }
+
+    /// Whether packets are marked in place of being dropped.
+    pub fn ecn(&self) -> EcnUse
+        ensures { result ≡ self.now.ecn }
+    {
+        self.fields.ecn
+    }
+
+    /// How the flow of a packet is found.
+    pub fn classify(&self) -> Classify
+        ensures { result ≡ self.now.classify }
+    {
+        self.fields.classify
+    }
+}
