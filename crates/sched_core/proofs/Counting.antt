@@ -7,8 +7,8 @@ use Rattle.packet_core.specs.Packets.{PacketParts}
 use Rattle.sched_core.specs.declared.journal.Counts.{Counts}
 use Rattle.sched_core.specs.declared.event.Event.{Event}
 use Rattle.sched_core.specs.declared.event.Event.TheVariants.{Accepted, Sent, Dropped, Closed}
-use Rattle.sched_core.specs.declared.event.Mark.{Mark}
-use Rattle.sched_core.specs.declared.event.Mark.TheVariants.{NoMark, CodelMark}
+use Rattle.codel_core.specs.declared.served.Mark.{Mark}
+use Rattle.codel_core.specs.declared.served.Mark.TheVariants.{NoMark, CodelMark}
 use Rattle.packet_core.specs.declared.packet.Ecn.{Ecn}
 use Rattle.sched_core.specs.Books.{count_accepted, count_sent, marks_of}
 use Rattle.sched_core.specs.Happened.{Acceptance, acceptance_of, fate_of, acceptances, fate_ids, named}

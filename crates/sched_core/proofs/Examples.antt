@@ -5,7 +5,7 @@ use Rattle.packet_core.specs.declared.packet.Waiting.{Waiting}
 use Rattle.packet_core.specs.declared.packet.FiveTuple.{FiveTuple}
 use Rattle.packet_core.specs.declared.packet.Ip.TheVariants.{V4}
 use Rattle.packet_core.specs.declared.packet.Ecn.TheVariants.{NotEct, Ce}
-use Rattle.sched_core.specs.declared.event.Mark.TheVariants.{NoMark, CodelMark}
+use Rattle.codel_core.specs.declared.served.Mark.TheVariants.{NoMark, CodelMark}
 use Rattle.sched_core.specs.declared.event.Cause.TheVariants.{Codel, Overflow}
 use Rattle.sched_core.specs.declared.event.Event.{Event}
 use Rattle.sched_core.specs.declared.event.Event.TheVariants as event

@@ -16,7 +16,8 @@ use Rattle.sched_core.specs.declared.step.Step.TheVariants.{Enqueue, Dequeue, Cl
 use Rattle.sched_core.specs.declared.step.Refusal.{Refusal}
 use Rattle.sched_core.specs.declared.run.Answer.{Answer}
 use Rattle.sched_core.specs.declared.run.Answer.TheVariants as answer
-use Rattle.sched_core.specs.Disciplines.{Discipline, Given, Batch, packets_of, LeaveHeads, IsFifoByFlow, LeavesHead, heads, with_arrival, given_packet, sent_ecn, MayHave}
+use Rattle.codel_core.specs.Verdict.{sent_ecn}
+use Rattle.sched_core.specs.Disciplines.{Discipline, Given, Batch, packets_of, LeaveHeads, IsFifoByFlow, LeavesHead, heads, with_arrival, given_packet, MayHave}
 use Rattle.sched_core.specs.Happened.{Acceptance, waiting_of, acceptances, accepted_ids, fate_ids, named}
 use Rattle.sched_core.specs.JournalLaws.{IsHonest, JournalLaws, WaitWithoutFate}
 use Rattle.sched_core.specs.History.{IsHistory, IsLine}

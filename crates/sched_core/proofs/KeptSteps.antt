@@ -7,7 +7,7 @@ use Rattle.packet_core.specs.Packets.{PacketParts}
 use Rattle.packet_core.specs.declared.packet.Waiting.{Waiting}
 use Rattle.sched_core.specs.declared.event.Event.{Event}
 use Rattle.sched_core.specs.declared.event.Event.TheVariants.{Accepted, Sent, Closed}
-use Rattle.sched_core.specs.declared.event.Mark.TheVariants.{NoMark}
+use Rattle.codel_core.specs.declared.served.Mark.TheVariants.{NoMark}
 use Rattle.sched_core.specs.Books.{Book, with_event, count_accepted, count_sent}
 use Rattle.sched_core.specs.Disciplines.{heads, with_arrival}
 use Rattle.sched_core.specs.Happened.{acceptances, fate_ids}

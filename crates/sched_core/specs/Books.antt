@@ -1,6 +1,6 @@
 use Rattle.std.specs.Prelude.{ℕ, ◌+◌, ◌*◌, ◌-◌, ◌≤◌, List, [], ◌∷◌, ◌++◌}
-use Rattle.sched_core.specs.declared.event.Mark.{Mark}
-use Rattle.sched_core.specs.declared.event.Mark.TheVariants.{NoMark, CodelMark}
+use Rattle.codel_core.specs.declared.served.Mark.{Mark}
+use Rattle.codel_core.specs.declared.served.Mark.TheVariants.{NoMark, CodelMark}
 use Rattle.sched_core.specs.declared.event.Event.{Event}
 use Rattle.sched_core.specs.declared.journal.Counts.{Counts}
 

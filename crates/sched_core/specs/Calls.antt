@@ -10,7 +10,8 @@ use Rattle.sched_core.specs.declared.step.Refusal.{Refusal}
 use Rattle.sched_core.specs.declared.step.Refusal.TheVariants as refusal
 use Rattle.sched_core.specs.declared.step.Step.{Step}
 use Rattle.sched_core.specs.declared.step.Step.TheVariants.{Dequeue}
-use Rattle.sched_core.specs.Disciplines.{Discipline, Given, sent_ecn}
+use Rattle.codel_core.specs.Verdict.{sent_ecn}
+use Rattle.sched_core.specs.Disciplines.{Discipline, Given}
 use Rattle.sched_core.specs.State.{State, refusal_of}
 use Rattle.sched_core.specs.Steps.{Makes, Serves}
 

@@ -3,19 +3,14 @@ use Rattle.std.specs.List.{flat_map}
 use Rattle.packet_core.specs.declared.packet.FiveTuple.{FiveTuple}
 use Rattle.packet_core.specs.declared.packet.Waiting.{Waiting}
 use Rattle.packet_core.specs.declared.packet.Ecn.{Ecn}
-use Rattle.packet_core.specs.declared.packet.Ecn.TheVariants.{NotEct, Ce}
-use Rattle.sched_core.specs.declared.event.Mark.{Mark}
-use Rattle.sched_core.specs.declared.event.Mark.TheVariants.{NoMark, CodelMark}
+use Rattle.packet_core.specs.declared.packet.Ecn.TheVariants.{NotEct}
+use Rattle.codel_core.specs.declared.served.Mark.{Mark}
+use Rattle.codel_core.specs.declared.served.Mark.TheVariants.{NoMark, CodelMark}
 
 -- a packet that is given to the device, as it waited, and what marks it
 pub record Given : Type 0 where
   pub waiting : Waiting
   pub mark : Mark
-
--- the ECN field that a packet is sent with: a mark is CE (RFC 3168, section 5)
-abbrev pub sent_ecn : Mark → Ecn → Ecn
-sent_ecn NoMark ecn = ecn
-sent_ecn CodelMark ecn = Ce
 
 -- Only a packet whose sender takes part may be marked (RFC 3168, section 5).
 abbrev pub MayHave : Mark → Ecn → Type 0

@@ -6,7 +6,8 @@ use Rattle.packet_core.specs.declared.packet.FiveTuple.{FiveTuple}
 use Rattle.packet_core.specs.declared.packet.Waiting.{Waiting}
 use Rattle.sched_core.specs.declared.event.Event.{Event}
 use Rattle.sched_core.specs.declared.event.Event.TheVariants.{Accepted, Sent, Dropped, Closed}
-use Rattle.sched_core.specs.Disciplines.{MayHave, sent_ecn}
+use Rattle.codel_core.specs.Verdict.{sent_ecn}
+use Rattle.sched_core.specs.Disciplines.{MayHave}
 use Rattle.sched_core.specs.Happened.{Acceptance, waiting_of, is_closed, moment_of, acceptances, accepted_ids, fate_ids, named, passes, without_fate}
 
 -- IDS IN ORDER

@@ -1,3 +1,4 @@
+pub use Rattle.codel_core.specs.Verdict
 pub use Rattle.packet_core.specs.Packets
 pub mod State
 pub mod Disciplines

@@ -1,6 +1,6 @@
 use Rattle.std.specs.Prelude.{◌≡◌, ℕ, List, [], ◌∷◌, ◌++◌, drop, option_map, slice_get, if◌then◌else◌, ◌==◌}
 use Rattle.packet_core.specs.declared.packet.Waiting.{Waiting}
-use Rattle.sched_core.specs.declared.event.Mark.TheVariants.{NoMark}
+use Rattle.codel_core.specs.declared.served.Mark.TheVariants.{NoMark}
 use Rattle.sched_core.specs.Disciplines.{Discipline, Given}
 
 -- the packet as it waited, with no mark

@@ -2,7 +2,7 @@ use Rattle.std.specs.Prelude.{ℕ, Bool, true, false, List, length, Option, Some
 use Rattle.std.specs.List.{filter_map, list_any}
 use Rattle.std.specs.Option.{option_map_or}
 use Rattle.sched_core.specs.declared.event.Cause.TheVariants.{Codel, Overflow}
-use Rattle.sched_core.specs.declared.event.Mark.TheVariants.{NoMark, CodelMark}
+use Rattle.codel_core.specs.declared.served.Mark.TheVariants.{NoMark, CodelMark}
 use Rattle.sched_core.specs.declared.event.Event.{Event}
 use Rattle.sched_core.specs.declared.event.Event.TheVariants.{Accepted, Sent, Dropped, Closed}
 use Rattle.sched_core.specs.declared.totals.Totals.{Totals}

@@ -9,7 +9,8 @@ use Rattle.sched_core.specs.declared.event.Event.{Event}
 use Rattle.sched_core.specs.declared.event.Event.TheVariants as event
 use Rattle.sched_core.specs.declared.run.Answer.{Answer}
 use Rattle.sched_core.specs.declared.run.Answer.TheVariants as answer
-use Rattle.sched_core.specs.Disciplines.{Discipline, Given, sent_ecn}
+use Rattle.codel_core.specs.Verdict.{sent_ecn}
+use Rattle.sched_core.specs.Disciplines.{Discipline, Given}
 use Rattle.sched_core.specs.State.{State, arrival, refusal_of}
 
 -- the event of a packet that is dropped

@@ -1,3 +1,4 @@
+use codel_core::Mark;
 use packet_core::{Ecn, Packet};
 
 /// Why a packet was dropped.
@@ -7,15 +8,6 @@ pub enum Cause {
     Codel,
     /// More packets waited than the limit allows (RFC 8290, section 4.1.3).
     Overflow,
-}
-
-/// What set the ECN field of a packet that was sent.
-#[derive(Clone, Copy, Debug, PartialEq, Eq)]
-pub enum Mark {
-    /// The sender: it is the field that was accepted.
-    NoMark,
-    /// CoDel set it to CE, in place of a drop.
-    CodelMark,
 }
 
 /// One entry of the journal. Moments are in microseconds, and ids count acceptances from 0.

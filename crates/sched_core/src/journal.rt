@@ -1,7 +1,8 @@
 ghost use Rattle.std.specs.Prelude.{◌≡◌, ◌+◌, ◌*◌, ◌-◌, ◌^◌, ◌<◌, ◌≤◌, [], IfOk, OnOk, OnErr, length};
 
-use crate::event::{Event, Mark};
+use crate::event::Event;
 use crate::step::Memory;
+use codel_core::Mark;
 use packet_core::Waiting;
 use std::alloc::Global;
 use std::marker::Model;
@@ -46,7 +47,7 @@ impl Journal {
     ghost use Rattle.sched_core.specs.Books.{no_counts, with_event, count_accepted, count_sent};
     ghost use Rattle.sched_core.specs.declared.event.Event.TheVariants.{Accepted, Closed};
     ghost use Rattle.sched_core.specs.declared.event.Event.TheVariants as event;
-    ghost use Rattle.sched_core.specs.Disciplines.{sent_ecn};
+    ghost use Rattle.codel_core.specs.Verdict.{sent_ecn};
 
     /// A journal with no event, and room for `room` of them.
     pub(crate) fn try_new(alloc: Global, room: usize) -> Result<Journal, Memory>

@@ -12,7 +12,8 @@ mod sched;
 mod step;
 mod totals;
 
-pub use event::{Cause, Event, Mark};
+pub use codel_core::Mark;
+pub use event::{Cause, Event};
 pub use run::{Answer, Outcome, Ran, run_steps};
 pub use sched::{MAX_ACCEPTED, MAX_MOMENT, Sched};
 pub use step::{Admitted, CloseFault, Memory, MomentFault, Refusal, Sent, Step};

@@ -1,10 +1,11 @@
 ghost use Rattle.std.specs.Prelude.{◌≡◌, ◌+◌, ◌<◌, [], Some, None, IfOk, IfErr, MatchResult, OnOk, OnErr, length};
 ghost use Rattle.sched_core.specs.State.{moment_fault_of, Tests};
 
-use crate::event::{Event, Mark};
+use crate::event::Event;
 use crate::journal::Journal;
 use crate::step::{Admitted, CloseFault, Memory, MomentFault, Refusal, Sent};
 use crate::totals::Totals;
+use codel_core::Mark;
 use packet_core::{Packet, Waiting};
 use std::alloc::Global;
 use std::collections::VecDeque;

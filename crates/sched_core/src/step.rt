@@ -2,7 +2,7 @@ ghost use Rattle.std.specs.Prelude.{◌≡◌};
 ghost use Rattle.sched_core.specs.declared.step.Refusal.TheVariants.{Moment, Memory};
 ghost use Rattle.sched_core.specs.declared.step.CloseFault.TheVariants as close_fault;
 
-use crate::event::Mark;
+use codel_core::Mark;
 use packet_core::Packet;
 use std::alloc::{AllocError, AllocFailed};
 

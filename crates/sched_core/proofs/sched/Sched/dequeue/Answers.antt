@@ -1,7 +1,7 @@
 use Rattle.std.proofs.Common.{[], ◌∷◌, Some, option_map, refl, ap, subst}
 use Rattle.sched_core.specs.declared.event.Event.TheVariants.{Sent}
 use Rattle.sched_core.specs.declared.step.Refusal.TheVariants.{Moment}
-use Rattle.sched_core.specs.declared.event.Mark.TheVariants.{NoMark}
+use Rattle.codel_core.specs.declared.served.Mark.TheVariants.{NoMark}
 use Rattle.sched_core.specs.Kept.{IsBookKept, standing_of}
 use Rattle.sched_core.proofs.KeptSteps.{kept_sends, kept_idles}
 use Rattle.sched_core.proofs.Refusals.{dequeue_next}
