@@ -1,4 +1,4 @@
-use super::expect_fault;
+use super::{WORDS, expect_fault, expect_from};
 use std::process::Abort;
 use std::test::Fail;
 
@@ -134,6 +134,13 @@ fn the_first_fault_is_told(rt: HostRuntime) -> Result<(), Fail> {
         "LengthOutOfRange",
     )?;
     expect_fault(&rt, "deq,x\nfoo,0\n", "fqsim: row 1: BadNumber\n")
+}
+
+#[test]
+fn bytes_that_are_no_text_refused(rt: HostRuntime) -> Result<(), Fail> {
+    let faults = "fqsim: row 2: BadNumber\n";
+    let mut trace: &[u8] = b"deq,0\ndeq,\xff\n";
+    expect_from(&rt, &WORDS, &mut trace, 2, "", faults)
 }
 
 #[test]

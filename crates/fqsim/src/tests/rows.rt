@@ -57,6 +57,19 @@ fn a_last_row_needs_no_line_feed(rt: HostRuntime) -> Result<(), Fail> {
     )
 }
 
+#[test]
+fn other_ends_of_rows_are_read(rt: HostRuntime) -> Result<(), Fail> {
+    for trace in [
+        "enq,0,17,10.0.0.1,10.0.0.2,5000,53,1000,2\rdeq,0\r",
+        "enq,0,17,10.0.0.1,10.0.0.2,5000,53,1000,2\r\ndeq,0\r\n",
+        "\u{feff}enq,0,17,10.0.0.1,10.0.0.2,5000,53,1000,2\n\"deq\",\"0\"",
+        "enq,0,17,10.0.0.1,10.0.0.2,5000,53,1000,2\n\"deq\",\"0",
+    ] {
+        expect_report(&rt, trace, ONE_PACKET)?;
+    }
+    Ok(())
+}
+
 /// So many rows, and then a faulty one.
 fn fault_behind(alloc: Global, rows: u32) -> Result<Vec<u8>, AllocError> {
     let mut trace = Vec::new(alloc);
