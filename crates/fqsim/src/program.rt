@@ -1,7 +1,6 @@
 use std::alloc::{AllocError, AllocFailed, Global};
-use std::error::Error;
-use std::io::{ErrorKind, Read, Write};
-use std::{fmt, io};
+use std::io::{self, ErrorKind, Read, Write};
+use thiserror::Error;
 use trace_core::{RunFault, TraceFault, TraceFaultKind, run};
 
 /// The status of a run that went well.
@@ -14,11 +13,13 @@ const MACHINE_FAULT: u8 = 1;
 const INPUT_FAULT: u8 = 2;
 
 /// Why the program failed.
-#[derive(Clone, Copy, Debug, PartialEq, Eq)]
+#[derive(Clone, Copy, Debug, PartialEq, Eq, Error)]
 pub enum ProgramFault {
     /// The words aren't those that the program takes.
+    #[error("words")]
     Words,
     /// The run failed.
+    #[error("{0}")]
     Run(RunFault),
 }
 
@@ -40,17 +41,6 @@ fn trace_status(fault: TraceFault) -> u8 {
         _ => INPUT_FAULT,
     }
 }
-
-impl fmt::Display for ProgramFault {
-    fn fmt<W: fmt::Write>(&self, f: &mut fmt::Formatter<W>) -> fmt::Result {
-        match self {
-            ProgramFault::Words => f.write_str("words"),
-            ProgramFault::Run(fault) => write!(f, "{fault}"),
-        }
-    }
-}
-
-impl Error for ProgramFault {}
 
 impl From<RunFault> for ProgramFault {
     fn from(fault: RunFault) -> ProgramFault {

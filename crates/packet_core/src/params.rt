@@ -1,9 +1,8 @@
 ghost use Rattle.std.specs.Prelude.{◌≡◌, ◌↔◌, IsOk, IfOk, IfErr};
 ghost use Rattle.packet_core.specs.Params.{IsLimitInRange, IsFlowsInRange, IsQuantumInRange, IsMtuInRange, IsTargetInRange, IsIntervalInRange};
 
-use std::error::Error;
-use std::fmt;
 use std::marker::Model;
+use thiserror::Error;
 
 /// Whether packets are marked in place of being dropped (tc-fq_codel(8), `ecn` and `noecn`).
 #[derive(Clone, Copy, Debug, PartialEq, Eq, Hash)]
@@ -22,30 +21,27 @@ pub enum Classify {
 }
 
 /// A parameter that has a range, in the order in which the ranges are tested.
-#[derive(Clone, Copy, Debug, PartialEq, Eq, Hash)]
+#[derive(Clone, Copy, Debug, PartialEq, Eq, Hash, Error)]
 pub enum ParamName {
+    /// The most packets that wait.
+    #[error("limit")]
     Limit,
+    /// The number of flows.
+    #[error("flows")]
     Flows,
+    /// The bytes of a turn.
+    #[error("quantum")]
     Quantum,
+    /// The bytes behind a packet that aren't enough for a drop.
+    #[error("mtu")]
     Mtu,
+    /// The wait that isn't too long.
+    #[error("target")]
     Target,
+    /// The time before the first drop.
+    #[error("interval")]
     Interval,
 }
-
-impl fmt::Display for ParamName {
-    fn fmt<W: fmt::Write>(&self, f: &mut fmt::Formatter<W>) -> fmt::Result {
-        f.write_str(match self {
-            ParamName::Limit => "limit",
-            ParamName::Flows => "flows",
-            ParamName::Quantum => "quantum",
-            ParamName::Mtu => "mtu",
-            ParamName::Target => "target",
-            ParamName::Interval => "interval",
-        })
-    }
-}
-
-impl Error for ParamName {}
 
 /// The parameters as they are written down (tc-fq_codel(8)), in range or not.
 #[derive(Clone, Copy, Debug, PartialEq, Eq, Hash)]

@@ -11,32 +11,22 @@ use crate::reader::{TraceFault, read_trace};
 use crate::report::report_of;
 use sched_core::run_steps;
 use std::alloc::{AllocError, Global};
-use std::error::Error;
-use std::fmt;
 use std::io::{Read, Write};
+use thiserror::Error;
 
 /// Why a run gave no report, or not the whole of it.
-#[derive(Clone, Copy, Debug, PartialEq, Eq)]
+#[derive(Clone, Copy, Debug, PartialEq, Eq, Error)]
 pub enum RunFault {
     /// The trace wasn't read. Nothing was written.
+    #[error("{0}")]
     Trace(TraceFault),
     /// A growth was refused behind the reading of the trace. Nothing was written.
+    #[error("memory")]
     Memory,
     /// A write failed or took nothing. What was written is the front of the report.
+    #[error("write")]
     Write,
 }
-
-impl fmt::Display for RunFault {
-    fn fmt<W: fmt::Write>(&self, f: &mut fmt::Formatter<W>) -> fmt::Result {
-        match self {
-            RunFault::Trace(fault) => write!(f, "{fault}"),
-            RunFault::Memory => f.write_str("memory"),
-            RunFault::Write => f.write_str("write"),
-        }
-    }
-}
-
-impl Error for RunFault {}
 
 impl From<TraceFault> for RunFault {
     ghost from_gives = { λ fault r. r ≡ Trace fault };
