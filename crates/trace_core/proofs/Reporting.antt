@@ -1,8 +1,7 @@
 -- How a report's rows come one after the other.
-use Rattle.std.proofs.Common.{◌≡◌, ◌∙◌, ℕ, ◌+◌, ◌-◌, ◌<◌, List, [], ◌∷◌, ◌++◌, Option, Some, None, Result, Ok, Err, take, get_or, length, map, refl, sym, ap, arith, append_assoc, append-nil, length-append}
-use Rattle.std.specs.Prelude.{IfErr, IfOk, OnOk}
+use Rattle.std.proofs.Common.{◌≡◌, ◌∙◌, ℕ, ◌+◌, ◌-◌, ◌<◌, List, [], ◌∷◌, ◌++◌, Result, Ok, Err, take, get_or, length, map, refl, sym, ap, arith, append_assoc, append-nil, length-append}
+use Rattle.std.specs.Prelude.{IfOk, OnOk}
 use Rattle.std.specs.List.{flat_map, slice_range}
-use Rattle.std.specs.Io.KnownBytes.{Appends}
 use Rattle.std.proofs.Math.Seq.{drop-append_seam, take-append_seam}
 use Rattle.std.proofs.lemmas.Grind.{flat_map-append}
 use Rattle.std.proofs.lemmas.List.{map-append, take_more}
@@ -11,11 +10,6 @@ use Rattle.sched_core.specs.declared.event.Event.{Event}
 use Rattle.sched_core.specs.declared.run.Outcome.{Outcome}
 use Rattle.trace_core.specs.declared.report.Rows.{Rows}
 use Rattle.trace_core.specs.Report.{Adds, answer_rows, event_row, line_of, lines_of, made_rows}
-
--- what was written is known
-pub appends_known : (o : Option (List ℕ)) (xs bytes : List ℕ) → Appends (Some xs) o bytes → o ≡ Some (xs ++ bytes)
-appends_known None xs bytes h = absurd h
-appends_known (Some ys) xs bytes h = ap Some h
 
 -- rows more
 pub lines_more : (text : List ℕ) (rows more : List (List (List ℕ))) → text ++ lines_of (rows ++ more) ≡ (text ++ lines_of rows) ++ lines_of more
@@ -37,10 +31,6 @@ adds_behind (Err x) old mid new first more all a e b = tt
 pub if_ok : {A E : Type 0} (r : Result A E) (P Q : A → Type 0) → ((x : A) → P x → Q x) → IfOk r P → IfOk r Q
 if_ok (Ok x) P Q f p = f x p
 if_ok (Err e) P Q f p = tt
-
-pub if_err : {A E : Type 0} (r : Result A E) (P Q : E → Type 0) → ((e : E) → P e → Q e) → IfErr r P → IfErr r Q
-if_err (Ok x) P Q f p = tt
-if_err (Err e) P Q f p = f e p
 
 -- an event's row more
 pub event_more : (text : List ℕ) (events : List Event) (i : ℕ) (event : Event) → i < length events → event ≡ get_or events i event
