@@ -1,3 +1,9 @@
+ghost use Rattle.std.specs.Prelude.{◌≡◌, ◌≢◌, ◌≤◌, ℕ, List, IfErr, IfSome, OnOk};
+ghost use Rattle.std.specs.Io.KnownBytes.{Appends, Keeps};
+ghost use Rattle.trace_core.specs.Report.{IsReportOf};
+ghost use Rattle.trace_core.specs.declared.trace_run.RunFault.TheVariants as run_fault;
+ghost use Rattle.fqsim.specs.declared.program.ProgramFault.TheVariants as program_fault;
+
 use std::alloc::{AllocError, AllocFailed, Global};
 use std::io::{self, ErrorKind, Read, Write};
 use thiserror::Error;
@@ -25,7 +31,10 @@ pub enum ProgramFault {
 
 impl ProgramFault {
     /// The status that the program ends with: 2 for wrong words or a wrong trace, and else 1.
-    pub fn status(self) -> u8 {
+    pub fn status(self) -> u8
+        ensures range { (1 ≤ result) × (result ≤ 2) }
+        ensures write { self ≡ program_fault.Run run_fault.Write → result ≡ 1 }
+    {
         match self {
             ProgramFault::Words => INPUT_FAULT,
             ProgramFault::Run(RunFault::Trace(fault)) => trace_status(fault),
@@ -35,7 +44,9 @@ impl ProgramFault {
 }
 
 /// The status that goes with a fault of the trace.
-fn trace_status(fault: TraceFault) -> u8 {
+fn trace_status(fault: TraceFault) -> u8
+    ensures { (1 ≤ result) × (result ≤ 2) }
+{
     match fault.what {
         TraceFaultKind::Read | TraceFaultKind::Memory => MACHINE_FAULT,
         _ => INPUT_FAULT,
@@ -43,6 +54,8 @@ fn trace_status(fault: TraceFault) -> u8 {
 }
 
 impl From<RunFault> for ProgramFault {
+    ghost from_gives = { λ fault e. e ≡ program_fault.Run fault };
+
     fn from(fault: RunFault) -> ProgramFault {
         ProgramFault::Run(fault)
     }
@@ -78,7 +91,14 @@ pub fn program<R: Read, W: Write, F: Write>(
     reader: &mut R,
     writer: &mut W,
     faults: &mut F,
-) -> u8 {
+) -> u8
+    // With the status 0 the writer holds what it held, and then the report of the input.
+    ensures report { result ≡ 0 → IfSome (R.remaining reader.old) (λ bytes. (text : List ℕ) × IsReportOf bytes text × Appends (W.contents writer.old) (W.contents writer.new) text) }
+
+    // With the status 2, that of wrong words or a wrong trace, nothing was written.
+    ensures input_fault { result ≡ 2 → Keeps (W.contents writer.old) (W.contents writer.new) }
+    ensures range { result ≤ 2 }
+{
     match simulate(alloc, words, reader, writer) {
         Ok(()) => SUCCESS,
         Err(fault) => tell(faults, fault),
@@ -91,7 +111,10 @@ fn simulate<R: Read, W: Write>(
     words: &[&str],
     reader: &mut R,
     writer: &mut W,
-) -> Result<(), ProgramFault> {
+) -> Result<(), ProgramFault>
+    ensures report { OnOk result (IfSome (R.remaining reader.old) (λ bytes. (text : List ℕ) × IsReportOf bytes text × Appends (W.contents writer.old) (W.contents writer.new) text)) }
+    ensures untouched { IfErr result (λ fault. (fault ≢ program_fault.Run run_fault.Write) → Keeps (W.contents writer.old) (W.contents writer.new)) }
+{
     match words {
         ["trace", "classify", "dport", "flows", "1"] => Ok(run(alloc, reader, writer)?),
         _ => Err(ProgramFault::Words),
@@ -100,7 +123,10 @@ fn simulate<R: Read, W: Write>(
 
 /// Writes the line of a fault, and answers its status. Where the line can't be written there is nowhere left to
 /// say so, and it is passed over.
-pub fn tell<F: Write>(faults: &mut F, fault: ProgramFault) -> u8 {
+pub fn tell<F: Write>(faults: &mut F, fault: ProgramFault) -> u8
+    ensures range { (1 ≤ result) × (result ≤ 2) }
+    ensures write { fault ≡ program_fault.Run run_fault.Write → result ≡ 1 }
+{
     let _ = writeln!(faults, "fqsim: {fault}");
     fault.status()
 }
