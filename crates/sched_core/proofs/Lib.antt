@@ -10,6 +10,7 @@ pub mod Keeping
 pub mod Counting
 pub mod KeptSteps
 pub mod OneQueueLaws
+pub mod FairFifo
 pub mod Running
 pub mod Examples
 pub mod Refused

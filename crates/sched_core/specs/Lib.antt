@@ -3,6 +3,12 @@ pub use Rattle.packet_core.specs.Packets
 pub mod State
 pub mod Disciplines
 pub mod OneQueue
+pub mod FairQueues
+pub mod Turns
+pub mod FairQueueing
+pub mod Overflow
+pub mod Policies
+pub mod TurnBound
 pub mod Steps
 pub mod Runs
 pub mod Happened

@@ -4,6 +4,7 @@
 //! CoDel and no overflow.
 #![tactic(auto)]
 
+mod account;
 mod event;
 mod journal;
 pub mod laws;

@@ -1,0 +1,3 @@
+pub mod Fattest
+pub mod FlowLists
+pub mod Pulling
