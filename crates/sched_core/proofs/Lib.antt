@@ -11,6 +11,9 @@ pub mod Counting
 pub mod KeptSteps
 pub mod OneQueueLaws
 pub mod FairFifo
+pub mod Quanta
+pub mod Turns
+pub mod Chains
 pub mod Running
 pub mod Examples
 pub mod Refused
