@@ -14,6 +14,7 @@ pub mod FairFifo
 pub mod Quanta
 pub mod Turns
 pub mod Chains
+pub mod NewFirst
 pub mod Running
 pub mod Examples
 pub mod Refused

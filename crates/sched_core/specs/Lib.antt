@@ -9,6 +9,7 @@ pub mod FairQueueing
 pub mod Overflow
 pub mod Policies
 pub mod TurnBound
+pub mod NewFlows
 pub mod Steps
 pub mod Runs
 pub mod Happened
