@@ -15,7 +15,7 @@ use Rattle.codel_core.specs.Queue.{bytes_of, IsLateBefore, IsLate, HasCome, IsDr
 use Rattle.codel_core.specs.Schedule.{spacing_of, drop_moment, entered}
 use Rattle.codel_core.specs.Spacing.{IsSpacing}
 use Rattle.codel_core.proofs.Spacings.{spacing_by}
-use Rattle.codel_core.specs.Verdict.{FirstAbove, given_up, stays, set, IsDropped, Stops, leaves, waits, marks, Verdict, nothing, first_mark, first_drop, drops, served, Leaves, Serves}
+use Rattle.codel_core.specs.Verdict.{FirstAbove, given_up, stays, set, IsDropped, Stops, leaves, waits, marks, Verdict, nothing, first_mark, first_drop, drops, Decides, served, Leaves, Serves}
 
 -- a line whose head is missing is empty
 pub nothing_left : {X : Type 0} (q : List X) → None ≡ slice_get q 0 → q ≡ []
@@ -129,8 +129,10 @@ gives_nothing items pulled taken p now old line line' sink e l =
     record {
       drops = 0;
       mark = NoMark;
-      verdict = nothing (λ d. early d.0) refl refl refl;
-      first_above = given_up early refl;
+      decides = record {
+        verdict = nothing (λ d. early d.0) refl refl refl;
+        first_above = given_up early refl;
+      };
       given = ap (option_map (served NoMark)) e;
       left = l;
     }
@@ -149,8 +151,10 @@ gives_first items pulled taken p now old state line line' sink head answer dropp
     record {
       drops = 0;
       mark = NoMark;
-      verdict = nothing (λ d. let t : droppable ≡ true = j.droppable.1 d in cc) refl refl (ap (λ (s : CodelState). record s { dropping = false }) rest);
-      first_above = j.fate;
+      decides = record {
+        verdict = nothing (λ d. let t : droppable ≡ true = j.droppable.1 d in cc) refl refl (ap (λ (s : CodelState). record s { dropping = false }) rest);
+        first_above = j.fate;
+      };
       given = ap Some told ∙ ap (option_map (served NoMark)) is;
       left = l;
     }
@@ -183,8 +187,10 @@ gives_first_marked items pulled taken p now old state new line line' sink head a
     record {
       drops = 0;
       mark = CodelMark;
-      verdict = first_mark d (sym (ap (λ (s : CodelState). s.dropping) rest) ∙ not_dropping) at_place refl refl (entered_from p now old state new rest e);
-      first_above = subst (λ (o : Option ℕ). FirstAbove (IsLate p now (items line) 0) p.interval now old.first_above o) f j.fate;
+      decides = record {
+        verdict = first_mark d (sym (ap (λ (s : CodelState). s.dropping) rest) ∙ not_dropping) at_place refl refl (entered_from p now old state new rest e);
+        first_above = subst (λ (o : Option ℕ). FirstAbove (IsLate p now (items line) 0) p.interval now old.first_above o) f j.fate;
+      };
       given = ap Some told ∙ ap (option_map (served CodelMark)) is;
       left = l;
     }
@@ -219,8 +225,10 @@ gives_second items pulled taken p now old state state' new line line' sink sink'
     record {
       drops = 1;
       mark = NoMark;
-      verdict = first_drop d (sym (ap (λ (s : CodelState). s.dropping) rest) ∙ not_dropping) (not_markable p (items line) 0 head may is may_is cannot) refl refl (entered_from p now old state' new both e);
-      first_above = subst (λ (o : Option ℕ). FirstAbove (IsLate p now (items line) 1) p.interval now old.first_above o) f j'.fate;
+      decides = record {
+        verdict = first_drop d (sym (ap (λ (s : CodelState). s.dropping) rest) ∙ not_dropping) (not_markable p (items line) 0 head may is may_is cannot) refl refl (entered_from p now old state' new both e);
+        first_above = subst (λ (o : Option ℕ). FirstAbove (IsLate p now (items line) 1) p.interval now old.first_above o) f j'.fate;
+      };
       given = ap Some told ∙ ap (option_map (served NoMark)) next_is;
       left = l;
     }
@@ -331,11 +339,13 @@ gives_undroppable items pulled taken p now old state state' line line' line'' si
     record {
       drops = k + 1;
       mark = NoMark;
-      verdict = drops m.first m.dropping (is_dropped items pulled taken p now old state line line' sink sink' k head may m due may_is cannot)
-          (leaves (λ d. let t : droppable ≡ true = j.droppable.1 d in cc) refl
-          (ap (λ (s : CodelState). record s { dropping = false }) all
-          ∙ (λ x. record old { first_above = state'.first_above; dropping = false; count = counts x; drop_next = drop_moment p.interval old (place x) })));
-      first_above = j.fate;
+      decides = record {
+        verdict = drops m.first m.dropping (is_dropped items pulled taken p now old state line line' sink sink' k head may m due may_is cannot)
+            (leaves (λ d. let t : droppable ≡ true = j.droppable.1 d in cc) refl
+            (ap (λ (s : CodelState). record s { dropping = false }) all
+            ∙ (λ x. record old { first_above = state'.first_above; dropping = false; count = counts x; drop_next = drop_moment p.interval old (place x) })));
+        first_above = j.fate;
+      };
       given = ap Some told ∙ ap (option_map (served NoMark)) next_is;
       left = l;
     }
@@ -359,10 +369,12 @@ gives_undue items pulled taken p now old state line line' sink sink' k head answ
     record {
       drops = k;
       mark = NoMark;
-      verdict = drops m.first m.dropping m.dropped
-          (waits m.droppable (omega arith) refl
-          (m.state_is ∙ (λ x. record old { first_above = back x; count = old.count + k; drop_next = drop_moment p.interval old k })));
-      first_above = unmoved (IsLate p now (items line) k) p.interval now old.first_above state.first_above m.droppable.0 m.droppable.1 same;
+      decides = record {
+        verdict = drops m.first m.dropping m.dropped
+            (waits m.droppable (omega arith) refl
+            (m.state_is ∙ (λ x. record old { first_above = back x; count = old.count + k; drop_next = drop_moment p.interval old k })));
+        first_above = unmoved (IsLate p now (items line) k) p.interval now old.first_above state.first_above m.droppable.0 m.droppable.1 same;
+      };
       given = ap Some told ∙ ap (option_map (served NoMark)) m.head_is;
       left = m.left;
     }
@@ -386,11 +398,13 @@ gives_marked items pulled taken p now old state line line' sink sink' k head ans
     record {
       drops = k;
       mark = CodelMark;
-      verdict = drops m.first m.dropping m.dropped
-          (marks m.droppable (omega arith) at_place refl
-          (ap (λ (s : CodelState). record s { count = s.count + 1; drop_next = s.drop_next + r }) m.state_is
-          ∙ (λ x. record old { first_above = back x; count = old.count + k + 1; drop_next = moments x })));
-      first_above = unmoved (IsLate p now (items line) k) p.interval now old.first_above state.first_above m.droppable.0 m.droppable.1 same;
+      decides = record {
+        verdict = drops m.first m.dropping m.dropped
+            (marks m.droppable (omega arith) at_place refl
+            (ap (λ (s : CodelState). record s { count = s.count + 1; drop_next = s.drop_next + r }) m.state_is
+            ∙ (λ x. record old { first_above = back x; count = old.count + k + 1; drop_next = moments x })));
+        first_above = unmoved (IsLate p now (items line) k) p.interval now old.first_above state.first_above m.droppable.0 m.droppable.1 same;
+      };
       given = ap Some told ∙ ap (option_map (served CodelMark)) m.head_is;
       left = m.left;
     }
