@@ -53,7 +53,7 @@ next_taken q k w e =
     rw add-one (take-suc q k w (slice_get_within q k w (sym e)) ∙ ap (λ (x : Waiting). take k q ++ x ∷ []) get)
 
 -- what holds below k and at k holds below k + 1
-below_next : (P : ℕ → Type 0) (k : ℕ) → ((j : ℕ) → j < k → P j) → P k → (j : ℕ) → j < k + 1 → P j
+pub below_next : (P : ℕ → Type 0) (k : ℕ) → ((j : ℕ) → j < k → P j) → P k → (j : ℕ) → j < k + 1 → P j
 below_next P k before at j h =
     elim (leb_tells (j + 1) k) [
       | inl t ↦ before j (omega arith)
