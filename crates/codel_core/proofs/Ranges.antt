@@ -1,5 +1,5 @@
 -- The numbers of a state stay in range from one serve to the next.
-use Rattle.std.proofs.Common.{◌≡◌, ℕ, zero, suc, ◌+◌, ◌-◌, ◌*◌, ◌<◌, ◌≤◌, Bool, true, false, ◌⊎◌, inl, inr, List, [], length, drop, ap, arith, nat_lt, ◌∙◌}
+use Rattle.std.proofs.Common.{◌≡◌, ℕ, zero, suc, ◌+◌, ◌-◌, ◌*◌, ◌<◌, ◌≤◌, Bool, true, false, ◌⊎◌, inl, inr, List, length, drop, ap, arith, nat_lt, ◌∙◌}
 use Rattle.std.specs.Prelude.{max, nat_le, ◌&&◌, if◌then◌else◌}
 use Rattle.std.proofs.lemmas.List.{length-drop}
 use Rattle.packet_core.specs.declared.packet.Waiting.{Waiting}
@@ -7,7 +7,7 @@ use Rattle.packet_core.specs.declared.params.ParamFields.{ParamFields}
 use Rattle.codel_core.specs.declared.served.Mark.{Mark}
 use Rattle.codel_core.specs.declared.state.CodelState.{CodelState}
 use Rattle.codel_core.specs.Schedule.{greatest_root, spacing_of, drop_moment, resumed_count, entered, StaysInRange}
-use Rattle.codel_core.specs.Verdict.{IsDropped, Stops, leaves, waits, marks, Verdict, nothing, first_mark, first_drop, drops}
+use Rattle.codel_core.specs.Verdict.{Stops, leaves, waits, marks, Verdict, nothing, first_mark, first_drop, drops}
 use Rattle.codel_core.proofs.Turns.{below_next}
 use Rattle.codel_core.proofs.VerdictLaws.{one_behind, within}
 

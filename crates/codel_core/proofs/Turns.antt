@@ -2,12 +2,11 @@
 use Rattle.std.proofs.Common.{◌≡◌, ℕ, zero, suc, ◌+◌, ◌-◌, ◌<◌, ◌≤◌, ◌↔◌, Bool, true, false, List, [], ◌∷◌, ◌++◌, length, take, drop, Option, Some, None, inl, inr, refl, sym, ap, subst, ◌∙◌, arith, add-one}
 use Rattle.std.specs.Prelude.{slice_get, option_map, IsSomeAnd, IsTrue}
 use Rattle.std.proofs.Math.Seq.{take-suc}
-use Rattle.std.proofs.lemmas.List.{drop-drop, length-drop}
+use Rattle.std.proofs.lemmas.List.{drop-drop}
 use Rattle.std.proofs.lemmas.Option.{slice_get_within, get_or_from_slice_get}
 use Rattle.std.proofs.lemmas.Bool.Decides.{leb_tells}
 use Rattle.packet_core.specs.declared.packet.Waiting.{Waiting}
 use Rattle.packet_core.specs.declared.params.ParamFields.{ParamFields}
-use Rattle.codel_core.specs.declared.served.Mark.{Mark}
 use Rattle.codel_core.specs.declared.served.Mark.TheVariants.{NoMark, CodelMark}
 use Rattle.codel_core.specs.declared.served.Served.{Served}
 use Rattle.codel_core.specs.declared.state.CodelState.{CodelState}
@@ -15,7 +14,7 @@ use Rattle.codel_core.specs.Queue.{bytes_of, IsLateBefore, IsLate, HasCome, IsDr
 use Rattle.codel_core.specs.Schedule.{spacing_of, drop_moment, entered}
 use Rattle.codel_core.specs.Spacing.{IsSpacing}
 use Rattle.codel_core.proofs.Spacings.{spacing_by}
-use Rattle.codel_core.specs.Verdict.{FirstAbove, given_up, stays, set, IsDropped, Stops, leaves, waits, marks, Verdict, nothing, first_mark, first_drop, drops, Decides, served, Leaves, Serves}
+use Rattle.codel_core.specs.Verdict.{FirstAbove, given_up, stays, set, IsDropped, leaves, waits, marks, nothing, first_mark, first_drop, drops, served, Leaves, Serves}
 
 -- a line whose head is missing is empty
 pub nothing_left : {X : Type 0} (q : List X) → None ≡ slice_get q 0 → q ≡ []
