@@ -1,8 +1,6 @@
 use Rattle.std.specs.Prelude.{ℕ, ◌≤◌}
 use Rattle.packet_core.specs.declared.params.ParamFields.{ParamFields}
-use Rattle.packet_core.specs.declared.params.EcnUse.{EcnUse}
 use Rattle.packet_core.specs.declared.params.EcnUse.TheVariants.{Mark}
-use Rattle.packet_core.specs.declared.params.Classify.{Classify}
 use Rattle.packet_core.specs.declared.params.Classify.TheVariants.{Dport}
 use Rattle.packet_core.specs.declared.params.ParamName.{ParamName}
 use Rattle.packet_core.specs.declared.params.ParamName.TheVariants.{Limit, Flows, Quantum, Mtu, Target, Interval}
