@@ -10,25 +10,11 @@ use Rattle.packet_core.specs.declared.params.ParamFields.{ParamFields}
 use Rattle.codel_core.specs.declared.served.Mark.TheVariants.{NoMark, CodelMark}
 use Rattle.codel_core.specs.declared.served.Served.{Served}
 use Rattle.codel_core.specs.declared.state.CodelState.{CodelState}
-use Rattle.codel_core.specs.Queue.{bytes_of, IsLateBefore, IsLate, HasCome, IsDroppable, IsMarkableAt, is_markable}
+use Rattle.codel_core.specs.Queue.{IsLateBefore, IsLate, HasCome, IsDroppable, IsMarkableAt, is_markable}
 use Rattle.codel_core.specs.Schedule.{spacing_of, drop_moment, entered}
 use Rattle.codel_core.specs.Spacing.{IsSpacing}
 use Rattle.codel_core.proofs.Spacings.{spacing_by}
 use Rattle.codel_core.specs.Verdict.{FirstAbove, given_up, stays, set, IsDropped, leaves, waits, marks, nothing, first_mark, first_drop, drops, served, Leaves, Serves}
-
--- a line whose head is missing is empty
-pub nothing_left : {X : Type 0} (q : List X) → None ≡ slice_get q 0 → q ≡ []
-nothing_left [] e = refl
-nothing_left (x ∷ xs) e = cc
-
-pub not_empty : {X : Type 0} (q : List X) (x : X) → Some x ≡ slice_get q 0 → q ≡ [] → ⊥
-not_empty [] x e n = cc
-not_empty (y ∷ ys) x e n = cc
-
--- where bytes wait, a packet waits
-pub some_behind : (q : List Waiting) (n : ℕ) → n < bytes_of q → None ≡ slice_get q 0 → ⊥
-some_behind [] n h e = omega arith
-some_behind (w ∷ ws) n h e = cc
 
 -- a head was pulled, so the line was longer
 pub was_longer : {X : Type 0} (q : List X) (x : X) → Some x ≡ slice_get q 0 → length (drop 1 q) + 1 ≡ length q
@@ -116,25 +102,6 @@ kept p now q k old new f d =
       | stays late t is e ↦ e
       | set late is e ↦ absurd (unset_not_come old now d.1 is)
     ]
-
--- an empty line
-pub gives_nothing : {A B : Type 0} (items : A → List Waiting) (pulled : A → ℕ → A → Type 0) (taken : B → List Waiting → B → Type 0)
-    (p : ParamFields) (now : ℕ) (old : CodelState) (line line' : A) (sink : B)
-    → None ≡ slice_get (items line) 0
-    → Leaves items pulled taken 0 line sink line' sink
-    → Serves items pulled taken p now old line sink None (record old { first_above = None; dropping = false }) line' sink
-gives_nothing items pulled taken p now old line line' sink e l =
-    let early : IsLate p now (items line) 0 → ⊥ = λ h. subst (λ (o : Option Waiting). IsSomeAnd o (λ w. IsLateBefore p now w (drop 1 (items line)))) (sym e) h in
-    record {
-      drops = 0;
-      mark = NoMark;
-      decides = record {
-        verdict = nothing (λ d. early d.0) refl refl refl;
-        first_above = given_up early refl;
-      };
-      given = ap (option_map (served NoMark)) e;
-      left = l;
-    }
 
 -- the first packet isn't droppable
 pub gives_first : {A B : Type 0} (items : A → List Waiting) (pulled : A → ℕ → A → Type 0) (taken : B → List Waiting → B → Type 0)
@@ -242,30 +209,6 @@ pub record Midway {A B : Type 0} (items : A → List Waiting) (pulled : A → �
   pub first : IsDroppable p now (items line) old.first_above 0
   pub dropping : old.dropping ≡ true
   pub state_is : state ≡ record old { count = old.count + k; drop_next = drop_moment p.interval old k }
-
--- the first packet is droppable, and the queue drops
-pub begins : {A B : Type 0} (items : A → List Waiting) (pulled : A → ℕ → A → Type 0) (taken : B → List Waiting → B → Type 0)
-    (p : ParamFields) (now : ℕ) (old state : CodelState) (line line' : A) (sink : B) (head : Waiting) (droppable : Bool)
-    → Some head ≡ slice_get (items line) 0
-    → Leaves items pulled taken 0 line sink line' sink
-    → Judged p now (items line) 0 old.first_above state.first_above droppable
-    → droppable ≡ true
-    → state ≡ record old { first_above = state.first_above }
-    → state.dropping ≡ true
-    → Midway items pulled taken p now old line sink 0 head state line' sink
-begins items pulled taken p now old state line line' sink head droppable is l j holds rest dropping =
-    let d : IsDroppable p now (items line) old.first_above 0 = j.droppable.0 holds in
-    let same : state.first_above ≡ old.first_above = kept p now (items line) 0 old.first_above state.first_above j.fate d in
-    let count : old.count ≡ old.count + 0 = omega arith in
-    record {
-      left = l;
-      head_is = is;
-      droppable = d;
-      dropped = λ j h. absurd (omega arith);
-      first = d;
-      dropping = sym (ap (λ (s : CodelState). s.dropping) rest) ∙ dropping;
-      state_is = rest ∙ (λ i. record old { first_above = same i; count = count i });
-    }
 
 -- the packet in hand is one to drop
 is_dropped : {A B : Type 0} (items : A → List Waiting) (pulled : A → ℕ → A → Type 0) (taken : B → List Waiting → B → Type 0)
