@@ -3,3 +3,5 @@ pub mod Quotients
 pub mod Examples
 pub mod Spacings
 pub mod Turns
+pub mod VerdictLaws
+pub mod Ranges

@@ -2,34 +2,19 @@
 use Rattle.std.proofs.Common.{◌≡◌, ℕ, zero, suc, ◌+◌, ◌-◌, ◌<◌, ◌≤◌, ◌↔◌, Bool, true, false, List, [], ◌∷◌, ◌++◌, length, take, drop, Option, Some, None, inl, inr, refl, sym, ap, subst, ◌∙◌, arith, add-one}
 use Rattle.std.specs.Prelude.{slice_get, option_map, IsSomeAnd, IsTrue}
 use Rattle.std.proofs.Math.Seq.{take-suc}
-use Rattle.std.proofs.lemmas.List.{drop-drop, length-drop}
+use Rattle.std.proofs.lemmas.List.{drop-drop}
 use Rattle.std.proofs.lemmas.Option.{slice_get_within, get_or_from_slice_get}
 use Rattle.std.proofs.lemmas.Bool.Decides.{leb_tells}
 use Rattle.packet_core.specs.declared.packet.Waiting.{Waiting}
 use Rattle.packet_core.specs.declared.params.ParamFields.{ParamFields}
-use Rattle.codel_core.specs.declared.served.Mark.{Mark}
 use Rattle.codel_core.specs.declared.served.Mark.TheVariants.{NoMark, CodelMark}
 use Rattle.codel_core.specs.declared.served.Served.{Served}
 use Rattle.codel_core.specs.declared.state.CodelState.{CodelState}
-use Rattle.codel_core.specs.Queue.{bytes_of, IsLateBefore, IsLate, HasCome, IsDroppable, IsMarkableAt, is_markable}
+use Rattle.codel_core.specs.Queue.{IsLateBefore, IsLate, HasCome, IsDroppable, IsMarkableAt, is_markable}
 use Rattle.codel_core.specs.Schedule.{spacing_of, drop_moment, entered}
 use Rattle.codel_core.specs.Spacing.{IsSpacing}
 use Rattle.codel_core.proofs.Spacings.{spacing_by}
-use Rattle.codel_core.specs.Verdict.{FirstAbove, given_up, stays, set, IsDropped, Stops, leaves, waits, marks, Verdict, nothing, first_mark, first_drop, drops, served, Leaves, Serves}
-
--- a line whose head is missing is empty
-pub nothing_left : {X : Type 0} (q : List X) → None ≡ slice_get q 0 → q ≡ []
-nothing_left [] e = refl
-nothing_left (x ∷ xs) e = cc
-
-pub not_empty : {X : Type 0} (q : List X) (x : X) → Some x ≡ slice_get q 0 → q ≡ [] → ⊥
-not_empty [] x e n = cc
-not_empty (y ∷ ys) x e n = cc
-
--- where bytes wait, a packet waits
-pub some_behind : (q : List Waiting) (n : ℕ) → n < bytes_of q → None ≡ slice_get q 0 → ⊥
-some_behind [] n h e = omega arith
-some_behind (w ∷ ws) n h e = cc
+use Rattle.codel_core.specs.Verdict.{FirstAbove, given_up, stays, set, IsDropped, leaves, waits, marks, nothing, first_mark, first_drop, drops, served, Leaves, Serves}
 
 -- a head was pulled, so the line was longer
 pub was_longer : {X : Type 0} (q : List X) (x : X) → Some x ≡ slice_get q 0 → length (drop 1 q) + 1 ≡ length q
@@ -53,7 +38,7 @@ next_taken q k w e =
     rw add-one (take-suc q k w (slice_get_within q k w (sym e)) ∙ ap (λ (x : Waiting). take k q ++ x ∷ []) get)
 
 -- what holds below k and at k holds below k + 1
-below_next : (P : ℕ → Type 0) (k : ℕ) → ((j : ℕ) → j < k → P j) → P k → (j : ℕ) → j < k + 1 → P j
+pub below_next : (P : ℕ → Type 0) (k : ℕ) → ((j : ℕ) → j < k → P j) → P k → (j : ℕ) → j < k + 1 → P j
 below_next P k before at j h =
     elim (leb_tells (j + 1) k) [
       | inl t ↦ before j (omega arith)
@@ -118,23 +103,6 @@ kept p now q k old new f d =
       | set late is e ↦ absurd (unset_not_come old now d.1 is)
     ]
 
--- an empty line
-pub gives_nothing : {A B : Type 0} (items : A → List Waiting) (pulled : A → ℕ → A → Type 0) (taken : B → List Waiting → B → Type 0)
-    (p : ParamFields) (now : ℕ) (old : CodelState) (line line' : A) (sink : B)
-    → None ≡ slice_get (items line) 0
-    → Leaves items pulled taken 0 line sink line' sink
-    → Serves items pulled taken p now old line sink None (record old { first_above = None; dropping = false }) line' sink
-gives_nothing items pulled taken p now old line line' sink e l =
-    let early : IsLate p now (items line) 0 → ⊥ = λ h. subst (λ (o : Option Waiting). IsSomeAnd o (λ w. IsLateBefore p now w (drop 1 (items line)))) (sym e) h in
-    record {
-      drops = 0;
-      mark = NoMark;
-      verdict = nothing (λ d. early d.0) refl refl refl;
-      first_above = given_up early refl;
-      given = ap (option_map (served NoMark)) e;
-      left = l;
-    }
-
 -- the first packet isn't droppable
 pub gives_first : {A B : Type 0} (items : A → List Waiting) (pulled : A → ℕ → A → Type 0) (taken : B → List Waiting → B → Type 0)
     (p : ParamFields) (now : ℕ) (old state : CodelState) (line line' : A) (sink : B) (head : Waiting) (answer : Served) (droppable : Bool)
@@ -149,8 +117,10 @@ gives_first items pulled taken p now old state line line' sink head answer dropp
     record {
       drops = 0;
       mark = NoMark;
-      verdict = nothing (λ d. let t : droppable ≡ true = j.droppable.1 d in cc) refl refl (ap (λ (s : CodelState). record s { dropping = false }) rest);
-      first_above = j.fate;
+      decides = record {
+        verdict = nothing (λ d. let t : droppable ≡ true = j.droppable.1 d in cc) refl refl (ap (λ (s : CodelState). record s { dropping = false }) rest);
+        first_above = j.fate;
+      };
       given = ap Some told ∙ ap (option_map (served NoMark)) is;
       left = l;
     }
@@ -183,8 +153,10 @@ gives_first_marked items pulled taken p now old state new line line' sink head a
     record {
       drops = 0;
       mark = CodelMark;
-      verdict = first_mark d (sym (ap (λ (s : CodelState). s.dropping) rest) ∙ not_dropping) at_place refl refl (entered_from p now old state new rest e);
-      first_above = subst (λ (o : Option ℕ). FirstAbove (IsLate p now (items line) 0) p.interval now old.first_above o) f j.fate;
+      decides = record {
+        verdict = first_mark d (sym (ap (λ (s : CodelState). s.dropping) rest) ∙ not_dropping) at_place refl refl (entered_from p now old state new rest e);
+        first_above = subst (λ (o : Option ℕ). FirstAbove (IsLate p now (items line) 0) p.interval now old.first_above o) f j.fate;
+      };
       given = ap Some told ∙ ap (option_map (served CodelMark)) is;
       left = l;
     }
@@ -219,8 +191,10 @@ gives_second items pulled taken p now old state state' new line line' sink sink'
     record {
       drops = 1;
       mark = NoMark;
-      verdict = first_drop d (sym (ap (λ (s : CodelState). s.dropping) rest) ∙ not_dropping) (not_markable p (items line) 0 head may is may_is cannot) refl refl (entered_from p now old state' new both e);
-      first_above = subst (λ (o : Option ℕ). FirstAbove (IsLate p now (items line) 1) p.interval now old.first_above o) f j'.fate;
+      decides = record {
+        verdict = first_drop d (sym (ap (λ (s : CodelState). s.dropping) rest) ∙ not_dropping) (not_markable p (items line) 0 head may is may_is cannot) refl refl (entered_from p now old state' new both e);
+        first_above = subst (λ (o : Option ℕ). FirstAbove (IsLate p now (items line) 1) p.interval now old.first_above o) f j'.fate;
+      };
       given = ap Some told ∙ ap (option_map (served NoMark)) next_is;
       left = l;
     }
@@ -235,30 +209,6 @@ pub record Midway {A B : Type 0} (items : A → List Waiting) (pulled : A → �
   pub first : IsDroppable p now (items line) old.first_above 0
   pub dropping : old.dropping ≡ true
   pub state_is : state ≡ record old { count = old.count + k; drop_next = drop_moment p.interval old k }
-
--- the first packet is droppable, and the queue drops
-pub begins : {A B : Type 0} (items : A → List Waiting) (pulled : A → ℕ → A → Type 0) (taken : B → List Waiting → B → Type 0)
-    (p : ParamFields) (now : ℕ) (old state : CodelState) (line line' : A) (sink : B) (head : Waiting) (droppable : Bool)
-    → Some head ≡ slice_get (items line) 0
-    → Leaves items pulled taken 0 line sink line' sink
-    → Judged p now (items line) 0 old.first_above state.first_above droppable
-    → droppable ≡ true
-    → state ≡ record old { first_above = state.first_above }
-    → state.dropping ≡ true
-    → Midway items pulled taken p now old line sink 0 head state line' sink
-begins items pulled taken p now old state line line' sink head droppable is l j holds rest dropping =
-    let d : IsDroppable p now (items line) old.first_above 0 = j.droppable.0 holds in
-    let same : state.first_above ≡ old.first_above = kept p now (items line) 0 old.first_above state.first_above j.fate d in
-    let count : old.count ≡ old.count + 0 = omega arith in
-    record {
-      left = l;
-      head_is = is;
-      droppable = d;
-      dropped = λ j h. absurd (omega arith);
-      first = d;
-      dropping = sym (ap (λ (s : CodelState). s.dropping) rest) ∙ dropping;
-      state_is = rest ∙ (λ i. record old { first_above = same i; count = count i });
-    }
 
 -- the packet in hand is one to drop
 is_dropped : {A B : Type 0} (items : A → List Waiting) (pulled : A → ℕ → A → Type 0) (taken : B → List Waiting → B → Type 0)
@@ -331,11 +281,13 @@ gives_undroppable items pulled taken p now old state state' line line' line'' si
     record {
       drops = k + 1;
       mark = NoMark;
-      verdict = drops m.first m.dropping (is_dropped items pulled taken p now old state line line' sink sink' k head may m due may_is cannot)
-          (leaves (λ d. let t : droppable ≡ true = j.droppable.1 d in cc) refl
-          (ap (λ (s : CodelState). record s { dropping = false }) all
-          ∙ (λ x. record old { first_above = state'.first_above; dropping = false; count = counts x; drop_next = drop_moment p.interval old (place x) })));
-      first_above = j.fate;
+      decides = record {
+        verdict = drops m.first m.dropping (is_dropped items pulled taken p now old state line line' sink sink' k head may m due may_is cannot)
+            (leaves (λ d. let t : droppable ≡ true = j.droppable.1 d in cc) refl
+            (ap (λ (s : CodelState). record s { dropping = false }) all
+            ∙ (λ x. record old { first_above = state'.first_above; dropping = false; count = counts x; drop_next = drop_moment p.interval old (place x) })));
+        first_above = j.fate;
+      };
       given = ap Some told ∙ ap (option_map (served NoMark)) next_is;
       left = l;
     }
@@ -359,10 +311,12 @@ gives_undue items pulled taken p now old state line line' sink sink' k head answ
     record {
       drops = k;
       mark = NoMark;
-      verdict = drops m.first m.dropping m.dropped
-          (waits m.droppable (omega arith) refl
-          (m.state_is ∙ (λ x. record old { first_above = back x; count = old.count + k; drop_next = drop_moment p.interval old k })));
-      first_above = unmoved (IsLate p now (items line) k) p.interval now old.first_above state.first_above m.droppable.0 m.droppable.1 same;
+      decides = record {
+        verdict = drops m.first m.dropping m.dropped
+            (waits m.droppable (omega arith) refl
+            (m.state_is ∙ (λ x. record old { first_above = back x; count = old.count + k; drop_next = drop_moment p.interval old k })));
+        first_above = unmoved (IsLate p now (items line) k) p.interval now old.first_above state.first_above m.droppable.0 m.droppable.1 same;
+      };
       given = ap Some told ∙ ap (option_map (served NoMark)) m.head_is;
       left = m.left;
     }
@@ -386,11 +340,13 @@ gives_marked items pulled taken p now old state line line' sink sink' k head ans
     record {
       drops = k;
       mark = CodelMark;
-      verdict = drops m.first m.dropping m.dropped
-          (marks m.droppable (omega arith) at_place refl
-          (ap (λ (s : CodelState). record s { count = s.count + 1; drop_next = s.drop_next + r }) m.state_is
-          ∙ (λ x. record old { first_above = back x; count = old.count + k + 1; drop_next = moments x })));
-      first_above = unmoved (IsLate p now (items line) k) p.interval now old.first_above state.first_above m.droppable.0 m.droppable.1 same;
+      decides = record {
+        verdict = drops m.first m.dropping m.dropped
+            (marks m.droppable (omega arith) at_place refl
+            (ap (λ (s : CodelState). record s { count = s.count + 1; drop_next = s.drop_next + r }) m.state_is
+            ∙ (λ x. record old { first_above = back x; count = old.count + k + 1; drop_next = moments x })));
+        first_above = unmoved (IsLate p now (items line) k) p.interval now old.first_above state.first_above m.droppable.0 m.droppable.1 same;
+      };
       given = ap Some told ∙ ap (option_map (served CodelMark)) m.head_is;
       left = m.left;
     }

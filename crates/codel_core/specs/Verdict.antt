@@ -1,4 +1,4 @@
-use Rattle.std.specs.Prelude.{◌≡◌, ℕ, ◌+◌, ◌-◌, ◌<◌, ◌≤◌, List, drop, take, slice_get, Option, Some, None, option_map, Bool, true, false}
+use Rattle.std.specs.Prelude.{◌≡◌, ℕ, ◌+◌, ◌-◌, ◌<◌, ◌≤◌, List, drop, take, slice_get, Option, Some, None, option_map, true, false}
 use Rattle.packet_core.specs.declared.packet.Waiting.{Waiting}
 use Rattle.packet_core.specs.declared.packet.Ecn.{Ecn}
 use Rattle.packet_core.specs.declared.packet.Ecn.TheVariants.{Ce}
@@ -51,6 +51,12 @@ pub data Verdict (p : ParamFields) (now : ℕ) (q : List Waiting) (old : CodelSt
       → Stops p now q old k mark new
       → Verdict p now q old k mark new
 
+-- The verdict with the whole new state: k packets are dropped from the head of the queue, the one at place k is given with that mark
+-- (none where the queue is empty), and that is the state behind it.
+pub record Decides (p : ParamFields) (now : ℕ) (q : List Waiting) (old : CodelState) (k : ℕ) (mark : Mark) (new : CodelState) : Type 0 where
+  pub verdict : Verdict p now q old k mark new
+  pub first_above : FirstAbove (IsLate p now q k) p.interval now old.first_above new.first_above
+
 -- the ECN field that a packet is sent with: a mark is CE (RFC 3168, section 5)
 abbrev pub sent_ecn : Mark → Ecn → Ecn
 sent_ecn NoMark field = field
@@ -75,8 +81,7 @@ pub record Serves {A B : Type 0} (items : A → List Waiting) (pulled : A → �
   pub drops : ℕ
   -- the mark of the packet that is given
   pub mark : Mark
-  pub verdict : Verdict p now (items line) old drops mark new
-  pub first_above : FirstAbove (IsLate p now (items line) drops) p.interval now old.first_above new.first_above
+  pub decides : Decides p now (items line) old drops mark new
   pub given : answer ≡ option_map (served mark) (slice_get (items line) drops)
   pub left : Leaves items pulled taken drops line sink line' sink'
 

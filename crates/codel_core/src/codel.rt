@@ -1,5 +1,5 @@
 ghost use Rattle.std.specs.Prelude.{◌≡◌, ◌^◌, ◌<◌, ◌≤◌, ◌↔◌, [], length, IsNone, None, false};
-ghost use Rattle.codel_core.specs.Schedule.{IsStateInRange};
+ghost use Rattle.codel_core.specs.Schedule.{IsStateInRange, StaysInRange};
 ghost use Rattle.codel_core.specs.Verdict.{Serves};
 
 use crate::control_law::spacing;
@@ -73,6 +73,7 @@ impl Codel {
         requires numbers { IsStateInRange self.old }
         ensures none { IsNone result ↔ (L.items line.old ≡ []) }
         ensures served { Serves L.items L.pulled S.taken params.now now self.old line.old sink.old result self.new line.new sink.new }
+        ensures range { StaysInRange params.now.interval now self.old (length (L.items line.old)) self.new (length (L.items line.new)) }
     {
         serve_from(&mut self.state, line, now, params, sink)
     }

@@ -5,6 +5,7 @@
 mod codel;
 mod control_law;
 mod judge;
+mod laws;
 mod line;
 #[cfg(test)]
 mod lines;
@@ -19,6 +20,7 @@ mod wide;
 
 pub use codel::Codel;
 pub use control_law::spacing;
+pub use laws::one_verdict;
 pub use line::{DropSink, Pull};
 pub use served::{Mark, Served};
 pub use state::CodelState;

@@ -1,7 +1,23 @@
 use Rattle.std.specs.Prelude.{ℕ, ◌≤◌}
 use Rattle.packet_core.specs.declared.params.ParamFields.{ParamFields}
+use Rattle.packet_core.specs.declared.params.EcnUse.TheVariants.{Mark}
+use Rattle.packet_core.specs.declared.params.Classify.TheVariants.{Dport}
 use Rattle.packet_core.specs.declared.params.ParamName.{ParamName}
 use Rattle.packet_core.specs.declared.params.ParamName.TheVariants.{Limit, Flows, Quantum, Mtu, Target, Interval}
+
+-- the parameters where nothing else is said (tc-fq_codel(8)): packets, flows, bytes, bytes, microseconds, microseconds
+abbrev pub standard_fields : ParamFields
+standard_fields =
+    record {
+      limit = 10240;
+      flows = 1024;
+      quantum = 1514;
+      mtu = 1514;
+      target = 5000;
+      interval = 100000;
+      ecn = Mark;
+      classify = Dport;
+    }
 
 -- packets
 abbrev pub IsLimitInRange : ℕ → Type 0

@@ -65,11 +65,12 @@ pub struct ParamFields {
 }
 
 impl ParamFields {
-    ghost use Rattle.packet_core.specs.Params.{AreInRange};
+    ghost use Rattle.packet_core.specs.Params.{AreInRange, standard_fields};
 
     /// The parameters where nothing else is said (tc-fq_codel(8)).
     pub fn standard() -> ParamFields
-        ensures { AreInRange result }
+        ensures value { result ≡ standard_fields }
+        ensures range { AreInRange result }
     {
         ParamFields {
             limit: 10_240,

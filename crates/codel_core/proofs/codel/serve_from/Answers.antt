@@ -1,6 +1,6 @@
 use Rattle.std.proofs.Common.{◌≡◌, ◌+◌, true, false, Some, refl, ap}
 use Rattle.codel_core.specs.declared.state.CodelState.{CodelState}
-use Rattle.codel_core.proofs.Turns.{leaves_first, leaves_next, judged, kept, pulled_at, begins, goes_on, gives_first, gives_first_marked, gives_second, gives_marked, gives_undroppable, gives_undue, room_left}
+use Rattle.codel_core.proofs.Turns.{leaves_first, leaves_next, judged, kept, pulled_at, goes_on, gives_first, gives_first_marked, gives_second, gives_marked, gives_undroppable, gives_undue, room_left}
 use Rattle.codel_core.proofs.codel.serve_from.Goals as goal
 
 pub returns-then-not-judge-clause-served : goal.returns-then-not-judge-clause-served

@@ -1,0 +1,21 @@
+//! What holds of every verdict, as the contract of a function that does nothing.
+
+ghost use Rattle.std.specs.Prelude.{◌≡◌, ◌≢◌, ◌<◌, ◌⊎◌, ℕ, List, [], length, slice_get, IsSomeAnd};
+ghost use Rattle.packet_core.specs.declared.packet.Ecn.TheVariants as field;
+ghost use Rattle.packet_core.specs.declared.packet.Waiting.{Waiting};
+ghost use Rattle.packet_core.specs.declared.params.EcnUse.TheVariants as ecn;
+ghost use Rattle.packet_core.specs.declared.params.ParamFields.{ParamFields};
+ghost use Rattle.codel_core.specs.declared.served.Mark.{Mark};
+ghost use Rattle.codel_core.specs.declared.served.Mark.TheVariants.{CodelMark};
+ghost use Rattle.codel_core.specs.declared.state.CodelState.{CodelState};
+ghost use Rattle.codel_core.specs.Verdict.{Decides};
+
+/// On each queue, state and moment CoDel has one verdict, and no other. It gives a packet of each queue that
+/// isn't empty, and it marks a packet only where marks are made and the packet's sender takes part (RFC 8289,
+/// section 5; RFC 8290, section 4; RFC 3168, section 5).
+pub fn one_verdict()
+    ensures exists { (p : ParamFields) (now : ℕ) (q : List Waiting) (old : CodelState) → (k : ℕ) × (mark : Mark) × (new : CodelState) × Decides p now q old k mark new }
+    ensures unique { (p : ParamFields) (now : ℕ) (q : List Waiting) (old : CodelState) (k k' : ℕ) (mark mark' : Mark) (new new' : CodelState) → Decides p now q old k mark new → Decides p now q old k' mark' new' → (k ≡ k') × (mark ≡ mark') × (new ≡ new') }
+    ensures gives { (p : ParamFields) (now : ℕ) (q : List Waiting) (old : CodelState) (k : ℕ) (mark : Mark) (new : CodelState) → Decides p now q old k mark new → ((q ≡ []) × (k ≡ 0)) ⊎ (k < length q) }
+    ensures honest { (p : ParamFields) (now : ℕ) (q : List Waiting) (old : CodelState) (k : ℕ) (mark : Mark) (new : CodelState) → Decides p now q old k mark new → mark ≡ CodelMark → IsSomeAnd (slice_get q k) (λ w. (p.ecn ≡ ecn.Mark) × (w.packet.ecn ≢ field.NotEct)) }
+{}
