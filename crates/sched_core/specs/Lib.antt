@@ -10,6 +10,7 @@ pub mod Overflow
 pub mod Policies
 pub mod TurnBound
 pub mod NewFlows
+pub mod FqCodel
 pub mod Steps
 pub mod Runs
 pub mod Happened
