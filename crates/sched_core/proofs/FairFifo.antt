@@ -8,15 +8,11 @@ use Rattle.codel_core.specs.declared.served.Mark.{Mark}
 use Rattle.codel_core.specs.declared.state.CodelState.{CodelState}
 use Rattle.flow_core.specs.FlowLists.{queue_at}
 use Rattle.sched_core.specs.Disciplines.{Given, Batch, IsFifoByFlow, LeavesHead, LeaveHeads, MayHave, given_packet, heads, with_arrival}
-use Rattle.sched_core.specs.FairQueues.{FairQueues, Head}
+use Rattle.sched_core.specs.FairQueues.{FairQueues, Head, queue_of}
 use Rattle.sched_core.specs.FairQueueing.{Arrives, ServesNext, dropped_in, fair_queueing, given_in}
 use Rattle.sched_core.specs.Policies.{DropsFromHeads}
 use Rattle.sched_core.specs.Turns.{Chain, Policy, Service, Turn}
 use Rattle.sched_core.specs.Turns.Turn.{used_up, emptied_new, emptied_old, serving}
-
--- the queues by flow
-abbrev pub queue_of : FairQueues → ℕ → List Waiting
-queue_of s flow = queue_at s.lists flow
 
 opens : (flows flow : ℕ) → get_or {A = List Waiting} (replicate flows []) flow [] ≡ []
 opens flows flow =

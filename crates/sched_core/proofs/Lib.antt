@@ -15,6 +15,7 @@ pub mod Quanta
 pub mod Turns
 pub mod Chains
 pub mod NewFirst
+pub mod Sound
 pub mod FqCodel
 pub mod Running
 pub mod Examples

@@ -1,6 +1,7 @@
 use Rattle.std.specs.Prelude.{◌≡◌, ℕ, List, [], ◌∷◌, ◌++◌, length, get_or, set, replicate, pos, Option, Some, None}
 use Rattle.codel_core.specs.Verdict.{opening}
-use Rattle.flow_core.specs.FlowLists.{FlowLists, AreListed, no_flows}
+use Rattle.packet_core.specs.declared.packet.Waiting.{Waiting}
+use Rattle.flow_core.specs.FlowLists.{AreListed, FlowLists, no_flows, queue_at}
 use Rattle.sched_core.specs.declared.account.Account.{Account}
 
 -- What a fair scheduler keeps of its flows (RFC 8290, section 4): their queues, the list of new flows and the list of old flows, and an
@@ -16,6 +17,10 @@ new_account = record { credits = pos 0; codel = opening }
 -- so many flows, none of them in a list, and no packet
 abbrev pub no_queues : ℕ → FairQueues
 no_queues flows = record { lists = no_flows flows; accounts = replicate flows new_account }
+
+-- the packets that wait in that flow
+abbrev pub queue_of : FairQueues → ℕ → List Waiting
+queue_of s flow = queue_at s.lists flow
 
 -- the account of that flow
 abbrev pub account_at : FairQueues → ℕ → Account
