@@ -1,0 +1,5 @@
+pub mod Arrivals
+pub mod Fattest
+pub mod FlowLists
+pub mod Kept
+pub mod Pulling
