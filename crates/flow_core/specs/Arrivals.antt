@@ -2,7 +2,7 @@
 use Rattle.std.specs.Prelude.{ℕ, ◌==◌, List, filter, map}
 use Rattle.std.specs.List.{range_with_len}
 use Rattle.packet_core.specs.declared.packet.Waiting.{Waiting}
-use Rattle.flow_core.specs.declared.flows.Arrival.{Arrival}
+use Rattle.flow_core.specs.declared.arrivals.Arrival.{Arrival}
 
 -- the packets that came to a flow, in order
 abbrev pub queue_of : List Arrival → ℕ → List Waiting

@@ -1,10 +1,12 @@
 -- How the fields give what callers see, and what they keep.
-use Rattle.std.specs.Prelude.{ℕ, ◌+◌, ◌^◌, ◌<◌, ◌≤◌, ◌++◌, All, vec_capacity, vec_len}
+use Rattle.std.specs.Prelude.{◌+◌, ◌<◌, ◌≤◌, ◌++◌, All, vec_capacity, vec_len}
 use Rattle.packet_core.specs.Packets.{IsLengthInRange}
 use Rattle.flow_core.specs.declared.flows.Flows.TheInside.{Inside}
-use Rattle.flow_core.specs.declared.flows.TheConstants.{MAX_FLOWS, MAX_WAITING}
-use Rattle.flow_core.specs.FlowLists.{AreDistinct, Holding}
+use Rattle.flow_core.specs.declared.arrivals.TheConstants.{MAX_WAITING}
+use Rattle.flow_core.specs.declared.flows.TheConstants.{MAX_FLOWS}
+use Rattle.flow_core.specs.FlowLists.{Holding}
 use Rattle.flow_core.specs.Arrivals.{queues_of}
+use Rattle.flow_core.specs.Listed.{AreFlows}
 
 -- the flows as callers see them
 abbrev pub holding_of : Inside → Holding
@@ -26,7 +28,6 @@ pub record IsKept (f : Inside) : Type 0 where
   pub lengths : All (λ a. IsLengthInRange a.waiting.packet.len) f.arrivals.items
   pub few : vec_len f.arrivals ≤ MAX_WAITING
   pub room : vec_len f.arrivals + f.room ≤ vec_capacity f.arrivals
-  pub within : All (λ flow. flow < f.flows) (f.new_flows.items ++ f.old_flows.items)
-  pub once : AreDistinct (f.new_flows.items ++ f.old_flows.items)
+  pub listed : AreFlows f.flows (f.new_flows.items ++ f.old_flows.items)
   pub new_room : f.flows ≤ vec_capacity f.new_flows
   pub old_room : f.flows ≤ vec_capacity f.old_flows

@@ -3,6 +3,7 @@ ghost use Rattle.packet_core.specs.Packets.{IsLengthInRange};
 ghost use Rattle.flow_core.specs.Fattest.{IsFattest, bytes_at};
 ghost use Rattle.flow_core.specs.FlowLists.{AreListed, no_flows, queue_at, waiting_in, with_queue};
 
+use crate::arrivals::{Arrival, MAX_WAITING, bytes_of, first_of, len_of};
 use crate::line::Line;
 use packet_core::Waiting;
 use std::alloc::{AllocError, Global};
@@ -13,16 +14,6 @@ pub type Memory = AllocError;
 
 /// The most flows.
 pub const MAX_FLOWS: u32 = 65_536;
-
-/// The most packets that wait at once, in all flows together.
-pub const MAX_WAITING: u64 = 1 << 40;
-
-/// A packet that waits, and the flow that it came to.
-#[derive(Clone, Copy, Debug, PartialEq, Eq)]
-pub(crate) struct Arrival {
-    flow: u32,
-    waiting: Waiting,
-}
 
 /// The queues of all flows, the list of new flows and the list of old flows (RFC 8290, sections 4 and 5). A
 /// flow is called by its number, from 0. Room for pushes is taken ahead, so that only `try_new` and `reserve`
@@ -100,10 +91,7 @@ impl Flows {
         ensures head { result ≡ slice_get (queue_at self.old.lists flow) 0 }
         ensures rest { self.new ≡ record self.old { lists = with_queue self.old.lists flow (drop 1 (queue_at self.old.lists flow)) } }
     {
-        let place = self
-            .arrivals
-            .iter()
-            .position(|arrival| arrival.flow == flow)?;
+        let place = first_of(&self.arrivals, flow)?;
         Some(self.arrivals.remove(place).waiting)
     }
 
@@ -113,13 +101,7 @@ impl Flows {
         ensures value { result ≡ bytes_at self.now.lists.queues flow }
         ensures lengths { All (λ w. IsLengthInRange w.packet.len) (queue_at self.now.lists flow) }
     {
-        let mut bytes = 0;
-        for arrival in &self.arrivals {
-            if arrival.flow == flow {
-                bytes += u64::from(arrival.waiting.packet.len());
-            }
-        }
-        bytes
+        bytes_of(&self.arrivals, flow)
     }
 
     /// How many packets wait in a flow.
@@ -128,13 +110,7 @@ impl Flows {
         ensures value { result ≡ length (queue_at self.now.lists flow) }
         ensures size { result ≤ MAX_WAITING }
     {
-        let mut len = 0;
-        for arrival in &self.arrivals {
-            if arrival.flow == flow {
-                len += 1;
-            }
-        }
-        len
+        len_of(&self.arrivals, flow)
     }
 
     /// How many packets wait, in all flows together.

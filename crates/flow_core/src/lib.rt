@@ -4,8 +4,10 @@
 //! numbers, and a scan for the fattest flow.
 #![tactic(auto)]
 
+mod arrivals;
 mod flows;
 mod line;
 
-pub use flows::{Flows, MAX_FLOWS, MAX_WAITING, Memory};
+pub use arrivals::MAX_WAITING;
+pub use flows::{Flows, MAX_FLOWS, Memory};
 pub use line::Line;
