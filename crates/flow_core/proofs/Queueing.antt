@@ -179,3 +179,11 @@ found_goes arrivals i a flow found read =
     let at = position-Some (λ (b : Arrival). eqb b.flow flow) arrivals i a found in
     let goes = first_goes arrivals i a flow at.0 at.1 at.2 in
     rw read goes
+
+-- the packet at the head of its flow's queue goes
+pub queues_of-goes : (arrivals : List Arrival) (i : ℕ) (a : Arrival) (n flow : ℕ) → flow < n → Goes arrivals i a flow
+    → queues_of (remove arrivals i) n ≡ set (queues_of arrivals n) flow (drop 1 (get_or (queues_of arrivals n) flow []))
+queues_of-goes arrivals i a n flow within goes =
+    queues_of_one arrivals (remove arrivals i) n flow (drop 1 (get_or (queues_of arrivals n) flow []))
+    (sym (ap (λ (q : List Waiting). drop 1 q) (get_or-queues_of arrivals n flow within ∙ goes.own)))
+    goes.others
