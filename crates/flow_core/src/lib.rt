@@ -1,2 +1,13 @@
-//! The queues of all flows, the list of new flows and the list of old flows (RFC 8290, section 4).
+//! The queues of all flows, the list of new flows and the list of old flows (RFC 8290, sections 4 and 5).
+//!
+//! The body is the plain first one: one list of all waiting packets in order of arrival, two lists of flow
+//! numbers, and a scan for the fattest flow.
 #![tactic(auto)]
+
+mod arrivals;
+mod flows;
+mod line;
+
+pub use arrivals::MAX_WAITING;
+pub use flows::{Flows, MAX_FLOWS, Memory};
+pub use line::Line;

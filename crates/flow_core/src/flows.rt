@@ -1,0 +1,226 @@
+ghost use Rattle.std.specs.Prelude.{◌≡◌, ◌+◌, ◌^◌, ◌<◌, ◌≤◌, ◌↔◌, [], ◌∷◌, ◌++◌, All, Contains, IfOk, IfSome, IsNone, IsTrue, OnErr, OnOk, drop, length, slice_get, take};
+ghost use Rattle.packet_core.specs.Packets.{IsLengthInRange};
+ghost use Rattle.flow_core.specs.Fattest.{IsFattest, bytes_at};
+ghost use Rattle.flow_core.specs.FlowLists.{AreListed, no_flows, queue_at, waiting_in, with_queue};
+
+use crate::arrivals::{Arrival, MAX_WAITING, bytes_of, first_of, len_of};
+use crate::line::Line;
+use packet_core::Waiting;
+use std::alloc::{AllocError, Global};
+use std::marker::Model;
+
+/// Want of memory: a growth was refused.
+pub type Memory = AllocError;
+
+/// The most flows.
+pub const MAX_FLOWS: u32 = 65_536;
+
+/// The queues of all flows, the list of new flows and the list of old flows (RFC 8290, sections 4 and 5). A
+/// flow is called by its number, from 0. Room for pushes is taken ahead, so that only `try_new` and `reserve`
+/// take memory.
+#[derive(Debug, Drop)]
+pub struct Flows {
+    arrivals: Vec<Arrival>,
+    new_flows: Vec<u32>,
+    old_flows: Vec<u32>,
+    flows: u32,
+    room: u64,
+}
+
+impl Model for Flows {
+    ghost use Rattle.flow_core.specs.FlowLists.{Holding};
+
+    ghost Value = { Holding };
+
+    ghost use Rattle.flow_core.specs.Kept.{holding_of, IsKept};
+
+    ghost view = { holding_of };
+
+    ghost invariant = { IsKept };
+}
+
+impl Flows {
+    /// That many flows, from 1 to 65,536. Their queues and both lists are empty. Room for the lists is taken
+    /// here, so that no move of a flow takes memory.
+    pub fn try_new(alloc: Global, flows: u32) -> Result<Flows, Memory>
+        requires least { 1 ≤ flows }
+        requires most { flows ≤ MAX_FLOWS }
+        ensures { IfOk result (λ f. f.lists ≡ no_flows flows) }
+    {
+        Ok(Flows {
+            arrivals: Vec::new(alloc),
+            new_flows: Vec::with_capacity(alloc, flows as usize)?,
+            old_flows: Vec::with_capacity(alloc, flows as usize)?,
+            flows,
+            room: 0,
+        })
+    }
+
+    /// Takes memory for the next pushes, so many at least, into whatever flows. Room that is there stays.
+    pub fn reserve(&mut self, pushes: u64) -> Result<(), Memory>
+        requires { pushes ≤ MAX_WAITING }
+        ensures lists { self.new.lists ≡ self.old.lists }
+        ensures room { self.old.room ≤ self.new.room }
+        ensures ok { OnOk result (pushes ≤ self.new.room) }
+        ensures err { OnErr result (self.new ≡ self.old) }
+    {
+        self.arrivals.reserve(pushes as usize)?;
+        if self.room < pushes {
+            self.room = pushes;
+        }
+        Ok(())
+    }
+
+    /// A packet comes to the end of a flow's queue. It takes one of the room, and no memory.
+    pub fn push(&mut self, flow: u32, waiting: Waiting)
+        requires flow { flow < length self.old.lists.queues }
+        requires room { 0 < self.old.room }
+        requires size { waiting_in self.old.lists < MAX_WAITING }
+        ensures lists { self.new.lists ≡ with_queue self.old.lists flow (queue_at self.old.lists flow ++ waiting ∷ []) }
+        ensures room { self.new.room + 1 ≡ self.old.room }
+    {
+        // That its length is in range is seen here, once for all sums.
+        let _ = waiting.packet.len();
+        self.room -= 1;
+        self.arrivals.push_reserved(Arrival { flow, waiting });
+    }
+
+    /// Takes the packet at the head of a flow's queue. None where the flow is empty.
+    pub fn pop(&mut self, flow: u32) -> Option<Waiting>
+        requires { flow < length self.old.lists.queues }
+        ensures head { result ≡ slice_get (queue_at self.old.lists flow) 0 }
+        ensures rest { self.new ≡ record self.old { lists = with_queue self.old.lists flow (drop 1 (queue_at self.old.lists flow)) } }
+    {
+        let place = first_of(&self.arrivals, flow)?;
+        Some(self.arrivals.remove(place).waiting)
+    }
+
+    /// The lengths of the packets that wait in a flow, added up, in bytes.
+    pub fn bytes(&self, flow: u32) -> u64
+        requires { flow < length self.now.lists.queues }
+        ensures value { result ≡ bytes_at self.now.lists.queues flow }
+        ensures lengths { All (λ w. IsLengthInRange w.packet.len) (queue_at self.now.lists flow) }
+    {
+        bytes_of(&self.arrivals, flow)
+    }
+
+    /// How many packets wait in a flow.
+    pub fn len(&self, flow: u32) -> u64
+        requires { flow < length self.now.lists.queues }
+        ensures value { result ≡ length (queue_at self.now.lists flow) }
+        ensures size { result ≤ MAX_WAITING }
+    {
+        len_of(&self.arrivals, flow)
+    }
+
+    /// How many packets wait, in all flows together.
+    pub fn total_len(&self) -> u64
+        ensures value { result ≡ waiting_in self.now.lists }
+        ensures size { result ≤ MAX_WAITING }
+    {
+        self.arrivals.len() as u64
+    }
+
+    /// The flow with the most bytes, and of those that have as many the one of the least number. None where no
+    /// packet waits.
+    pub fn fattest(&self) -> Option<u32>
+        ensures none { IsNone result ↔ (waiting_in self.now.lists ≡ 0) }
+        ensures fattest { IfSome result (IsFattest self.now.lists.queues) }
+    {
+        let mut most = 0;
+        let mut fattest = None;
+        for flow in 0..self.flows {
+            let bytes = self.bytes(flow);
+            if most < bytes {
+                most = bytes;
+                fattest = Some(flow);
+            }
+        }
+        fattest
+    }
+
+    /// How many flows there are, from 1 to 65,536.
+    pub fn flows(&self) -> u32
+        ensures value { result ≡ length self.now.lists.queues }
+        ensures least { 1 ≤ result }
+        ensures most { result ≤ MAX_FLOWS }
+        ensures listed { AreListed self.now.lists }
+    {
+        self.flows
+    }
+
+    /// The flow at the head of the list of new flows. None where that list is empty.
+    pub fn head_new(&self) -> Option<u32>
+        ensures value { result ≡ slice_get self.now.lists.new_flows 0 }
+        ensures within { IfSome result (λ flow. flow < length self.now.lists.queues) }
+        ensures listed { AreListed self.now.lists }
+    {
+        self.new_flows.first().copied()
+    }
+
+    /// The flow at the head of the list of old flows. None where that list is empty.
+    pub fn head_old(&self) -> Option<u32>
+        ensures value { result ≡ slice_get self.now.lists.old_flows 0 }
+        ensures within { IfSome result (λ flow. flow < length self.now.lists.queues) }
+        ensures listed { AreListed self.now.lists }
+    {
+        self.old_flows.first().copied()
+    }
+
+    /// Whether a flow is in one of the lists.
+    pub fn listed(&self, flow: u32) -> bool
+        ensures value { IsTrue result ↔ Contains (self.now.lists.new_flows ++ self.now.lists.old_flows) flow }
+        ensures listed { AreListed self.now.lists }
+    {
+        self.new_flows.contains(&flow) || self.old_flows.contains(&flow)
+    }
+
+    /// A flow that is in no list comes to the end of the list of new flows (RFC 8290, section 4.1). It takes no
+    /// memory.
+    pub fn add_new(&mut self, flow: u32)
+        requires flow { flow < length self.old.lists.queues }
+        requires absent { ¬ Contains (self.old.lists.new_flows ++ self.old.lists.old_flows) flow }
+        ensures { self.new ≡ record self.old { lists = record self.old.lists { new_flows = self.old.lists.new_flows ++ flow ∷ [] } } }
+    {
+        self.new_flows.push_reserved(flow);
+    }
+
+    /// The first of the new flows becomes the last of the old ones (RFC 8290, section 4.2). It takes no memory.
+    pub fn new_to_old(&mut self)
+        requires { 0 < length self.old.lists.new_flows }
+        ensures { self.new ≡ record self.old { lists = record self.old.lists { new_flows = drop 1 self.old.lists.new_flows; old_flows = self.old.lists.old_flows ++ take 1 self.old.lists.new_flows } } }
+    {
+        let flow = self.new_flows.remove(0);
+        self.old_flows.push_reserved(flow);
+    }
+
+    /// The first of the old flows becomes the last of them (RFC 8290, section 4.2). It takes no memory.
+    pub fn rotate_old(&mut self)
+        requires { 0 < length self.old.lists.old_flows }
+        ensures { self.new ≡ record self.old { lists = record self.old.lists { old_flows = drop 1 self.old.lists.old_flows ++ take 1 self.old.lists.old_flows } } }
+    {
+        let flow = self.old_flows.remove(0);
+        self.old_flows.push_reserved(flow);
+    }
+
+    /// The first of the old flows leaves the list (RFC 8290, section 4.2). It takes no memory.
+    pub fn leave_old(&mut self)
+        requires { 0 < length self.old.lists.old_flows }
+        ensures { self.new ≡ record self.old { lists = record self.old.lists { old_flows = drop 1 self.old.lists.old_flows } } }
+    {
+        self.old_flows.remove(0);
+    }
+
+    /// A flow's queue as a line that CoDel pulls from. Once it is let go, the flow's queue is what the pulls
+    /// left, and all else is as it was.
+    pub fn line(&mut self, flow: u32) -> Line<'_>
+        requires { flow < length self.old.lists.queues }
+        ensures lends { result.flows.ghost_name ≡ self.entry.ghost_name }
+        ensures value { result.flows.now ≡ self.old }
+        ensures flow { result.flow ≡ flow }
+        ensures size { length (queue_at self.old.lists flow) ≤ MAX_WAITING }
+    {
+        let _ = &self.arrivals;
+        Line { flows: self, flow }
+    }
+}
