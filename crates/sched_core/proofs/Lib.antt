@@ -16,6 +16,7 @@ pub mod Turns
 pub mod Chains
 pub mod NewFirst
 pub mod Sound
+pub mod Waiting
 pub mod FqCodel
 pub mod Running
 pub mod Examples
