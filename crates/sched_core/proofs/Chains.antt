@@ -1,21 +1,19 @@
 -- Serving chains: from flows that are sound there is one and no other, and its length has a bound.
-use Rattle.std.proofs.Common.{◌≡◌, ◌≢◌, ℕ, zero, suc, ◌+◌, ◌<◌, ◌≤◌, List, [], ◌∷◌, ◌++◌, All, get_or, set, length, sum_by, Option, Some, None, ℤ, pos, ◌+ℤ◌, ◌≤ℤ◌, ◌<ℤ◌, refl, sym, ap, subst, ◌∙◌, inl, inr, ◌⊎◌, arith, append_assoc}
-use Rattle.std.specs.List.{AllByRecursion}
-use Rattle.std.proofs.lemmas.Bool.{cases_lt}
+use Rattle.std.proofs.Common.{◌≡◌, ◌≢◌, ℕ, zero, suc, ◌+◌, ◌<◌, ◌≤◌, List, [], ◌∷◌, ◌++◌, All, get_or, set, length, sum_by, Option, Some, None, ℤ, pos, ◌+ℤ◌, ◌≤ℤ◌, refl, sym, ap, subst, ◌∙◌, inl, inr, ◌⊎◌, arith, append_assoc}
 use Rattle.std.proofs.lemmas.Int.{ints}
 use Rattle.std.proofs.lemmas.List.{get_or-set_other, get_or-set_same, length-set}
-use Rattle.std.proofs.lemmas.List.Elements.{All-append, All-cons, All-head, All-nil, All-push, All-tail, recursion_from_All}
-use Rattle.std.proofs.lemmas.List.Sums.{sum_by-append, sum_by-cons, sum_by_push}
+use Rattle.std.proofs.lemmas.List.Elements.{All-cons, All-head, All-nil, All-push, All-tail, recursion_from_All}
+use Rattle.std.proofs.lemmas.List.Sums.{sum_by-cons, sum_by_push}
 use Rattle.flow_core.specs.FlowLists.{AreDistinct, AreListed}
 use Rattle.sched_core.specs.declared.account.Account.{Account}
-use Rattle.sched_core.specs.FairQueues.{AreSound, FairQueues, FlowList, Head, account_at, head_of, head_of_lists, new_account, to_old, unlisted}
+use Rattle.sched_core.specs.FairQueues.{AreSound, FairQueues, Head, account_at, head_of, head_of_lists, new_account, to_old, unlisted}
 use Rattle.sched_core.specs.FairQueues.FlowList.{new_list, old_list}
 use Rattle.sched_core.specs.Policies.{IsDecided}
 use Rattle.sched_core.specs.TurnBound.{AreQuantaOwed, quanta_owed, turns_at_most}
 use Rattle.sched_core.specs.Turns.{Chain, Policy, Service, Turn}
 use Rattle.sched_core.specs.Turns.Turn.{used_up, emptied_new, emptied_old, serving}
 use Rattle.sched_core.proofs.Lists.{ByRecursion-weaker, sum_by_agree_on}
-use Rattle.sched_core.proofs.Quanta.{none_owed, one_owed_less, owed_once, quanta_owed_is}
+use Rattle.sched_core.proofs.Quanta.{one_owed_less, owed_once, quanta_owed_is}
 use Rattle.sched_core.proofs.Turns.{turn_once, turn_there}
 
 -- a flow that goes to the end of a list of distinct flows

@@ -1,15 +1,13 @@
 -- A scheduler whose flows take turns is first in, first out by flow, whatever drops from the heads of its queues.
-use Rattle.std.proofs.Common.{◌≡◌, ℕ, zero, suc, ◌+◌, ◌<◌, Bool, true, false, List, [], ◌∷◌, ◌++◌, drop, take, eqb, get_or, set, length, replicate, Option, Some, None, slice_get, IfSome, refl, sym, ap, subst, ◌∙◌, inl, inr, arith, append_assoc, append-nil}
+use Rattle.std.proofs.Common.{◌≡◌, ℕ, zero, suc, ◌+◌, ◌<◌, List, [], ◌∷◌, ◌++◌, drop, take, eqb, get_or, set, length, replicate, Option, Some, None, slice_get, IfSome, refl, sym, ap, ◌∙◌, inl, inr, arith, append-nil}
 use Rattle.std.proofs.lemmas.Bool.{cases_eq, cases_lt, eq-eqb, ne_eqb, cases_Bool}
 use Rattle.std.proofs.lemmas.List.{get_or-set_same, get_or-set_other, get_or-replicate, get_or_past, length-replicate}
 use Rattle.packet_core.specs.declared.packet.FiveTuple.{FiveTuple}
 use Rattle.packet_core.specs.declared.packet.Waiting.{Waiting}
-use Rattle.codel_core.specs.declared.served.Mark.{Mark}
-use Rattle.codel_core.specs.declared.state.CodelState.{CodelState}
 use Rattle.flow_core.specs.FlowLists.{queue_at}
-use Rattle.sched_core.specs.Disciplines.{Given, Batch, IsFifoByFlow, LeavesHead, LeaveHeads, MayHave, given_packet, heads, with_arrival}
-use Rattle.sched_core.specs.FairQueues.{FairQueues, Head, queue_of}
-use Rattle.sched_core.specs.FairQueueing.{Arrives, ServesNext, dropped_in, fair_queueing, given_in}
+use Rattle.sched_core.specs.Disciplines.{IsFifoByFlow, LeavesHead, MayHave, given_packet, with_arrival}
+use Rattle.sched_core.specs.FairQueues.{FairQueues, queue_of}
+use Rattle.sched_core.specs.FairQueueing.{dropped_in, fair_queueing, given_in}
 use Rattle.sched_core.specs.Policies.{DropsFromHeads}
 use Rattle.sched_core.specs.Turns.{Chain, Policy, Service, Turn}
 use Rattle.sched_core.specs.Turns.Turn.{used_up, emptied_new, emptied_old, serving}

@@ -1,5 +1,5 @@
 -- CoDel and the overflow of the fattest flow are a policy that the laws hold of.
-use Rattle.std.proofs.Common.{◌≡◌, ◌≢◌, ℕ, zero, suc, ◌+◌, ◌<◌, ◌⊎◌, List, [], ◌∷◌, ◌++◌, drop, take, eqb, get_or, set, length, slice_get, IsSomeAnd, Some, refl, sym, ap, subst, ◌∙◌, inl, inr, arith, append-nil}
+use Rattle.std.proofs.Common.{◌≡◌, ◌≢◌, ℕ, zero, suc, ◌<◌, ◌⊎◌, List, [], ◌∷◌, drop, take, get_or, set, length, slice_get, IsSomeAnd, Some, refl, sym, ap, subst, inl, inr, arith, append-nil}
 use Rattle.std.proofs.lemmas.Bool.{cases_eq, eq-eqb, ne_eqb}
 use Rattle.std.proofs.lemmas.List.{get_or-set_other, get_or-set_same, length-set, take-append-drop}
 use Rattle.packet_core.specs.Params.{AreInRange}
@@ -11,10 +11,9 @@ use Rattle.codel_core.specs.Verdict.{Decides}
 use Rattle.codel_core.specs.declared.served.Mark.{Mark}
 use Rattle.codel_core.specs.declared.served.Mark.TheVariants.{NoMark, CodelMark}
 use Rattle.codel_core.specs.declared.state.CodelState.{CodelState}
-use Rattle.flow_core.specs.Fattest.{IsFattest}
-use Rattle.sched_core.specs.Disciplines.{Batch, LeaveHeads, MayHave, heads}
+use Rattle.sched_core.specs.Disciplines.{Batch, LeaveHeads, MayHave}
 use Rattle.sched_core.specs.FqCodel.{fq_codel_policy}
-use Rattle.sched_core.specs.Overflow.{Overflow, batch_of, batch_size}
+use Rattle.sched_core.specs.Overflow.{Overflow, batch_size}
 use Rattle.sched_core.specs.Overflow.Overflow.{fits, exceeds}
 use Rattle.sched_core.specs.Policies.{DropsFromHeads, IsDecided}
 

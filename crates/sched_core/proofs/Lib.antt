@@ -17,6 +17,7 @@ pub mod Chains
 pub mod NewFirst
 pub mod Sound
 pub mod Waiting
+pub mod FqCodelRuns
 pub mod FqCodel
 pub mod Running
 pub mod Examples

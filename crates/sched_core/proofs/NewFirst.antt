@@ -1,13 +1,12 @@
 -- New flows go first: a chain sends from the first of the new flows that has credits and a packet.
-use Rattle.std.proofs.Common.{◌≡◌, ◌≢◌, ℕ, zero, suc, ◌+◌, ◌<◌, ◌≤◌, List, [], ◌∷◌, ◌++◌, All, get_or, set, Option, Some, None, slice_get, pos, ◌<ℤ◌, ◌≤ℤ◌, refl, sym, ap, subst, ◌∙◌, inl, inr, arith}
+use Rattle.std.proofs.Common.{◌≡◌, ◌≢◌, ℕ, zero, suc, List, [], ◌∷◌, ◌++◌, get_or, set, Option, Some, None, slice_get, pos, ◌<ℤ◌, ◌≤ℤ◌, refl, sym, ap, subst, ◌∙◌, inl, inr, arith}
 use Rattle.std.specs.List.{AllByRecursion}
 use Rattle.std.proofs.lemmas.Int.{ints}
 use Rattle.std.proofs.lemmas.List.{get_or-set_other}
-use Rattle.std.proofs.lemmas.List.Elements.{All-head, All-tail, recursion_from_All}
-use Rattle.packet_core.specs.declared.packet.Waiting.{Waiting}
+use Rattle.std.proofs.lemmas.List.Elements.{recursion_from_All}
 use Rattle.flow_core.specs.FlowLists.{AreDistinct, queue_at}
 use Rattle.sched_core.specs.declared.account.Account.{Account}
-use Rattle.sched_core.specs.FairQueues.{AreSound, FairQueues, FlowList, Head, account_at, head_of, head_of_lists, new_account, to_old}
+use Rattle.sched_core.specs.FairQueues.{AreSound, FairQueues, Head, account_at, head_of, head_of_lists, new_account, to_old}
 use Rattle.sched_core.specs.FairQueues.FlowList.{new_list, old_list}
 use Rattle.sched_core.specs.NewFlows.{IsFirstReady, IsReady, SendsFrom}
 use Rattle.sched_core.specs.Policies.{IsDecided}

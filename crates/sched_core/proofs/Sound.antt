@@ -1,12 +1,12 @@
 -- The flows of a scheduler stay sound: each is listed once at most, and has an account.
-use Rattle.std.proofs.Common.{◌≡◌, ◌≢◌, ℕ, zero, suc, ◌+◌, ◌<◌, Bool, true, false, List, [], ◌∷◌, ◌++◌, All, get_or, set, length, replicate, eqb, Option, Some, None, MatchOption, pos, drop, refl, sym, ap, subst, ◌∙◌, inl, inr, arith, append_assoc}
+use Rattle.std.proofs.Common.{◌≡◌, ◌≢◌, ℕ, zero, suc, ◌+◌, ◌<◌, Bool, true, false, List, [], ◌∷◌, ◌++◌, All, length, replicate, eqb, Option, Some, None, MatchOption, pos, drop, refl, sym, ap, ◌∙◌, inl, inr, append_assoc}
 use Rattle.std.specs.List.{AllByRecursion, list_any}
-use Rattle.std.proofs.lemmas.Bool.{cases_Bool, cases_eq, eq-eqb, false≢true, ne_eqb}
+use Rattle.std.proofs.lemmas.Bool.{cases_Bool, cases_eq, eq-eqb, ne_eqb}
 use Rattle.std.proofs.lemmas.List.{length-replicate, length-set}
-use Rattle.std.proofs.lemmas.List.Elements.{All-append, All-cons, All-from_recursion, All-head, All-nil, All-tail, recursion_from_All}
+use Rattle.std.proofs.lemmas.List.Elements.{All-from_recursion, All-nil, recursion_from_All}
 use Rattle.packet_core.specs.declared.packet.FiveTuple.{FiveTuple}
 use Rattle.packet_core.specs.declared.packet.Waiting.{Waiting}
-use Rattle.flow_core.specs.FlowLists.{AreDistinct, AreListed, queue_at}
+use Rattle.flow_core.specs.FlowLists.{AreDistinct, queue_at}
 use Rattle.sched_core.specs.declared.account.Account.{Account}
 use Rattle.sched_core.specs.declared.step.Refusal.{Refusal}
 use Rattle.sched_core.specs.declared.step.Step.{Step}
@@ -14,11 +14,11 @@ use Rattle.sched_core.specs.declared.step.Step.TheVariants.{Enqueue, Dequeue, Cl
 use Rattle.sched_core.specs.declared.event.Event.{Event}
 use Rattle.sched_core.specs.declared.run.Answer.{Answer}
 use Rattle.sched_core.specs.declared.run.Answer.TheVariants as answer
-use Rattle.sched_core.specs.FairQueues.{AreSound, FairQueues, Head, account_at, new_account, no_queues}
-use Rattle.sched_core.specs.FairQueueing.{Arrives, ServesNext, fair_queueing, is_listed, with_flow_listed}
+use Rattle.sched_core.specs.FairQueues.{AreSound, FairQueues, account_at, new_account, no_queues}
+use Rattle.sched_core.specs.FairQueueing.{Arrives, fair_queueing, is_listed, with_flow_listed}
 use Rattle.sched_core.specs.Policies.{DropsFromHeads, IsDecided}
 use Rattle.sched_core.specs.Runs.{Made, Runs}
-use Rattle.sched_core.specs.State.{State, opening_state, refusal_of}
+use Rattle.sched_core.specs.State.{State, refusal_of}
 use Rattle.sched_core.specs.Steps.{Makes, Steps}
 use Rattle.sched_core.specs.Turns.{Chain, Policy, Service, Turn}
 use Rattle.sched_core.specs.Turns.Turn.{used_up, emptied_new, emptied_old, serving}

@@ -1,16 +1,14 @@
 -- One turn: from flows that are listed there is one, and no other.
-use Rattle.std.proofs.Common.{◌≡◌, ◌≢◌, ℕ, zero, suc, ◌+◌, ◌<◌, ◌≤◌, List, [], ◌∷◌, ◌++◌, All, drop, take, get_or, set, length, sum_by, Option, Some, None, slice_get, ℤ, pos, ◌+ℤ◌, ◌-ℤ◌, ◌≤ℤ◌, ◌<ℤ◌, refl, sym, ap, subst, ◌∙◌, inl, inr, ◌⊎◌, arith, append_assoc}
+use Rattle.std.proofs.Common.{◌≡◌, ℕ, ◌+◌, List, [], ◌∷◌, drop, take, set, Option, Some, None, slice_get, pos, ◌+ℤ◌, ◌-ℤ◌, ◌≤ℤ◌, ◌<ℤ◌, refl, sym, ap, subst, ◌∙◌, arith}
 use Rattle.std.proofs.lemmas.Int.{ints, by_lt_z}
-use Rattle.std.proofs.lemmas.List.{get_or-set_other, get_or-set_same, length-set}
 use Rattle.packet_core.specs.declared.packet.Waiting.{Waiting}
 use Rattle.codel_core.specs.declared.served.Mark.{Mark}
 use Rattle.codel_core.specs.declared.state.CodelState.{CodelState}
-use Rattle.flow_core.specs.FlowLists.{AreDistinct, AreListed, FlowLists, queue_at, with_queue}
-use Rattle.sched_core.specs.declared.account.Account.{Account}
-use Rattle.sched_core.specs.FairQueues.{AreSound, FairQueues, FlowList, Head, account_at, head_of, new_account, to_old, unlisted}
+use Rattle.flow_core.specs.FlowLists.{FlowLists, queue_at, with_queue}
+use Rattle.sched_core.specs.FairQueues.{FairQueues, FlowList, Head, account_at, head_of, to_old, unlisted}
 use Rattle.sched_core.specs.FairQueues.FlowList.{new_list, old_list}
 use Rattle.sched_core.specs.Policies.{IsDecided}
-use Rattle.sched_core.specs.Turns.{Chain, Policy, Service, Turn}
+use Rattle.sched_core.specs.Turns.{Policy, Service, Turn}
 use Rattle.sched_core.specs.Turns.Turn.{used_up, emptied_new, emptied_old, serving}
 
 -- two turns of one state do the same
@@ -75,8 +73,7 @@ module _ (p : Policy) (decided : IsDecided p) (now : ℕ) (old : FairQueues) whe
       let found'' = subst (λ (h : Head). slice_get (queue_at old.lists h.flow) drops' ≡ Some w') (sym same) found' in
       let agree = decided.once now (queue_at old.lists head.flow) ((account_at old head.flow).codel) drops drops' mark mark' codel codel' verdict verdict'' in
       let given : Some w ≡ Some w' = sym found ∙ ap (slice_get (queue_at old.lists head.flow)) agree.0 ∙ found'' in
-      let w_same : w ≡ w' = cc in
-      (
+      let w_same : w ≡ w' = cc in (
         λ i. service_of (same i) (agree.0 i) (agree.1 i) (w_same i),
         λ i. served (same i) (agree.0 i) (agree.2 i) (w_same i),
       )

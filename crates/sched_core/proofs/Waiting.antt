@@ -1,13 +1,11 @@
 -- What waits is what has no fate: the numbers of packets and bytes in the queues are those of the journal.
-use Rattle.std.proofs.Common.{◌≡◌, ◌≢◌, ℕ, zero, suc, ◌+◌, ◌<◌, ◌≤◌, Bool, true, false, not, List, [], ◌∷◌, map, filter, eqb, get_or, length, sum_by, refl, sym, ap, ◌∙◌, inl, inr, arith}
+use Rattle.std.proofs.Common.{◌≡◌, ◌≢◌, ℕ, suc, ◌+◌, ◌<◌, ◌≤◌, Bool, true, false, not, List, [], ◌∷◌, map, filter, eqb, get_or, length, sum_by, refl, ap, ◌∙◌, inl, inr, arith}
 use Rattle.std.specs.List.{AllByRecursion}
 use Rattle.std.proofs.lemmas.Bool.{cases_Bool, cases_eq, eq-eqb, ne_eqb}
 use Rattle.std.proofs.lemmas.List.Sums.{sum_by-cons}
 use Rattle.packet_core.specs.declared.packet.Waiting.{Waiting}
-use Rattle.codel_core.specs.Queue.{bytes_of}
 use Rattle.sched_core.specs.Happened.{Acceptance, waiting_of}
-use Rattle.sched_core.specs.Statistics.{length_of}
-use Rattle.sched_core.proofs.Lists.{ByRecursion-both, ByRecursion-filter, ByRecursion-passes, ByRecursion-weaker, ByRecursion-all, filter_within, length_as_sum, sum_by_agree_on}
+use Rattle.sched_core.proofs.Lists.{ByRecursion-both, ByRecursion-filter, ByRecursion-passes, ByRecursion-weaker, ByRecursion-all, filter_within}
 
 -- the elements that pass and those that don't
 sum_by_parts : {X : Type 0} (f : X → ℕ) (p : X → Bool) (xs : List X) → sum_by f xs ≡ sum_by f (filter p xs) + sum_by f (filter (λ x. not (p x)) xs)

@@ -1,8 +1,8 @@
-use Rattle.std.specs.Prelude.{◌≡◌, ℕ, ◌+◌, ◌<◌, Bool, List, [], ◌∷◌, ◌++◌, length, set, Option, Some, None, pos, if◌then◌else◌, ◌==◌}
+use Rattle.std.specs.Prelude.{◌≡◌, ℕ, ◌<◌, Bool, List, [], ◌∷◌, ◌++◌, length, set, Option, Some, None, pos, if◌then◌else◌, ◌==◌}
 use Rattle.std.specs.List.{list_any}
 use Rattle.packet_core.specs.declared.packet.FiveTuple.{FiveTuple}
 use Rattle.packet_core.specs.declared.packet.Waiting.{Waiting}
-use Rattle.flow_core.specs.FlowLists.{FlowLists, queue_at, with_queue}
+use Rattle.flow_core.specs.FlowLists.{queue_at}
 use Rattle.sched_core.specs.Disciplines.{Discipline, Given, Batch, packets_of}
 use Rattle.sched_core.specs.FairQueues.{FairQueues, account_at, no_queues}
 use Rattle.sched_core.specs.Turns.{Policy, Service, Chain}

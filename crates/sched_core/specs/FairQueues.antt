@@ -1,4 +1,4 @@
-use Rattle.std.specs.Prelude.{◌≡◌, ℕ, List, [], ◌∷◌, ◌++◌, length, get_or, set, replicate, pos, Option, Some, None}
+use Rattle.std.specs.Prelude.{◌≡◌, ℕ, List, [], ◌∷◌, ◌++◌, length, get_or, replicate, pos, Option, Some, None}
 use Rattle.codel_core.specs.Verdict.{opening}
 use Rattle.packet_core.specs.declared.packet.Waiting.{Waiting}
 use Rattle.flow_core.specs.FlowLists.{AreListed, FlowLists, no_flows, queue_at}

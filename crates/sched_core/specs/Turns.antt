@@ -1,11 +1,10 @@
-use Rattle.std.specs.Prelude.{◌≡◌, ℕ, zero, suc, ◌+◌, ◌<◌, ◌≤◌, ◌⊎◌, List, [], ◌∷◌, ◌++◌, drop, take, set, slice_get, Option, Some, None, pos, ◌+ℤ◌, ◌-ℤ◌, ◌≤ℤ◌, ◌<ℤ◌}
+use Rattle.std.specs.Prelude.{◌≡◌, ℕ, zero, suc, ◌+◌, ◌⊎◌, List, [], drop, take, set, slice_get, Option, Some, None, pos, ◌+ℤ◌, ◌-ℤ◌, ◌≤ℤ◌, ◌<ℤ◌}
 use Rattle.packet_core.specs.declared.packet.Waiting.{Waiting}
 use Rattle.codel_core.specs.declared.served.Mark.{Mark}
 use Rattle.codel_core.specs.declared.state.CodelState.{CodelState}
-use Rattle.flow_core.specs.FlowLists.{FlowLists, queue_at, with_queue}
-use Rattle.sched_core.specs.declared.account.Account.{Account}
+use Rattle.flow_core.specs.FlowLists.{queue_at, with_queue}
 use Rattle.sched_core.specs.Disciplines.{Given, Batch}
-use Rattle.sched_core.specs.FairQueues.{FairQueues, Head, FlowList, account_at, head_of, to_old, unlisted}
+use Rattle.sched_core.specs.FairQueues.{FairQueues, Head, account_at, head_of, to_old, unlisted}
 use Rattle.sched_core.specs.FairQueues.FlowList.{new_list, old_list}
 
 -- What a fair scheduler leaves to others: how many bytes a flow may send in its turn; which packets of a flow's queue are dropped when
@@ -30,9 +29,9 @@ pub data Turn (p : Policy) (now : ℕ) (old : FairQueues) (service : Option Serv
       → (account_at old head.flow).credits ≤ℤ pos 0
       → service ≡ None
       → new ≡ record {
-          lists = to_old old head;
-          accounts = set old.accounts head.flow (record (account_at old head.flow) { credits = (account_at old head.flow).credits +ℤ pos p.quantum });
-        }
+        lists = to_old old head;
+        accounts = set old.accounts head.flow (record (account_at old head.flow) { credits = (account_at old head.flow).credits +ℤ pos p.quantum });
+      }
       → Turn p now old service new
   -- It is a new flow without packets: it goes to the end of the list of old flows.
   emptied_new : (head : Head) → head_of old ≡ Some head → head.from ≡ new_list
@@ -41,9 +40,9 @@ pub data Turn (p : Policy) (now : ℕ) (old : FairQueues) (service : Option Serv
       → (mark : Mark) → (codel : CodelState) → p.verdict now [] (account_at old head.flow).codel 0 mark codel
       → service ≡ None
       → new ≡ record {
-          lists = to_old old head;
-          accounts = set old.accounts head.flow (record (account_at old head.flow) { codel = codel });
-        }
+        lists = to_old old head;
+        accounts = set old.accounts head.flow (record (account_at old head.flow) { codel = codel });
+      }
       → Turn p now old service new
   -- It is an old flow without packets: it leaves the lists.
   emptied_old : (head : Head) → head_of old ≡ Some head → head.from ≡ old_list
@@ -52,9 +51,9 @@ pub data Turn (p : Policy) (now : ℕ) (old : FairQueues) (service : Option Serv
       → (mark : Mark) → (codel : CodelState) → p.verdict now [] (account_at old head.flow).codel 0 mark codel
       → service ≡ None
       → new ≡ record {
-          lists = unlisted old head;
-          accounts = set old.accounts head.flow (record (account_at old head.flow) { codel = codel });
-        }
+        lists = unlisted old head;
+        accounts = set old.accounts head.flow (record (account_at old head.flow) { codel = codel });
+      }
       → Turn p now old service new
   -- It is served: packets are dropped from its head by the verdict, the next one leaves, and its length is taken from the credits.
   serving : (head : Head) → head_of old ≡ Some head
@@ -63,9 +62,9 @@ pub data Turn (p : Policy) (now : ℕ) (old : FairQueues) (service : Option Serv
       → (w : Waiting) → slice_get (queue_at old.lists head.flow) drops ≡ Some w
       → service ≡ Some (record { dropped = take drops (queue_at old.lists head.flow); given = record { waiting = w; mark = mark } })
       → new ≡ record {
-          lists = with_queue old.lists head.flow (drop (drops + 1) (queue_at old.lists head.flow));
-          accounts = set old.accounts head.flow (record { credits = (account_at old head.flow).credits -ℤ pos w.packet.len; codel = codel });
-        }
+        lists = with_queue old.lists head.flow (drop (drops + 1) (queue_at old.lists head.flow));
+        accounts = set old.accounts head.flow (record { credits = (account_at old head.flow).credits -ℤ pos w.packet.len; codel = codel });
+      }
       → Turn p now old service new
 
 -- A serving chain of so many turns: they end with the first one that serves, or where both lists are empty.

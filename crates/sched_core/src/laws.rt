@@ -1,26 +1,70 @@
-//! What holds of every run, as contracts of functions that do nothing.
+//! What holds of every run of FQ-CoDel, whatever its parameters and its seed, as contracts of functions that
+//! do nothing.
 
-ghost use Rattle.std.specs.Prelude.{◌≡◌, List, []};
+ghost use Rattle.std.specs.Prelude.{◌≡◌, ℕ, ◌≤◌, ◌<◌, List, [], Option, sum_by, ℤ};
 ghost use Rattle.std.specs.Bool.{Decides};
 ghost use Rattle.packet_core.specs.Packets.{same_tuple};
+ghost use Rattle.packet_core.specs.Params.{AreInRange};
+ghost use Rattle.packet_core.specs.declared.flow.Seed.{Seed};
 ghost use Rattle.packet_core.specs.declared.packet.FiveTuple.{FiveTuple};
-ghost use Rattle.packet_core.specs.declared.packet.Waiting.{Waiting};
+ghost use Rattle.packet_core.specs.declared.params.ParamFields.{ParamFields};
+ghost use Rattle.codel_core.specs.Queue.{bytes_of};
+ghost use Rattle.flow_core.specs.FlowLists.{waiting_in};
 ghost use Rattle.sched_core.specs.declared.step.Step.{Step};
+ghost use Rattle.sched_core.specs.FairQueues.{AreSound, FairQueues, no_queues, queue_of};
+ghost use Rattle.sched_core.specs.FqCodel.{fq_codel, fq_codel_policy};
 ghost use Rattle.sched_core.specs.JournalLaws.{JournalLaws, WaitWithoutFate};
-ghost use Rattle.sched_core.specs.OneQueue.{one_queue, queue_of};
+ghost use Rattle.sched_core.specs.NewFlows.{IsFirstReady, SendsFrom};
 ghost use Rattle.sched_core.specs.Runs.{Made, Runs, given_by_made, journal_of, steps_made};
 ghost use Rattle.sched_core.specs.State.{State, opening_state};
+ghost use Rattle.sched_core.specs.Statistics.{statistics};
+ghost use Rattle.sched_core.specs.TurnBound.{AreQuantaOwed, quanta_owed, turns_at_most};
+ghost use Rattle.sched_core.specs.Turns.{Chain, Service};
+
+use codel_core::one_verdict;
 
 /// Of every list of steps: each accepted packet is sent once, dropped once or still queued, the packets of one
 /// five-tuple leave in the order of acceptance, nothing is accepted after the close, and marks are honest.
 pub fn journal_laws()
     ensures tuples { (a b : FiveTuple) → Decides (same_tuple a b) (a ≡ b) }
-    ensures laws { (steps : List Step) (made : List Made) (new : State (List Waiting)) → Runs one_queue (opening_state []) steps made new → JournalLaws one_queue.flow_of (journal_of made) }
-    ensures waiting { (steps : List Step) (made : List Made) (new : State (List Waiting)) → Runs one_queue (opening_state []) steps made new → WaitWithoutFate (queue_of new.queues) (journal_of made) }
-{}
+    ensures laws { (p : ParamFields) (seed : Seed) → AreInRange p → (steps : List Step) (made : List Made) (new : State FairQueues) → Runs (fq_codel p seed) (opening_state (no_queues p.flows)) steps made new → JournalLaws (fq_codel p seed).flow_of (journal_of made) }
+    ensures waiting { (p : ParamFields) (seed : Seed) → AreInRange p → (steps : List Step) (made : List Made) (new : State FairQueues) → Runs (fq_codel p seed) (opening_state (no_queues p.flows)) steps made new → WaitWithoutFate (queue_of new.queues) (journal_of made) }
+{
+    one_verdict();
+}
 
 /// Taking the refused steps out of a list changes neither the state that its run leaves nor the journal.
 pub fn refused_steps_change_nothing()
-    ensures state { (steps : List Step) (made : List Made) (new : State (List Waiting)) → Runs one_queue (opening_state []) steps made new → Runs one_queue (opening_state []) (steps_made steps made) (given_by_made made) new }
-    ensures journal { (steps : List Step) (made : List Made) (new : State (List Waiting)) → Runs one_queue (opening_state []) steps made new → journal_of (given_by_made made) ≡ journal_of made }
+    ensures state { (p : ParamFields) (seed : Seed) (steps : List Step) (made : List Made) (new : State FairQueues) → Runs (fq_codel p seed) (opening_state (no_queues p.flows)) steps made new → Runs (fq_codel p seed) (opening_state (no_queues p.flows)) (steps_made steps made) (given_by_made made) new }
+    ensures journal { (p : ParamFields) (seed : Seed) (steps : List Step) (made : List Made) (new : State FairQueues) → Runs (fq_codel p seed) (opening_state (no_queues p.flows)) steps made new → journal_of (given_by_made made) ≡ journal_of made }
 {}
+
+/// The turns of a dequeue end, with the first one that serves a flow or where no flow is listed: from the flows
+/// that any run leaves, and from any others that stand in the lists once and have an account, there is one
+/// serving chain, and no other. It has at most as many turns as quanta bring the credits of the listed flows
+/// above 0, and one more for an old flow, two for a new one (RFC 8290, section 4.2).
+pub fn serving_chains_end()
+    ensures sound { (p : ParamFields) (seed : Seed) → AreInRange p → (steps : List Step) (made : List Made) (new : State FairQueues) → Runs (fq_codel p seed) (opening_state (no_queues p.flows)) steps made new → AreSound new.queues }
+    ensures there { (p : ParamFields) → AreInRange p → (now : ℕ) (old : FairQueues) → AreSound old → (turns : ℕ) × (service : Option Service) × (new : FairQueues) × Chain (fq_codel_policy p) now old turns service new }
+    ensures once { (p : ParamFields) → AreInRange p → (turns turns' now : ℕ) (old : FairQueues) (service service' : Option Service) (new new' : FairQueues) → Chain (fq_codel_policy p) now old turns service new → Chain (fq_codel_policy p) now old turns' service' new' → (turns ≡ turns') × (service ≡ service') × (new ≡ new') }
+    ensures bound { (p : ParamFields) → AreInRange p → (turns now : ℕ) (old : FairQueues) (service : Option Service) (new : FairQueues) → AreSound old → Chain (fq_codel_policy p) now old turns service new → turns ≤ turns_at_most p.quantum old }
+    ensures least { (quantum : ℕ) (credits : ℤ) → 0 < quantum → AreQuantaOwed quantum credits (quanta_owed quantum credits) }
+{
+    one_verdict();
+}
+
+/// Where a flow in the list of new flows has credits above 0 and a packet, a dequeue sends from the first such
+/// flow (RFC 8290, section 4.2).
+pub fn new_flows_go_first()
+    ensures { (p : ParamFields) → AreInRange p → (turns now flow : ℕ) (old : FairQueues) (service : Option Service) (new : FairQueues) → AreSound old → IsFirstReady old flow → Chain (fq_codel_policy p) now old turns service new → SendsFrom flow old.lists.queues service new.lists.queues }
+{
+    one_verdict();
+}
+
+/// The journal tells how many packets wait, and of how many bytes.
+pub fn journal_tells_what_waits()
+    ensures packets { (p : ParamFields) (seed : Seed) → AreInRange p → (steps : List Step) (made : List Made) (new : State FairQueues) → Runs (fq_codel p seed) (opening_state (no_queues p.flows)) steps made new → (statistics (journal_of made)).queued ≡ waiting_in new.queues.lists }
+    ensures bytes { (p : ParamFields) (seed : Seed) → AreInRange p → (steps : List Step) (made : List Made) (new : State FairQueues) → Runs (fq_codel p seed) (opening_state (no_queues p.flows)) steps made new → (statistics (journal_of made)).queued_bytes ≡ sum_by bytes_of new.queues.lists.queues }
+{
+    one_verdict();
+}
