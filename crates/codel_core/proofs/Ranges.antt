@@ -2,6 +2,7 @@
 use Rattle.std.proofs.Common.{◌≡◌, ℕ, zero, suc, ◌+◌, ◌-◌, ◌*◌, ◌<◌, ◌≤◌, Bool, true, false, ◌⊎◌, inl, inr, List, length, drop, ap, arith, nat_lt, ◌∙◌}
 use Rattle.std.specs.Prelude.{max, nat_le, ◌&&◌, if◌then◌else◌}
 use Rattle.std.proofs.lemmas.List.{length-drop}
+use Rattle.packet_core.specs.Params.{IsIntervalInRange}
 use Rattle.packet_core.specs.declared.packet.Waiting.{Waiting}
 use Rattle.packet_core.specs.declared.params.ParamFields.{ParamFields}
 use Rattle.codel_core.specs.declared.served.Mark.{Mark}
@@ -97,11 +98,12 @@ verdict_bounded p now q old k mark new (drops d dropping before s) =
     stop_bounded p now q old (length q) k mark new (within p now q old k d before) (λ j h. (before j h).due) s
 
 pub verdict_in_range : (p : ParamFields) (now : ℕ) (q left : List Waiting) (old : CodelState) (k : ℕ) (mark : Mark) (new : CodelState)
-    → Verdict p now q old k mark new → left ≡ drop (k + 1) q → StaysInRange p.interval now old (length q) new (length left)
-verdict_in_range p now q left old k mark new v rest =
+    → IsIntervalInRange p.interval → Verdict p now q old k mark new → left ≡ drop (k + 1) q → StaysInRange p now old (length q) new (length left)
+verdict_in_range p now q left old k mark new interval v rest =
     let b = verdict_bounded p now q old k mark new v in
     let fewer : length left ≡ length q - (k + 1) = ap (λ (l : List Waiting). length l) rest ∙ length-drop (k + 1) q in
     record {
+      interval = interval;
       drop_next = b.drop_next;
       count = elim b.count [ inl same ↦ omega (arith, fewer, same) | inr more ↦ omega (arith, fewer, more.0, more.1) ];
       lastcount = b.lastcount;

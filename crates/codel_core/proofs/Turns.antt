@@ -210,6 +210,13 @@ pub record Midway {A B : Type 0} (items : A → List Waiting) (pulled : A → �
   pub dropping : old.dropping ≡ true
   pub state_is : state ≡ record old { count = old.count + k; drop_next = drop_moment p.interval old k }
 
+-- while the queue drops, first_above is as it was
+pub first_above_kept : {A B : Type 0} (items : A → List Waiting) (pulled : A → ℕ → A → Type 0) (taken : B → List Waiting → B → Type 0)
+    (p : ParamFields) (now : ℕ) (old state : CodelState) (line line' : A) (sink sink' : B) (k : ℕ) (head : Waiting)
+    → Midway items pulled taken p now old line sink k head state line' sink'
+    → state.first_above ≡ old.first_above
+first_above_kept items pulled taken p now old state line line' sink sink' k head m = ap (λ (s : CodelState). s.first_above) m.state_is
+
 -- the packet in hand is one to drop
 is_dropped : {A B : Type 0} (items : A → List Waiting) (pulled : A → ℕ → A → Type 0) (taken : B → List Waiting → B → Type 0)
     (p : ParamFields) (now : ℕ) (old state : CodelState) (line line' : A) (sink sink' : B) (k : ℕ) (head : Waiting) (may : Bool)

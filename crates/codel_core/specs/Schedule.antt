@@ -1,4 +1,5 @@
 use Rattle.std.specs.Prelude.{ℕ, zero, suc, ◌+◌, ◌-◌, ◌*◌, ◌^◌, ◌≤◌, max, if◌then◌else◌, nat_lt, nat_le, ◌&&◌, true}
+use Rattle.packet_core.specs.Params.{IsIntervalInRange}
 use Rattle.packet_core.specs.declared.params.ParamFields.{ParamFields}
 use Rattle.codel_core.specs.declared.state.CodelState.{CodelState}
 
@@ -38,9 +39,10 @@ pub record IsStateInRange (s : CodelState) : Type 0 where
   pub lastcount : s.lastcount ≤ 2 ^ 61
 
 -- How the numbers of a state go on from one serve to the next, so that a caller can keep them in range. `waiting` and `waiting'` are
--- the lengths of the line before and behind the serve. drop_next goes at most an interval past now, the count grows by at most the
--- packets that leave the line, and lastcount stays or follows the count.
-pub record StaysInRange (interval now : ℕ) (old : CodelState) (waiting : ℕ) (new : CodelState) (waiting' : ℕ) : Type 0 where
-  pub drop_next : new.drop_next ≤ max old.drop_next (now + interval)
+-- the lengths of the line before the serve and behind it. drop_next goes at most an interval past now, the count grows by at most the
+-- number of packets that leave the line, and lastcount stays or follows the count.
+pub record StaysInRange (p : ParamFields) (now : ℕ) (old : CodelState) (waiting : ℕ) (new : CodelState) (waiting' : ℕ) : Type 0 where
+  pub interval : IsIntervalInRange p.interval
+  pub drop_next : new.drop_next ≤ max old.drop_next (now + p.interval)
   pub count : new.count + waiting' ≤ old.count + waiting
   pub lastcount : new.lastcount ≤ max old.lastcount new.count

@@ -1,4 +1,5 @@
 ghost use Rattle.std.specs.Prelude.{◌≡◌, ◌^◌, ◌<◌, ◌≤◌, ◌↔◌, [], length, IsNone, None, false};
+ghost use Rattle.packet_core.specs.Params.{IsIntervalInRange};
 ghost use Rattle.codel_core.specs.Schedule.{IsStateInRange, StaysInRange};
 ghost use Rattle.codel_core.specs.Verdict.{Serves};
 
@@ -73,7 +74,7 @@ impl Codel {
         requires numbers { IsStateInRange self.old }
         ensures none { IsNone result ↔ (L.items line.old ≡ []) }
         ensures served { Serves L.items L.pulled S.taken params.now now self.old line.old sink.old result self.new line.new sink.new }
-        ensures range { StaysInRange params.now.interval now self.old (length (L.items line.old)) self.new (length (L.items line.new)) }
+        ensures range { StaysInRange params.now now self.old (length (L.items line.old)) self.new (length (L.items line.new)) }
     {
         serve_from(&mut self.state, line, now, params, sink)
     }
@@ -92,7 +93,9 @@ fn serve_from<L: Pull, S: DropSink>(
     requires numbers { IsStateInRange state.old }
     ensures none { IsNone result ↔ (L.items line.old ≡ []) }
     ensures served { Serves L.items L.pulled S.taken params.now now state.old line.old sink.old result state.new line.new sink.new }
+    ensures interval { IsIntervalInRange params.now.interval }
 {
+    let interval = params.interval();
     let Some(first) = line.pull() else {
         state.first_above = None;
         state.dropping = false;
@@ -119,7 +122,7 @@ fn serve_from<L: Pull, S: DropSink>(
     while state.drop_next <= now {
         if may_mark(params, &head) {
             state.count += 1;
-            state.drop_next += spacing(params.interval(), state.count);
+            state.drop_next += spacing(interval, state.count);
             return Some(Served::marked(head));
         }
         sink.take(head);
@@ -132,7 +135,7 @@ fn serve_from<L: Pull, S: DropSink>(
             state.dropping = false;
             return Some(Served::unmarked(head));
         }
-        state.drop_next += spacing(params.interval(), state.count);
+        state.drop_next += spacing(interval, state.count);
     }
     Some(Served::unmarked(head))
 }

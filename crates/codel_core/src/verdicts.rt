@@ -32,6 +32,29 @@ fn serve<L: Pull, S: DropSink>(
     codel.serve(line, now, params, sink)
 }
 
+/// A caller keeps the numbers in range by the packets that it has accepted.
+fn serve_again<L: Pull, S: DropSink>(
+    codel: &mut Codel,
+    line: &mut L,
+    now: u64,
+    params: &Params,
+    sink: &mut S,
+    accepted: u64,
+) -> Option<Served>
+    requires room { length (L.items line.old) ≤ S.room sink.old }
+    requires size { length (L.items line.old) ≤ 2 ^ 40 }
+    requires moment { now < 2 ^ 60 }
+    requires accepted { accepted ≤ 2 ^ 61 }
+    requires drop_next { codel.old.drop_next ≤ 2 ^ 60 + 1000000000 }
+    requires count { codel.old.count + length (L.items line.old) ≤ accepted }
+    requires lastcount { codel.old.lastcount ≤ accepted }
+    ensures drop_next { codel.new.drop_next ≤ 2 ^ 60 + 1000000000 }
+    ensures count { codel.new.count + length (L.items line.new) ≤ accepted }
+    ensures lastcount { codel.new.lastcount ≤ accepted }
+{
+    codel.serve(line, now, params, sink)
+}
+
 /// A caller that lends one of several lines learns what becomes of all of them, and which ids were dropped.
 fn serve_one_of(
     codel: &mut Codel,

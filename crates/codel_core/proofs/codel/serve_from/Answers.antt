@@ -1,6 +1,5 @@
-use Rattle.std.proofs.Common.{◌≡◌, ◌+◌, true, false, Some, refl, ap}
-use Rattle.codel_core.specs.declared.state.CodelState.{CodelState}
-use Rattle.codel_core.proofs.Turns.{leaves_first, leaves_next, judged, kept, pulled_at, goes_on, gives_first, gives_first_marked, gives_second, gives_marked, gives_undroppable, gives_undue, room_left}
+use Rattle.std.proofs.Common.{◌≡◌, ◌+◌, true, false, Some, refl}
+use Rattle.codel_core.proofs.Turns.{first_above_kept, leaves_first, leaves_next, judged, kept, pulled_at, goes_on, gives_first, gives_first_marked, gives_second, gives_marked, gives_undroppable, gives_undue, room_left}
 use Rattle.codel_core.proofs.codel.serve_from.Goals as goal
 
 pub returns-then-not-judge-clause-served : goal.returns-then-not-judge-clause-served
@@ -78,8 +77,8 @@ returns-then-may_mark-2-clause-served g c =
     let k = c.loop-state.invariant.0 in
     let m = c.loop-state.invariant.1.0 in
     let can : c.may_mark-in-loop-state.result ≡ true = cc in
-    gives_marked items pulled taken p now old c.loop-state.state line c.loop-state.line sink c.loop-state.sink k c.loop-state.head c.marked-then-may_mark-2.result c.may_mark-in-loop-state.result c.interval.result c.spacing.result
-    m c.loop-state-test.true c.may_mark-in-loop-state.ensures can c.interval.ensures.value c.spacing.ensures c.marked-then-may_mark-2.ensures
+    gives_marked items pulled taken p now old c.loop-state.state line c.loop-state.line sink c.loop-state.sink k c.loop-state.head c.marked-then-may_mark-2.result c.may_mark-in-loop-state.result c.interval-interval.result c.spacing.result
+    m c.loop-state-test.true c.may_mark-in-loop-state.ensures can c.interval-interval.ensures.value c.spacing.ensures c.marked-then-may_mark-2.ensures
 
 pub returns-then-not-judge-2-clause-served : goal.returns-then-not-judge-2-clause-served
 returns-then-not-judge-2-clause-served g c =
@@ -97,7 +96,7 @@ returns-then-not-judge-2-clause-served g c =
     let l = leaves_next items pulled taken g.met.L.Pull.pulled_more g.met.S.DropSink.taken_more k line c.loop-state.line c.pull-in-loop-state.new.self sink c.loop-state.sink c.take-in-loop-state.new.self c.loop-state.head
     m.left m.head_is c.take-in-loop-state.ensures.step c.in-Some-pull-2.ensures.step c.in-Some-pull-2.ensures.rest in
     let j = judged p now (items line) (k + 1) c.in-Some-pull-2.next (items c.pull-in-loop-state.new.self) c.loop-state.state.first_above old.first_above c.judge-in-loop-state.new.state.first_above c.judge-in-loop-state.result
-    next_is l.rest (ap (λ (s : CodelState). s.first_above) m.state_is) c.judge-in-loop-state.ensures.droppable c.judge-in-loop-state.ensures.first_above in
+    next_is l.rest (first_above_kept items pulled taken p now old c.loop-state.state line c.loop-state.line sink c.loop-state.sink k c.loop-state.head m) c.judge-in-loop-state.ensures.droppable c.judge-in-loop-state.ensures.first_above in
     let cannot : c.may_mark-in-loop-state.result ≡ false = cc in
     let fails : c.judge-in-loop-state.result ≡ false = cc in
     gives_undroppable items pulled taken p now old c.loop-state.state c.judge-in-loop-state.new.state line c.loop-state.line c.pull-in-loop-state.new.self sink c.loop-state.sink c.take-in-loop-state.new.self k c.loop-state.head c.in-Some-pull-2.next
@@ -120,14 +119,14 @@ loop-state-preserved g c =
     let l = leaves_next items pulled taken g.met.L.Pull.pulled_more g.met.S.DropSink.taken_more k line c.loop-state.line c.pull-in-loop-state.new.self sink c.loop-state.sink c.take-in-loop-state.new.self c.loop-state.head
     m.left m.head_is c.take-in-loop-state.ensures.step c.in-Some-pull-2.ensures.step c.in-Some-pull-2.ensures.rest in
     let j = judged p now (items line) (k + 1) c.in-Some-pull-2.next (items c.pull-in-loop-state.new.self) c.loop-state.state.first_above old.first_above c.judge-in-loop-state.new.state.first_above c.judge-in-loop-state.result
-    next_is l.rest (ap (λ (s : CodelState). s.first_above) m.state_is) c.judge-in-loop-state.ensures.droppable c.judge-in-loop-state.ensures.first_above in
+    next_is l.rest (first_above_kept items pulled taken p now old c.loop-state.state line c.loop-state.line sink c.loop-state.sink k c.loop-state.head m) c.judge-in-loop-state.ensures.droppable c.judge-in-loop-state.ensures.first_above in
     let cannot : c.may_mark-in-loop-state.result ≡ false = cc in
     let holds : c.judge-in-loop-state.result ≡ true = cc in (
       k + 1,
       (
         goes_on items pulled taken p now old c.loop-state.state c.judge-in-loop-state.new.state line c.loop-state.line c.pull-in-loop-state.new.self sink c.loop-state.sink c.take-in-loop-state.new.self k c.loop-state.head c.in-Some-pull-2.next
-            c.judge-in-loop-state.result c.may_mark-in-loop-state.result c.interval-in-loop-state.result c.spacing-in-loop-state.result
-            m c.loop-state-test.true c.may_mark-in-loop-state.ensures cannot next_is l j holds c.judge-in-loop-state.ensures.rest c.interval-in-loop-state.ensures.value c.spacing-in-loop-state.ensures,
+            c.judge-in-loop-state.result c.may_mark-in-loop-state.result c.interval-interval.result c.spacing-in-loop-state.result
+            m c.loop-state-test.true c.may_mark-in-loop-state.ensures cannot next_is l j holds c.judge-in-loop-state.ensures.rest c.interval-interval.ensures.value c.spacing-in-loop-state.ensures,
         room_left (items c.loop-state.line) (items c.pull-in-loop-state.new.self) c.in-Some-pull-2.next (g.S.DropSink.room c.loop-state.sink) (g.S.DropSink.room c.take-in-loop-state.new.self)
             c.in-Some-pull-2.ensures.head c.in-Some-pull-2.ensures.rest c.loop-state.invariant.1.1 c.take-in-loop-state.ensures.room,
       ),
