@@ -7,6 +7,8 @@
 mod arrivals;
 mod flows;
 mod line;
+#[cfg(test)]
+mod serving;
 
 pub use arrivals::MAX_WAITING;
 pub use flows::{Flows, MAX_FLOWS, Memory};
