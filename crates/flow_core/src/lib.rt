@@ -9,6 +9,8 @@ mod flows;
 mod line;
 #[cfg(test)]
 mod serving;
+#[cfg(test)]
+mod tests;
 
 pub use arrivals::MAX_WAITING;
 pub use flows::{Flows, MAX_FLOWS, Memory};
