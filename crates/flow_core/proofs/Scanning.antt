@@ -67,11 +67,11 @@ length-le-bytes_of (w ∷ queue) all =
     omega (arith, sum_by-cons (λ (v : Waiting). v.packet.len) w queue, All-head P w queue all, length-le-bytes_of queue (All-tail P w queue all))
 
 -- no packet waits where no flow is the fattest
-pub none_waits : (queues : List (List Waiting)) (most : ℕ) (fattest : Option ℕ) → ((flow : ℕ) → flow < length queues → All (λ (w : Waiting). IsLengthInRange w.packet.len) (get_or queues flow []))
+pub none_waits : (queues : List (List Waiting)) (most : ℕ) (fattest : Option ℕ) → All (All (λ (w : Waiting). IsLengthInRange w.packet.len)) queues
     → Scanned queues (length queues) most fattest → IsNone fattest ↔ (sum_by length queues ≡ 0)
 none_waits queues most None lengths scanned =
     let empty : All (λ (q : List Waiting). length q ≤ 0) queues = All-from_get_or (λ (q : List Waiting). length q ≤ 0) queues []
-    (λ k h. omega (arith, length-le-bytes_of (get_or queues k []) (lengths k h), scanned.bound k h, scanned.best)) in
+    (λ k h. omega (arith, length-le-bytes_of (get_or queues k []) (lengths k [] h), scanned.bound k h, scanned.best)) in
     (λ _. omega (arith, sum_by-le length 0 queues empty), λ _. refl)
 none_waits queues most (Some f) lengths scanned = (
   λ h. absurd cc,

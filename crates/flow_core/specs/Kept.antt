@@ -12,7 +12,7 @@ use Rattle.flow_core.specs.Listed.{AreFlows}
 abbrev pub holding_of : Inside → Holding
 holding_of f = record {
   lists = record {
-    queues = queues_of f.arrivals.items f.flows;
+    queues = queues_of f.arrivals.items f.count;
     new_flows = f.new_flows.items;
     old_flows = f.old_flows.items;
   };
@@ -22,12 +22,12 @@ holding_of f = record {
 -- Each packet came to a flow and has a length in range, each flow stands once at most in the lists, and both lists and the next pushes
 -- have their memory.
 pub record IsKept (f : Inside) : Type 0 where
-  pub least : 1 ≤ f.flows
-  pub most : f.flows ≤ MAX_FLOWS
-  pub to_flows : All (λ a. a.flow < f.flows) f.arrivals.items
+  pub least : 1 ≤ f.count
+  pub most : f.count ≤ MAX_FLOWS
+  pub to_flows : All (λ a. a.flow < f.count) f.arrivals.items
   pub lengths : All (λ a. IsLengthInRange a.waiting.packet.len) f.arrivals.items
   pub few : vec_len f.arrivals ≤ MAX_WAITING
   pub room : vec_len f.arrivals + f.room ≤ vec_capacity f.arrivals
-  pub listed : AreFlows f.flows (f.new_flows.items ++ f.old_flows.items)
-  pub new_room : f.flows ≤ vec_capacity f.new_flows
-  pub old_room : f.flows ≤ vec_capacity f.old_flows
+  pub listed : AreFlows f.count (f.new_flows.items ++ f.old_flows.items)
+  pub new_room : f.count ≤ vec_capacity f.new_flows
+  pub old_room : f.count ≤ vec_capacity f.old_flows

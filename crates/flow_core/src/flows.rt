@@ -23,7 +23,7 @@ pub struct Flows {
     arrivals: Vec<Arrival>,
     new_flows: Vec<u32>,
     old_flows: Vec<u32>,
-    flows: u32,
+    count: u32,
     room: u64,
 }
 
@@ -51,7 +51,7 @@ impl Flows {
             arrivals: Vec::new(alloc),
             new_flows: Vec::with_capacity(alloc, flows as usize)?,
             old_flows: Vec::with_capacity(alloc, flows as usize)?,
-            flows,
+            count: flows,
             room: 0,
         })
     }
@@ -79,7 +79,7 @@ impl Flows {
         ensures lists { self.new.lists ≡ with_queue self.old.lists flow (queue_at self.old.lists flow ++ waiting ∷ []) }
         ensures room { self.new.room + 1 ≡ self.old.room }
     {
-        // That its length is in range is seen here, once for all sums.
+        // Its length is in range: seen here once, for the sums of all later calls.
         let _ = waiting.packet.len();
         self.room -= 1;
         self.arrivals.push_reserved(Arrival { flow, waiting });
@@ -129,7 +129,7 @@ impl Flows {
     {
         let mut most = 0;
         let mut fattest = None;
-        for flow in 0..self.flows {
+        for flow in 0..self.flows() {
             let bytes = self.bytes(flow);
             if most < bytes {
                 most = bytes;
@@ -145,8 +145,9 @@ impl Flows {
         ensures least { 1 ≤ result }
         ensures most { result ≤ MAX_FLOWS }
         ensures listed { AreListed self.now.lists }
+        ensures lengths { All (All (λ w. IsLengthInRange w.packet.len)) self.now.lists.queues }
     {
-        self.flows
+        self.count
     }
 
     /// The flow at the head of the list of new flows. None where that list is empty.
@@ -199,8 +200,8 @@ impl Flows {
         requires { 0 < length self.old.lists.old_flows }
         ensures { self.new ≡ record self.old { lists = record self.old.lists { old_flows = drop 1 self.old.lists.old_flows ++ take 1 self.old.lists.old_flows } } }
     {
-        let flow = self.old_flows.remove(0);
-        self.old_flows.push_reserved(flow);
+        let first = self.old_flows.remove(0);
+        self.old_flows.push_reserved(first);
     }
 
     /// The first of the old flows leaves the list (RFC 8290, section 4.2). It takes no memory.
@@ -208,7 +209,7 @@ impl Flows {
         requires { 0 < length self.old.lists.old_flows }
         ensures { self.new ≡ record self.old { lists = record self.old.lists { old_flows = drop 1 self.old.lists.old_flows } } }
     {
-        self.old_flows.remove(0);
+        let _ = self.old_flows.remove(0);
     }
 
     /// A flow's queue as a line that CoDel pulls from. Once it is let go, the flow's queue is what the pulls
@@ -220,6 +221,7 @@ impl Flows {
         ensures flow { result.flow ≡ flow }
         ensures size { length (queue_at self.old.lists flow) ≤ MAX_WAITING }
     {
+        // So few packets wait in a flow as in all of them.
         let _ = &self.arrivals;
         Line { flows: self, flow }
     }

@@ -7,6 +7,10 @@
 mod arrivals;
 mod flows;
 mod line;
+#[cfg(test)]
+mod serving;
+#[cfg(test)]
+mod tests;
 
 pub use arrivals::MAX_WAITING;
 pub use flows::{Flows, MAX_FLOWS, Memory};

@@ -12,7 +12,7 @@ invariant_of-self c =
       lengths = kept.lengths;
       few = kept.few;
       room = kept.room;
-      listed = rw c.remove.ensures.items (leave_old f.flows f.new_flows.items f.old_flows.items kept.listed);
+      listed = rw c.remove.ensures.items (leave_old f.count f.new_flows.items f.old_flows.items kept.listed);
       new_room = kept.new_room;
       old_room = rw c.remove.ensures.capacity kept.old_room;
     }

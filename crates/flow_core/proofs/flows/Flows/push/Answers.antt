@@ -19,7 +19,7 @@ invariant_of-self c =
     record {
       least = kept.least;
       most = kept.most;
-      to_flows = rw c.push_reserved.ensures.items (All-push (λ (b : Arrival). b.flow < f.flows) f.arrivals.items a kept.to_flows below);
+      to_flows = rw c.push_reserved.ensures.items (All-push (λ (b : Arrival). b.flow < f.count) f.arrivals.items a kept.to_flows below);
       lengths = rw c.push_reserved.ensures.items (All-push (λ (b : Arrival). IsLengthInRange b.waiting.packet.len) f.arrivals.items a kept.lengths in_range);
       few = omega (arith, c.push_reserved.ensures.len, waiting_seen f c.args.self.now kept c.self.view_is, c.requires.size);
       room = omega (arith, c.push_reserved.ensures.len, c.push_reserved.ensures.capacity, kept.room, room);
@@ -34,4 +34,4 @@ returns-clause-lists c =
     let a : Arrival = record { flow = c.args.flow; waiting = c.args.waiting } in
     let below = below_seen f c.args.self.now c.args.flow c.self.view_is c.requires.flow in
     rw (c.push_reserved.ensures.items, ← c.self.view_is)
-    (ap (λ (qs : List (List Waiting)). let l : FlowLists = record { queues = qs; new_flows = f.new_flows.items; old_flows = f.old_flows.items } in l) (queues_of-push f.arrivals.items a f.flows below))
+    (ap (λ (qs : List (List Waiting)). let l : FlowLists = record { queues = qs; new_flows = f.new_flows.items; old_flows = f.old_flows.items } in l) (queues_of-push f.arrivals.items a f.count below))

@@ -14,7 +14,7 @@ invariant_of-self c =
       lengths = kept.lengths;
       few = kept.few;
       room = kept.room;
-      listed = rw (c.push_reserved.ensures.items, c.remove-flow.ensures.items, taken old c.remove-flow.result waits c.remove-flow.ensures.value) (rotate_old f.flows f.new_flows.items old kept.listed);
+      listed = rw (c.push_reserved.ensures.items, c.remove-first.ensures.items, taken old c.remove-first.result waits c.remove-first.ensures.value) (rotate_old f.count f.new_flows.items old kept.listed);
       new_room = kept.new_room;
-      old_room = rw (c.push_reserved.ensures.capacity, c.remove-flow.ensures.capacity) kept.old_room;
+      old_room = rw (c.push_reserved.ensures.capacity, c.remove-first.ensures.capacity) kept.old_room;
     }
