@@ -113,7 +113,7 @@ apart_parts flow (m ∷ ms) ns h =
     let rest = apart_parts flow ms ns (All-tail (λ other. other ≢ flow) m (ms ++ ns) h) in
     (All-cons (λ other. other ≢ flow) m ms (All-head (λ other. other ≢ flow) m (ms ++ ns) h) rest.0, rest.1)
 
-module _ (p : Policy) (decided : IsDecided p) where
+module _ (p : Policy) (some_quantum : 0 < p.quantum) where
   abbrev owed : List Account → ℕ → ℕ
   owed accounts flow = owed_in p.quantum accounts flow
 
@@ -159,10 +159,10 @@ module _ (p : Policy) (decided : IsDecided p) where
       owed_less credits none = go (quanta_owed p.quantum credits) refl
         where
           go : (n : ℕ) → quanta_owed p.quantum credits ≡ n → quanta_owed p.quantum (credits +ℤ pos p.quantum) + 1 ≡ quanta_owed p.quantum credits
-          go zero is = let enough = (subst (AreQuantaOwed p.quantum credits) is (quanta_owed_is p.quantum credits decided.quantum)).enough in absurd (omega (arith, ints))
+          go zero is = let enough = (subst (AreQuantaOwed p.quantum credits) is (quanta_owed_is p.quantum credits some_quantum)).enough in absurd (omega (arith, ints))
           go (suc n) is =
-              let now' = subst (AreQuantaOwed p.quantum credits) is (quanta_owed_is p.quantum credits decided.quantum) in
-              let same = owed_once p.quantum (credits +ℤ pos p.quantum) _ n (quanta_owed_is p.quantum (credits +ℤ pos p.quantum) decided.quantum) (one_owed_less p.quantum credits n now') in
+              let now' = subst (AreQuantaOwed p.quantum credits) is (quanta_owed_is p.quantum credits some_quantum) in
+              let same = owed_once p.quantum (credits +ℤ pos p.quantum) _ n (quanta_owed_is p.quantum (credits +ℤ pos p.quantum) some_quantum) (one_owed_less p.quantum credits n now') in
               omega arith
   turn_lowers now s next sound (emptied_new head at from credits empty mark codel verdict none e) =
       let is = head_is s head at in
@@ -196,6 +196,7 @@ module _ (p : Policy) (decided : IsDecided p) where
       let less = lower.1 in
       omega arith
 
+module _ (p : Policy) (decided : IsDecided p) where
   -- there is a chain
   abbrev ChainThere : ℕ → FairQueues → Type 0
   ChainThere now s = (turns : ℕ) × (service : Option Service) × (new : FairQueues) × Chain p now s turns service new
@@ -205,12 +206,12 @@ module _ (p : Policy) (decided : IsDecided p) where
     where
       go : (h : Option Head) → head_of s ≡ h → ChainThere now s
       go None at = (0, None, s, (at, refl, refl))
-      go (Some head) at = let left = turn_left s head at in absurd (omega arith)
+      go (Some head) at = let left = turn_left p decided.quantum s head at in absurd (omega arith)
   chain_within (suc most) now s sound few = go (λ next sound' few'. chain_within most now next sound' few') (head_of s) refl
     where
       goes_on : ((next : FairQueues) → AreSound next → turns_at_most p.quantum next ≤ most → ChainThere now next) → (service : Option Service) (next : FairQueues) → Turn p now s service next → ChainThere now s
       goes_on shorter None next t =
-          let lower = turn_lowers now s next sound t in
+          let lower = turn_lowers p decided.quantum now s next sound t in
           let less = lower.1 in
           let rest = shorter next lower.0 (omega arith) in
           (suc rest.0, rest.1, rest.2, inr (next, t, rest.3))
@@ -225,7 +226,7 @@ module _ (p : Policy) (decided : IsDecided p) where
 
   -- and no other
   no_head : (now : ℕ) (s : FairQueues) (service : Option Service) (next : FairQueues) → head_of s ≡ None → Turn p now s service next → ⊥
-  no_head now s service next none t = let has = turn_has_head now s service next t in let e : None ≡ Some has.0 = sym none ∙ has.1 in absurd cc
+  no_head now s service next none t = let has = turn_has_head p decided.quantum now s service next t in let e : None ≡ Some has.0 = sym none ∙ has.1 in absurd cc
 
   pub chain_once : (turns turns' now : ℕ) (s : FairQueues) (service service' : Option Service) (new new' : FairQueues) → Chain p now s turns service new → Chain p now s turns' service' new'
       → (turns ≡ turns') × (service ≡ service') × (new ≡ new')

@@ -1,13 +1,18 @@
 -- CoDel and the overflow of the fattest flow are a policy that the laws hold of.
-use Rattle.std.proofs.Common.{◌≡◌, ◌≢◌, ℕ, zero, suc, ◌<◌, ◌⊎◌, List, [], ◌∷◌, drop, take, get_or, set, length, slice_get, IsSomeAnd, Some, refl, sym, ap, subst, inl, inr, arith, append-nil}
-use Rattle.std.proofs.lemmas.Bool.{cases_eq, eq-eqb, ne_eqb}
+use Rattle.std.proofs.Common.{◌∙◌, sym, ◌≡◌, ◌≢◌, ℕ, zero, suc, ◌<◌, ◌⊎◌, List, [], ◌∷◌, drop, take, get_or, set, length, slice_get, IsSomeAnd, IsTrue, Some, refl, sym, ap, subst, inl, inr, arith, append-nil}
+use Rattle.std.proofs.lemmas.Bool.{cases_eq, eq-eqb, false≢true, ne_eqb}
 use Rattle.std.proofs.lemmas.List.{get_or-set_other, get_or-set_same, length-set, take-append-drop}
 use Rattle.packet_core.specs.Params.{AreInRange}
-use Rattle.packet_core.specs.declared.packet.Ecn.TheVariants as field
+use Rattle.packet_core.specs.declared.packet.Ecn.{Ecn}
+use Rattle.packet_core.specs.declared.packet.Ecn.TheVariants as fields
 use Rattle.packet_core.specs.declared.packet.Waiting.{Waiting}
+use Rattle.packet_core.specs.declared.params.EcnUse.{EcnUse}
 use Rattle.packet_core.specs.declared.params.EcnUse.TheVariants as ecn
 use Rattle.packet_core.specs.declared.params.ParamFields.{ParamFields}
-use Rattle.codel_core.specs.Verdict.{Decides}
+use Rattle.codel_core.specs.Queue.{IsMarkableAt, is_markable}
+use Rattle.codel_core.specs.Verdict.{Decides, Stops, Verdict}
+use Rattle.codel_core.specs.Verdict.Stops.{leaves as stop_leaves, waits as stop_waits, marks as stop_marks}
+use Rattle.codel_core.specs.Verdict.Verdict.{nothing as verdict_nothing, first_mark as verdict_first_mark, first_drop as verdict_first_drop, drops as verdict_drops}
 use Rattle.codel_core.specs.declared.served.Mark.{Mark}
 use Rattle.codel_core.specs.declared.served.Mark.TheVariants.{NoMark, CodelMark}
 use Rattle.codel_core.specs.declared.state.CodelState.{CodelState}
@@ -24,8 +29,6 @@ pub record VerdictLaws : Type 0 where
       → Decides p now q old k mark new → Decides p now q old k' mark' new' → (k ≡ k') × (mark ≡ mark') × (new ≡ new')
   pub gives : (p : ParamFields) (now : ℕ) (q : List Waiting) (old : CodelState) (k : ℕ) (mark : Mark) (new : CodelState)
       → Decides p now q old k mark new → ((q ≡ []) × (k ≡ 0)) ⊎ (k < length q)
-  pub honest : (p : ParamFields) (now : ℕ) (q : List Waiting) (old : CodelState) (k : ℕ) (mark : Mark) (new : CodelState)
-      → Decides p now q old k mark new → mark ≡ CodelMark → IsSomeAnd (slice_get q k) (λ w. (p.ecn ≡ ecn.Mark) × (w.packet.ecn ≢ field.NotEct))
 
 -- a place in a list has an element
 found_at : {X : Type 0} (xs : List X) (k : ℕ) → k < length xs → (x : X) × (slice_get xs k ≡ Some x)
@@ -51,13 +54,37 @@ overflow_keeps : (limit : ℕ) (queues : List (List Waiting)) (batches : List Ba
 overflow_keeps limit queues batches queues' (fits few none e) = ap length e
 overflow_keeps limit queues batches queues' (exceeds many flow fattest one e) = rw e (length-set queues flow _)
 
-module _ (laws : VerdictLaws) (p : ParamFields) where
+-- Only a packet that may be marked is marked.
+markable : (ecn : EcnUse) (field : Ecn) → IsTrue (is_markable ecn field) → field ≢ fields.NotEct
+markable ecn.Drop fields.NotEct may e = absurd (false≢true may)
+markable ecn.Drop fields.Ect1 may e = cc
+markable ecn.Drop fields.Ect0 may e = cc
+markable ecn.Drop fields.Ce may e = cc
+markable ecn.Mark fields.NotEct may e = absurd (false≢true may)
+markable ecn.Mark fields.Ect1 may e = cc
+markable ecn.Mark fields.Ect0 may e = cc
+markable ecn.Mark fields.Ce may e = cc
+
+module _ (p : ParamFields) where
+  marks_only : (now : ℕ) (queue : List Waiting) (codel : CodelState) (drops : ℕ) (mark : Mark) (codel' : CodelState) → Decides p now queue codel drops mark codel' → mark ≡ CodelMark → IsMarkableAt p queue drops
+  marks_only now queue codel k mark codel' d is = go d.verdict
+    where
+      stops : Stops p now queue codel k mark codel' → IsMarkableAt p queue k
+      stops (stop_leaves undroppable none e) = absurd (let m : CodelMark ≡ NoMark = sym is ∙ none in cc)
+      stops (stop_waits droppable early none e) = absurd (let m : CodelMark ≡ NoMark = sym is ∙ none in cc)
+      stops (stop_marks droppable due may one e) = may
+
+      go : Verdict p now queue codel k mark codel' → IsMarkableAt p queue k
+      go (verdict_nothing undroppable zero_is none e) = absurd (let m : CodelMark ≡ NoMark = sym is ∙ none in cc)
+      go (verdict_first_mark droppable calm may zero_is one e) = rw zero_is may
+      go (verdict_first_drop droppable calm may one_is none e) = absurd (let m : CodelMark ≡ NoMark = sym is ∙ none in cc)
+      go (verdict_drops droppable dropping before at) = stops at
+
   honest_mark : (now : ℕ) (queue : List Waiting) (codel : CodelState) (drops : ℕ) (mark : Mark) (codel' : CodelState) → Decides p now queue codel drops mark codel' → (w : Waiting) → slice_get queue drops ≡ Some w → MayHave mark w.packet.ecn
   honest_mark now queue codel drops NoMark codel' d w found = tt
   honest_mark now queue codel drops CodelMark codel' d w found =
-      let marked = laws.honest p now queue codel drops CodelMark codel' d refl in
-      let at = subst (λ o. IsSomeAnd o (λ w. (p.ecn ≡ ecn.Mark) × (w.packet.ecn ≢ field.NotEct))) found marked in
-      at.1
+      let at = subst (λ o. IsSomeAnd o (λ w. IsTrue (is_markable p.ecn w.packet.ecn))) found (marks_only now queue codel drops CodelMark codel' d refl) in
+      markable p.ecn w.packet.ecn at
 
   pub policy_drops : DropsFromHeads (fq_codel_policy p)
   policy_drops = record {
@@ -66,6 +93,7 @@ module _ (laws : VerdictLaws) (p : ParamFields) where
     flows = overflow_keeps p.limit;
   }
 
+module _ (laws : VerdictLaws) (p : ParamFields) where
   gives_one : (now : ℕ) (w : Waiting) (queue : List Waiting) (codel : CodelState)
       → (drops : ℕ) × (mark : Mark) × (codel' : CodelState) × (given : Waiting) × (Decides p now (w ∷ queue) codel drops mark codel') × (slice_get (w ∷ queue) drops ≡ Some given)
   gives_one now w queue codel =

@@ -32,7 +32,7 @@ use Rattle.sched_core.specs.Steps.{Makes, Steps}
 use Rattle.sched_core.specs.Turns.{Chain, Policy, Service, Turn}
 use Rattle.sched_core.specs.Turns.Turn.{used_up, emptied_new, emptied_old, serving}
 use Rattle.sched_core.proofs.FairFifo.{fair_is_fifo}
-use Rattle.sched_core.proofs.FqCodel.{VerdictLaws, policy_decided, policy_drops}
+use Rattle.sched_core.proofs.FqCodel.{policy_drops}
 use Rattle.sched_core.proofs.Keeping.{run_laws}
 use Rattle.sched_core.proofs.Lists.{ByRecursion-filter, ByRecursion-weaker, length_as_sum, sum_by_agree_on, ByRecursion-all}
 use Rattle.sched_core.proofs.Sound.{opening_sound, runs_sound}
@@ -79,18 +79,18 @@ module _ (p : Policy) (drops : DropsFromHeads p) where
 flow_below : (classify : Classify) (flows : ℕ) (seed : Seed) (tuple : FiveTuple) → 0 < flows → flow_number classify flows seed tuple < flows
 flow_below Dport flows seed tuple some = mod_below tuple.dport flows some
 
-module _ (laws : VerdictLaws) (p : ParamFields) (seed : Seed) (range : AreInRange p) where
+module _ (p : ParamFields) (seed : Seed) (range : AreInRange p) where
   abbrev Run : List Step → List Made → State FairQueues → Type 0
   Run steps made new = Runs (fq_codel p seed) (opening_state (no_queues p.flows)) steps made new
 
   pub fq_codel_laws : (steps : List Step) (made : List Made) (new : State FairQueues) → Run steps made new → JournalLaws (fq_codel p seed).flow_of (journal_of made) × WaitWithoutFate (queue_of new.queues) (journal_of made)
-  fq_codel_laws steps made new r = run_laws (fq_codel p seed) queue_of (fair_is_fifo (fq_codel_policy p) (policy_drops laws p) p.flows (flow_number p.classify p.flows seed)) steps made new r
+  fq_codel_laws steps made new r = run_laws (fq_codel p seed) queue_of (fair_is_fifo (fq_codel_policy p) (policy_drops p) p.flows (flow_number p.classify p.flows seed)) steps made new r
 
   pub fq_codel_sound : (steps : List Step) (made : List Made) (new : State FairQueues) → Run steps made new → AreSound new.queues
-  fq_codel_sound steps made new r = runs_sound (fq_codel_policy p) (policy_drops laws p) (policy_decided laws p range) p.flows (flow_number p.classify p.flows seed) (opening_state (no_queues p.flows)) new steps made r (opening_sound p.flows)
+  fq_codel_sound steps made new r = runs_sound (fq_codel_policy p) (policy_drops p) (range.quantum.0) p.flows (flow_number p.classify p.flows seed) (opening_state (no_queues p.flows)) new steps made r (opening_sound p.flows)
 
   pub fq_codel_flows : (steps : List Step) (made : List Made) (new : State FairQueues) → Run steps made new → length new.queues.lists.queues ≡ p.flows
-  fq_codel_flows steps made new r = runs_as_many (fq_codel_policy p) (policy_drops laws p) p.flows (flow_number p.classify p.flows seed) (opening_state (no_queues p.flows)) new steps made r ∙ length-replicate {A = List Waiting} p.flows []
+  fq_codel_flows steps made new r = runs_as_many (fq_codel_policy p) (policy_drops p) p.flows (flow_number p.classify p.flows seed) (opening_state (no_queues p.flows)) new steps made r ∙ length-replicate {A = List Waiting} p.flows []
 
   -- sums over what waits are sums over what has no fate
   waiting_sum : (h : Waiting → ℕ) (steps : List Step) (made : List Made) (new : State FairQueues) → Run steps made new → sum_by (λ q. sum_by h q) new.queues.lists.queues ≡ sum_by (λ a. h (waiting_of a)) (without_fate (journal_of made))

@@ -1,5 +1,5 @@
 -- New flows go first: a chain sends from the first of the new flows that has credits and a packet.
-use Rattle.std.proofs.Common.{◌≡◌, ◌≢◌, ℕ, zero, suc, List, [], ◌∷◌, ◌++◌, get_or, set, Option, Some, None, slice_get, pos, ◌<ℤ◌, ◌≤ℤ◌, refl, sym, ap, subst, ◌∙◌, inl, inr, arith}
+use Rattle.std.proofs.Common.{◌<◌, ◌≡◌, ◌≢◌, ℕ, zero, suc, List, [], ◌∷◌, ◌++◌, get_or, set, Option, Some, None, slice_get, pos, ◌<ℤ◌, ◌≤ℤ◌, refl, sym, ap, subst, ◌∙◌, inl, inr, arith}
 use Rattle.std.specs.List.{AllByRecursion}
 use Rattle.std.proofs.lemmas.Int.{ints}
 use Rattle.std.proofs.lemmas.List.{get_or-set_other}
@@ -9,7 +9,6 @@ use Rattle.sched_core.specs.declared.account.Account.{Account}
 use Rattle.sched_core.specs.FairQueues.{AreSound, FairQueues, Head, account_at, head_of, head_of_lists, new_account, to_old}
 use Rattle.sched_core.specs.FairQueues.FlowList.{new_list, old_list}
 use Rattle.sched_core.specs.NewFlows.{IsFirstReady, IsReady, SendsFrom}
-use Rattle.sched_core.specs.Policies.{IsDecided}
 use Rattle.sched_core.specs.Turns.{Chain, Policy, Service, Turn}
 use Rattle.sched_core.specs.Turns.Turn.{used_up, emptied_new, emptied_old, serving}
 use Rattle.sched_core.proofs.Lists.{ByRecursion-both, ByRecursion-parts, ByRecursion-weaker}
@@ -61,7 +60,7 @@ module _ (s : FairQueues) (b flow : ℕ) (before behind : List ℕ) (place : s.l
       (λ other h ready. h.1 (record { credits = subst (λ (a : Account). pos 0 <ℤ a.credits) (ap (λ n. get_or (set s.accounts n account) other new_account) is ∙ account_stays other h.0) ready.credits; waits = ready.waits }))
       (ByRecursion-both (λ other. other ≢ b) (λ other. IsReady s other → ⊥) before differ none)
 
-module _ (p : Policy) (decided : IsDecided p) (now : ℕ) where
+module _ (p : Policy) (some_quantum : 0 < p.quantum) (now : ℕ) where
   abbrev Sends : ℕ → FairQueues → Option Service → FairQueues → Type 0
   Sends flow s service new = SendsFrom flow s.lists.queues service new.lists.queues
 
@@ -111,7 +110,7 @@ module _ (p : Policy) (decided : IsDecided p) (now : ℕ) where
   first_sends (suc more) s service new flow (b ∷ before) behind sound place ready none (inr c) =
       let on = passes_by s b flow before behind c.0 sound place ready none.1 c.1 in
       subst (λ queues. SendsFrom flow queues service new.lists.queues) on.0
-      (first_sends more c.0 service new flow before behind (turn_lowers p decided now s c.0 sound c.1).0 on.1 on.2 on.3 c.2)
+      (first_sends more c.0 service new flow before behind (turn_lowers p some_quantum now s c.0 sound c.1).0 on.1 on.2 on.3 c.2)
 
   pub new_flows_first : (turns : ℕ) (s : FairQueues) (service : Option Service) (new : FairQueues) (flow : ℕ) → AreSound s → IsFirstReady s flow → Chain p now s turns service new → Sends flow s service new
   new_flows_first turns s service new flow sound first c = first_sends turns s service new flow first.before first.behind sound first.place first.ready (recursion_from_All (λ other. IsReady s other → ⊥) first.before first.others) c

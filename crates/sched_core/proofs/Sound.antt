@@ -16,7 +16,7 @@ use Rattle.sched_core.specs.declared.run.Answer.{Answer}
 use Rattle.sched_core.specs.declared.run.Answer.TheVariants as answer
 use Rattle.sched_core.specs.FairQueues.{AreSound, FairQueues, account_at, new_account, no_queues}
 use Rattle.sched_core.specs.FairQueueing.{Arrives, fair_queueing, is_listed, with_flow_listed}
-use Rattle.sched_core.specs.Policies.{DropsFromHeads, IsDecided}
+use Rattle.sched_core.specs.Policies.{DropsFromHeads}
 use Rattle.sched_core.specs.Runs.{Made, Runs}
 use Rattle.sched_core.specs.State.{State, refusal_of}
 use Rattle.sched_core.specs.Steps.{Makes, Steps}
@@ -83,14 +83,14 @@ module _ (p : Policy) where
   listed_queues : (s : FairQueues) (flow : ℕ) → (with_flow_listed p s flow).lists.queues ≡ s.lists.queues
   listed_queues s flow = elim (cases_Bool (is_listed s flow)) [ inl t ↦ rw t refl | inr t ↦ rw t refl ]
 
-  module _ (drops : DropsFromHeads p) (decided : IsDecided p) where
+  module _ (drops : DropsFromHeads p) (some_quantum : 0 < p.quantum) where
     pub arrival_sound : (old : FairQueues) (flow : ℕ) (w : Waiting) (lost : List Waiting) (new : FairQueues) → Arrives p old flow w lost new → AreSound old → AreSound new
     arrival_sound old flow w lost new a sound =
         let same = drops.flows _ a.batches new.lists.queues a.overflow ∙ length-set old.lists.queues flow _ ∙ ap length (sym (listed_queues old flow)) in
         rw a.rest (queues_sound (with_flow_listed p old flow) new.lists.queues same (listed_sound old flow sound a.within))
 
     turn_sound : (now : ℕ) (old : FairQueues) (service : Option Service) (new : FairQueues) → Turn p now old service new → AreSound old → AreSound new
-    turn_sound now old None new t sound = (turn_lowers p decided now old new sound t).0
+    turn_sound now old None new t sound = (turn_lowers p some_quantum now old new sound t).0
     turn_sound now old (Some s) new (used_up head at credits none e) sound = absurd cc
     turn_sound now old (Some s) new (emptied_new head at from credits empty mark codel verdict none e) sound = absurd cc
     turn_sound now old (Some s) new (emptied_old head at from credits empty mark codel verdict none e) sound = absurd cc

@@ -29,9 +29,7 @@ pub fn journal_laws()
     ensures tuples { (a b : FiveTuple) → Decides (same_tuple a b) (a ≡ b) }
     ensures laws { (p : ParamFields) (seed : Seed) → AreInRange p → (steps : List Step) (made : List Made) (new : State FairQueues) → Runs (fq_codel p seed) (opening_state (no_queues p.flows)) steps made new → JournalLaws (fq_codel p seed).flow_of (journal_of made) }
     ensures waiting { (p : ParamFields) (seed : Seed) → AreInRange p → (steps : List Step) (made : List Made) (new : State FairQueues) → Runs (fq_codel p seed) (opening_state (no_queues p.flows)) steps made new → WaitWithoutFate (queue_of new.queues) (journal_of made) }
-{
-    one_verdict();
-}
+{}
 
 /// Taking the refused steps out of a list changes neither the state that its run leaves nor the journal.
 pub fn refused_steps_change_nothing()
@@ -57,14 +55,10 @@ pub fn serving_chains_end()
 /// flow (RFC 8290, section 4.2).
 pub fn new_flows_go_first()
     ensures { (p : ParamFields) → AreInRange p → (turns now flow : ℕ) (old : FairQueues) (service : Option Service) (new : FairQueues) → AreSound old → IsFirstReady old flow → Chain (fq_codel_policy p) now old turns service new → SendsFrom flow old.lists.queues service new.lists.queues }
-{
-    one_verdict();
-}
+{}
 
 /// The journal tells how many packets wait, and of how many bytes.
 pub fn journal_tells_what_waits()
     ensures packets { (p : ParamFields) (seed : Seed) → AreInRange p → (steps : List Step) (made : List Made) (new : State FairQueues) → Runs (fq_codel p seed) (opening_state (no_queues p.flows)) steps made new → (statistics (journal_of made)).queued ≡ waiting_in new.queues.lists }
     ensures bytes { (p : ParamFields) (seed : Seed) → AreInRange p → (steps : List Step) (made : List Made) (new : State FairQueues) → Runs (fq_codel p seed) (opening_state (no_queues p.flows)) steps made new → (statistics (journal_of made)).queued_bytes ≡ sum_by bytes_of new.queues.lists.queues }
-{
-    one_verdict();
-}
+{}

@@ -4,4 +4,4 @@ use Rattle.sched_core.proofs.NewFirst.{new_flows_first}
 use Rattle.sched_core.proofs.laws.new_flows_go_first.Goals as goal
 
 pub returns : goal.returns
-returns c = λ p range turns now flow old service new sound first a. new_flows_first (fq_codel_policy p) (policy_decided (record { exists = c.one_verdict.ensures.exists; unique = c.one_verdict.ensures.unique; gives = c.one_verdict.ensures.gives; honest = c.one_verdict.ensures.honest }) p range) now turns old service new flow sound first a
+returns c = λ p range turns now flow old service new sound first a. new_flows_first (fq_codel_policy p) range.quantum.0 now turns old service new flow sound first a

@@ -5,13 +5,13 @@ use Rattle.sched_core.proofs.FqCodelRuns.{fq_codel_sound}
 use Rattle.sched_core.proofs.laws.serving_chains_end.Goals as goal
 
 pub returns-clause-sound : goal.returns-clause-sound
-returns-clause-sound c = λ p seed range steps made new r. fq_codel_sound (record { exists = c.one_verdict.ensures.exists; unique = c.one_verdict.ensures.unique; gives = c.one_verdict.ensures.gives; honest = c.one_verdict.ensures.honest }) p seed range steps made new r
+returns-clause-sound c = λ p seed range steps made new r. fq_codel_sound p seed range steps made new r
 
 pub returns-clause-there : goal.returns-clause-there
-returns-clause-there c = λ p range now old sound. chain_there (fq_codel_policy p) (policy_decided (record { exists = c.one_verdict.ensures.exists; unique = c.one_verdict.ensures.unique; gives = c.one_verdict.ensures.gives; honest = c.one_verdict.ensures.honest }) p range) now old sound
+returns-clause-there c = λ p range now old sound. chain_there (fq_codel_policy p) (policy_decided (record { exists = c.one_verdict.ensures.exists; unique = c.one_verdict.ensures.unique; gives = c.one_verdict.ensures.gives }) p range) now old sound
 
 pub returns-clause-once : goal.returns-clause-once
-returns-clause-once c = λ p range turns turns' now old service service' new new' a b. chain_once (fq_codel_policy p) (policy_decided (record { exists = c.one_verdict.ensures.exists; unique = c.one_verdict.ensures.unique; gives = c.one_verdict.ensures.gives; honest = c.one_verdict.ensures.honest }) p range) turns turns' now old service service' new new' a b
+returns-clause-once c = λ p range turns turns' now old service service' new new' a b. chain_once (fq_codel_policy p) (policy_decided (record { exists = c.one_verdict.ensures.exists; unique = c.one_verdict.ensures.unique; gives = c.one_verdict.ensures.gives }) p range) turns turns' now old service service' new new' a b
 
 pub returns-clause-bound : goal.returns-clause-bound
-returns-clause-bound c = λ p range turns now old service new sound a. chain_bound (fq_codel_policy p) (policy_decided (record { exists = c.one_verdict.ensures.exists; unique = c.one_verdict.ensures.unique; gives = c.one_verdict.ensures.gives; honest = c.one_verdict.ensures.honest }) p range) turns now old service new sound a
+returns-clause-bound c = λ p range turns now old service new sound a. chain_bound (fq_codel_policy p) range.quantum.0 turns now old service new sound a
