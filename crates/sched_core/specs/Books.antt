@@ -1,6 +1,9 @@
 use Rattle.std.specs.Prelude.{ℕ, ◌+◌, ◌*◌, ◌-◌, ◌≤◌, List, [], ◌∷◌, ◌++◌}
 use Rattle.codel_core.specs.declared.served.Mark.{Mark}
 use Rattle.codel_core.specs.declared.served.Mark.TheVariants.{NoMark, CodelMark}
+use Rattle.packet_core.specs.declared.packet.Waiting.{Waiting}
+use Rattle.sched_core.specs.declared.event.Cause.{Cause}
+use Rattle.sched_core.specs.declared.event.Cause.TheVariants.{Codel, Overflow}
 use Rattle.sched_core.specs.declared.event.Event.{Event}
 use Rattle.sched_core.specs.declared.journal.Counts.{Counts}
 
@@ -29,6 +32,16 @@ marks_of CodelMark = 1
 -- one sent
 abbrev pub count_sent : Counts → ℕ → Mark → Counts
 count_sent c len mark = record c { sent = c.sent + 1; sent_bytes = c.sent_bytes + len; marked = c.marked + marks_of mark }
+
+-- one dropped
+abbrev pub count_dropped : Counts → ℕ → Cause → Counts
+count_dropped c len Codel = record c { dropped_codel = c.dropped_codel + 1; dropped_bytes = c.dropped_bytes + len }
+count_dropped c len Overflow = record c { dropped_overflow = c.dropped_overflow + 1; dropped_bytes = c.dropped_bytes + len }
+
+-- those dropped, one after another
+abbrev pub count_drops : Cause → Counts → List Waiting → Counts
+count_drops why c [] = c
+count_drops why c (w ∷ ws) = count_drops why (count_dropped c w.packet.len why) ws
 
 -- No count is above the number of events, and no sum of lengths above what so many packets can have.
 pub record IsCounted (c : Counts) (n : ℕ) : Type 0 where

@@ -1,8 +1,8 @@
 ghost use Rattle.std.specs.Prelude.{◌≡◌, ◌+◌, ◌*◌, ◌-◌, ◌^◌, ◌<◌, ◌≤◌, [], IfOk, OnOk, OnErr, length};
 
-use crate::event::Event;
+use crate::event::{Cause, Event};
 use crate::step::Memory;
-use codel_core::Mark;
+use codel_core::{Mark, Served};
 use packet_core::Waiting;
 use std::alloc::Global;
 use std::marker::Model;
@@ -44,10 +44,9 @@ impl Model for Journal {
 
 impl Journal {
     ghost use Rattle.packet_core.specs.Packets.{IsLengthInRange};
-    ghost use Rattle.sched_core.specs.Books.{no_counts, with_event, count_accepted, count_sent};
+    ghost use Rattle.sched_core.specs.Books.{no_counts, with_event, count_accepted, count_sent, count_dropped};
     ghost use Rattle.sched_core.specs.declared.event.Event.TheVariants.{Accepted, Closed};
     ghost use Rattle.sched_core.specs.declared.event.Event.TheVariants as event;
-    ghost use Rattle.codel_core.specs.Verdict.{sent_ecn};
 
     /// A journal with no event, and room for `room` of them.
     pub(crate) fn try_new(alloc: Global, room: usize) -> Result<Journal, Memory>
@@ -109,25 +108,39 @@ impl Journal {
         });
     }
 
-    /// A packet was given to the device.
-    pub(crate) fn send(&mut self, waiting: &Waiting, moment: u64, mark: Mark)
+    /// A packet was given to the device, with that ECN field.
+    pub(crate) fn send(&mut self, served: &Served, moment: u64)
         requires { 0 < self.old.room }
-        ensures { self.new ≡ with_event self.old (event.Sent waiting.now.id moment (sent_ecn mark waiting.now.packet.ecn) mark) (count_sent self.old.counts waiting.now.packet.len mark) }
+        ensures { self.new ≡ with_event self.old (event.Sent served.now.waiting.id moment served.now.waiting.packet.ecn served.now.mark) (count_sent self.old.counts served.now.waiting.packet.len served.now.mark) }
     {
         self.counts.sent += 1;
-        self.counts.sent_bytes += u64::from(waiting.packet.len());
-        let ecn = match mark {
-            Mark::NoMark => waiting.packet.ecn(),
-            Mark::CodelMark => {
-                self.counts.marked += 1;
-                waiting.packet.marked().ecn()
-            }
-        };
+        self.counts.sent_bytes += u64::from(served.waiting.packet.len());
+        match served.mark {
+            Mark::NoMark => {}
+            Mark::CodelMark => self.counts.marked += 1,
+        }
         self.events.push_reserved(Event::Sent {
+            id: served.waiting.id,
+            moment,
+            ecn: served.waiting.packet.ecn(),
+            mark: served.mark,
+        });
+    }
+
+    /// A packet was dropped.
+    pub(crate) fn drop(&mut self, waiting: &Waiting, moment: u64, cause: Cause)
+        requires { 0 < self.old.room }
+        ensures { self.new ≡ with_event self.old (event.Dropped waiting.now.id moment cause) (count_dropped self.old.counts waiting.now.packet.len cause) }
+    {
+        match cause {
+            Cause::Codel => self.counts.dropped_codel += 1,
+            Cause::Overflow => self.counts.dropped_overflow += 1,
+        }
+        self.counts.dropped_bytes += u64::from(waiting.packet.len());
+        self.events.push_reserved(Event::Dropped {
             id: waiting.id,
             moment,
-            ecn,
-            mark,
+            cause,
         });
     }
 

@@ -6,6 +6,7 @@
 
 mod account;
 mod event;
+mod fates;
 mod journal;
 pub mod laws;
 mod run;

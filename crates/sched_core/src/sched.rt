@@ -5,7 +5,7 @@ use crate::event::Event;
 use crate::journal::Journal;
 use crate::step::{Admitted, CloseFault, Memory, MomentFault, Refusal, Sent};
 use crate::totals::Totals;
-use codel_core::Mark;
+use codel_core::{Mark, Served};
 use packet_core::{Packet, Waiting};
 use std::alloc::Global;
 use std::collections::VecDeque;
@@ -120,13 +120,18 @@ impl Sched {
         let Some(waiting) = self.waiting.pop_front() else {
             return Ok(None);
         };
-        self.journal.send(&waiting, moment, Mark::NoMark);
-        Ok(Some(Sent {
+        let sent = Sent {
             id: waiting.id,
             moment,
             packet: waiting.packet,
             mark: Mark::NoMark,
-        }))
+        };
+        let served = Served {
+            waiting,
+            mark: Mark::NoMark,
+        };
+        self.journal.send(&served, moment);
+        Ok(Some(sent))
     }
 
     /// From here on nothing is accepted; dequeues go on. The moment is in microseconds. It takes no memory. It
