@@ -7,7 +7,8 @@ use Rattle.std.proofs.lemmas.List.Sums.{sum_by-cons, sum_by_push}
 use Rattle.flow_core.specs.FlowLists.{AreDistinct, AreListed}
 use Rattle.sched_core.specs.declared.account.Account.{Account}
 use Rattle.sched_core.specs.FairQueues.{AreSound, FairQueues, Head, account_at, head_of, head_of_lists, new_account, to_old, unlisted}
-use Rattle.sched_core.specs.FairQueues.FlowList.{new_list, old_list}
+use Rattle.sched_core.specs.declared.backlog.FlowList.{FlowList}
+use Rattle.sched_core.specs.declared.backlog.FlowList.TheVariants.{New, Old}
 use Rattle.sched_core.specs.Policies.{IsDecided}
 use Rattle.sched_core.specs.TurnBound.{AreQuantaOwed, quanta_owed, turns_at_most}
 use Rattle.sched_core.specs.Turns.{Chain, Policy, Service, Turn}
@@ -44,20 +45,20 @@ module _ (quantum : ℕ) where
 
 -- what a listed head is, and what stays without it
 data HeadIs (s : FairQueues) (head : Head) : Type 0 where
-  of_new : head.from ≡ new_list → s.lists.new_flows ≡ head.flow ∷ head.new_flows → s.lists.old_flows ≡ head.old_flows → HeadIs s head
-  of_old : head.from ≡ old_list → s.lists.new_flows ≡ [] → head.new_flows ≡ [] → s.lists.old_flows ≡ head.flow ∷ head.old_flows → HeadIs s head
+  of_new : head.from ≡ New → s.lists.new_flows ≡ head.flow ∷ head.new_flows → s.lists.old_flows ≡ head.old_flows → HeadIs s head
+  of_old : head.from ≡ Old → s.lists.new_flows ≡ [] → head.new_flows ≡ [] → s.lists.old_flows ≡ head.flow ∷ head.old_flows → HeadIs s head
 
 head_is : (s : FairQueues) (head : Head) → head_of s ≡ Some head → HeadIs s head
 head_is s head at = go s.lists.new_flows s.lists.old_flows refl refl
   where
     go : (new old : List ℕ) → s.lists.new_flows ≡ new → s.lists.old_flows ≡ old → HeadIs s head
     go (flow ∷ rest) old n o =
-        let found : Some (record { flow = flow; from = new_list; new_flows = rest; old_flows = old }) ≡ Some head = ap (λ l. head_of_lists l old) (sym n) ∙ ap (head_of_lists s.lists.new_flows) (sym o) ∙ at in
-        let e : record { flow = flow; from = new_list; new_flows = rest; old_flows = old } ≡ head = cc in
+        let found : Some (record { flow = flow; from = New; new_flows = rest; old_flows = old }) ≡ Some head = ap (λ l. head_of_lists l old) (sym n) ∙ ap (head_of_lists s.lists.new_flows) (sym o) ∙ at in
+        let e : record { flow = flow; from = New; new_flows = rest; old_flows = old } ≡ head = cc in
         of_new (sym (ap (λ (h : Head). h.from) e)) (n ∙ ap (λ (h : Head). h.flow ∷ h.new_flows) e) (o ∙ ap (λ (h : Head). h.old_flows) e)
     go [] (flow ∷ rest) n o =
-        let found : Some (record { flow = flow; from = old_list; new_flows = []; old_flows = rest }) ≡ Some head = ap (λ l. head_of_lists l (flow ∷ rest)) (sym n) ∙ ap (head_of_lists s.lists.new_flows) (sym o) ∙ at in
-        let e : record { flow = flow; from = old_list; new_flows = []; old_flows = rest } ≡ head = cc in
+        let found : Some (record { flow = flow; from = Old; new_flows = []; old_flows = rest }) ≡ Some head = ap (λ l. head_of_lists l (flow ∷ rest)) (sym n) ∙ ap (head_of_lists s.lists.new_flows) (sym o) ∙ at in
+        let e : record { flow = flow; from = Old; new_flows = []; old_flows = rest } ≡ head = cc in
         of_old (sym (ap (λ (h : Head). h.from) e)) n (sym (ap (λ (h : Head). h.new_flows) e)) (o ∙ ap (λ (h : Head). h.flow ∷ h.old_flows) e)
     go [] [] n o =
         let found : None ≡ Some head = ap (λ l. head_of_lists l []) (sym n) ∙ ap (head_of_lists s.lists.new_flows) (sym o) ∙ at in
@@ -119,8 +120,8 @@ module _ (p : Policy) (some_quantum : 0 < p.quantum) where
 
   -- the bound before a turn, by its head
   bound_before : (s : FairQueues) (head : Head) → HeadIs s head
-      → ((head.from ≡ new_list) × (turns_at_most p.quantum s ≡ (owed s.accounts head.flow + 2) + turns_in p.quantum 2 s.accounts head.new_flows + turns_in p.quantum 1 s.accounts head.old_flows))
-      ⊎ ((head.from ≡ old_list) × (turns_at_most p.quantum s ≡ (owed s.accounts head.flow + 1) + turns_in p.quantum 2 s.accounts head.new_flows + turns_in p.quantum 1 s.accounts head.old_flows))
+      → ((head.from ≡ New) × (turns_at_most p.quantum s ≡ (owed s.accounts head.flow + 2) + turns_in p.quantum 2 s.accounts head.new_flows + turns_in p.quantum 1 s.accounts head.old_flows))
+      ⊎ ((head.from ≡ Old) × (turns_at_most p.quantum s ≡ (owed s.accounts head.flow + 1) + turns_in p.quantum 2 s.accounts head.new_flows + turns_in p.quantum 1 s.accounts head.old_flows))
   bound_before s head (of_new from n o) =
       let first = sum_by-cons (λ flow. owed s.accounts flow + 2) head.flow head.new_flows in
       inl (from, rw (n, o, first) refl)
@@ -168,12 +169,12 @@ module _ (p : Policy) (some_quantum : 0 < p.quantum) where
       let is = head_is s head at in
       let account = record (account_at s head.flow) { codel = codel } in
       let after = bound_to_old s head account sound is in
-      rw e (sound_to_old s head account sound is, elim (bound_before s head is) [ inl b ↦ let before = b.1 in omega arith | inr b ↦ absurd (let e : new_list ≡ old_list = sym from ∙ b.0 in cc) ])
+      rw e (sound_to_old s head account sound is, elim (bound_before s head is) [ inl b ↦ let before = b.1 in omega arith | inr b ↦ absurd (let e : New ≡ Old = sym from ∙ b.0 in cc) ])
   turn_lowers now s next sound (emptied_old head at from credits empty mark codel verdict none e) =
       let is = head_is s head at in
       let account = record (account_at s head.flow) { codel = codel } in
       let after = bound_unlisted s head account sound is in
-      rw e (sound_unlisted s head account sound is, elim (bound_before s head is) [ inl b ↦ absurd (let e : new_list ≡ old_list = sym b.0 ∙ from in cc) | inr b ↦ let before = b.1 in omega arith ])
+      rw e (sound_unlisted s head account sound is, elim (bound_before s head is) [ inl b ↦ absurd (let e : New ≡ Old = sym b.0 ∙ from in cc) | inr b ↦ let before = b.1 in omega arith ])
   turn_lowers now s next sound (serving head at credits drops mark codel verdict w found some e) = absurd cc
 
   -- one turn at least may be made where a flow is listed

@@ -18,6 +18,7 @@ pub mod NewFirst
 pub mod Sound
 pub mod Waiting
 pub mod FqCodelRuns
+pub mod Held
 pub mod FqCodel
 pub mod Running
 pub mod Examples

@@ -7,7 +7,8 @@ use Rattle.std.proofs.lemmas.List.Elements.{recursion_from_All}
 use Rattle.flow_core.specs.FlowLists.{AreDistinct, queue_at}
 use Rattle.sched_core.specs.declared.account.Account.{Account}
 use Rattle.sched_core.specs.FairQueues.{AreSound, FairQueues, Head, account_at, head_of, head_of_lists, new_account, to_old}
-use Rattle.sched_core.specs.FairQueues.FlowList.{new_list, old_list}
+use Rattle.sched_core.specs.declared.backlog.FlowList.{FlowList}
+use Rattle.sched_core.specs.declared.backlog.FlowList.TheVariants.{New, Old}
 use Rattle.sched_core.specs.NewFlows.{IsFirstReady, IsReady, SendsFrom}
 use Rattle.sched_core.specs.Turns.{Chain, Policy, Service, Turn}
 use Rattle.sched_core.specs.Turns.Turn.{used_up, emptied_new, emptied_old, serving}
@@ -18,19 +19,19 @@ abbrev NotReady : FairQueues → List ℕ → Type 0
 NotReady s flows = AllByRecursion (λ other. IsReady s other → ⊥) flows
 
 -- the head where the list of new flows isn't empty
-head_new : (s : FairQueues) (flow : ℕ) (rest : List ℕ) → s.lists.new_flows ≡ flow ∷ rest → head_of s ≡ Some (record { flow = flow; from = new_list; new_flows = rest; old_flows = s.lists.old_flows })
+head_new : (s : FairQueues) (flow : ℕ) (rest : List ℕ) → s.lists.new_flows ≡ flow ∷ rest → head_of s ≡ Some (record { flow = flow; from = New; new_flows = rest; old_flows = s.lists.old_flows })
 head_new s flow rest e = ap (λ l. head_of_lists l s.lists.old_flows) e
 
-first_is : (s : FairQueues) (flow : ℕ) (rest : List ℕ) (head : Head) → s.lists.new_flows ≡ flow ∷ rest → head_of s ≡ Some head → record { flow = flow; from = new_list; new_flows = rest; old_flows = s.lists.old_flows } ≡ head
+first_is : (s : FairQueues) (flow : ℕ) (rest : List ℕ) (head : Head) → s.lists.new_flows ≡ flow ∷ rest → head_of s ≡ Some head → record { flow = flow; from = New; new_flows = rest; old_flows = s.lists.old_flows } ≡ head
 first_is s flow rest head place at =
-    let e : Some (record { flow = flow; from = new_list; new_flows = rest; old_flows = s.lists.old_flows }) ≡ Some head = sym (head_new s flow rest place) ∙ at in
+    let e : Some (record { flow = flow; from = New; new_flows = rest; old_flows = s.lists.old_flows }) ≡ Some head = sym (head_new s flow rest place) ∙ at in
     cc
 
 flow_is : (s : FairQueues) (flow : ℕ) (rest : List ℕ) (head : Head) → s.lists.new_flows ≡ flow ∷ rest → head_of s ≡ Some head → head.flow ≡ flow
 flow_is s flow rest head place at = sym (ap (λ (h : Head). h.flow) (first_is s flow rest head place at))
 
-not_old : {P : Type 0} (s : FairQueues) (flow : ℕ) (rest : List ℕ) (head : Head) → s.lists.new_flows ≡ flow ∷ rest → head_of s ≡ Some head → head.from ≡ old_list → P
-not_old s flow rest head place at from = let e : new_list ≡ old_list = ap (λ (h : Head). h.from) (first_is s flow rest head place at) ∙ from in absurd cc
+not_old : {P : Type 0} (s : FairQueues) (flow : ℕ) (rest : List ℕ) (head : Head) → s.lists.new_flows ≡ flow ∷ rest → head_of s ≡ Some head → head.from ≡ Old → P
+not_old s flow rest head place at from = let e : New ≡ Old = ap (λ (h : Head). h.from) (first_is s flow rest head place at) ∙ from in absurd cc
 
 -- A turn moves a new flow that isn't ready out of the way: the next one stays ready or not.
 module _ (s : FairQueues) (b flow : ℕ) (before behind : List ℕ) (place : s.lists.new_flows ≡ b ∷ (before ++ flow ∷ behind)) (sound : AreSound s) (account : Account) where

@@ -5,8 +5,9 @@ use Rattle.packet_core.specs.declared.packet.Waiting.{Waiting}
 use Rattle.codel_core.specs.declared.served.Mark.{Mark}
 use Rattle.codel_core.specs.declared.state.CodelState.{CodelState}
 use Rattle.flow_core.specs.FlowLists.{FlowLists, queue_at, with_queue}
-use Rattle.sched_core.specs.FairQueues.{FairQueues, FlowList, Head, account_at, head_of, to_old, unlisted}
-use Rattle.sched_core.specs.FairQueues.FlowList.{new_list, old_list}
+use Rattle.sched_core.specs.FairQueues.{FairQueues, Head, account_at, head_of, to_old, unlisted}
+use Rattle.sched_core.specs.declared.backlog.FlowList.{FlowList}
+use Rattle.sched_core.specs.declared.backlog.FlowList.TheVariants.{New, Old}
 use Rattle.sched_core.specs.Policies.{IsDecided}
 use Rattle.sched_core.specs.Turns.{Policy, Service, Turn}
 use Rattle.sched_core.specs.Turns.Turn.{used_up, emptied_new, emptied_old, serving}
@@ -28,8 +29,8 @@ module _ (p : Policy) (decided : IsDecided p) (now : ℕ) (old : FairQueues) whe
       let e : (account_at old head.flow).credits ≡ (account_at old head'.flow).credits = ap (λ (h : Head). (account_at old h.flow).credits) (same_head head head' at at') in
       absurd (omega (arith, ints))
 
-  lists_clash : {P : Type 0} (head head' : Head) → head_of old ≡ Some head → head_of old ≡ Some head' → head.from ≡ new_list → head'.from ≡ old_list → P
-  lists_clash head head' at at' from from' = let e : new_list ≡ old_list = sym from ∙ ap (λ (h : Head). h.from) (same_head head head' at at') ∙ from' in absurd cc
+  lists_clash : {P : Type 0} (head head' : Head) → head_of old ≡ Some head → head_of old ≡ Some head' → head.from ≡ New → head'.from ≡ Old → P
+  lists_clash head head' at at' from from' = let e : New ≡ Old = sym from ∙ ap (λ (h : Head). h.from) (same_head head head' at at') ∙ from' in absurd cc
 
   packet_clash : {P : Type 0} (head head' : Head) → head_of old ≡ Some head → head_of old ≡ Some head' → queue_at old.lists head.flow ≡ []
       → (k : ℕ) (w : Waiting) → slice_get (queue_at old.lists head'.flow) k ≡ Some w → P
@@ -104,8 +105,8 @@ module _ (p : Policy) (decided : IsDecided p) (now : ℕ) (old : FairQueues) whe
   turn_there head at = by_lt_z (pos 0) ((account_at old head.flow).credits) (λ some. turns some (queue_at old.lists head.flow) refl) (λ none. (None, _, used_up head at none refl refl))
     where
       empties : pos 0 <ℤ (account_at old head.flow).credits → queue_at old.lists head.flow ≡ [] → (from : FlowList) → head.from ≡ from → (service : Option Service) × (new : FairQueues) × Turn p now old service new
-      empties some empty new_list is = let v = decided.empties now ((account_at old head.flow).codel) in (None, _, emptied_new head at is some empty v.0 v.1 v.2 refl refl)
-      empties some empty old_list is = let v = decided.empties now ((account_at old head.flow).codel) in (None, _, emptied_old head at is some empty v.0 v.1 v.2 refl refl)
+      empties some empty New is = let v = decided.empties now ((account_at old head.flow).codel) in (None, _, emptied_new head at is some empty v.0 v.1 v.2 refl refl)
+      empties some empty Old is = let v = decided.empties now ((account_at old head.flow).codel) in (None, _, emptied_old head at is some empty v.0 v.1 v.2 refl refl)
 
       turns : pos 0 <ℤ (account_at old head.flow).credits → (queue : List Waiting) → queue_at old.lists head.flow ≡ queue → (service : Option Service) × (new : FairQueues) × Turn p now old service new
       turns some [] is = empties some is head.from refl

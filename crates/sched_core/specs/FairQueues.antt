@@ -3,6 +3,8 @@ use Rattle.codel_core.specs.Verdict.{opening}
 use Rattle.packet_core.specs.declared.packet.Waiting.{Waiting}
 use Rattle.flow_core.specs.FlowLists.{AreListed, FlowLists, no_flows, queue_at}
 use Rattle.sched_core.specs.declared.account.Account.{Account}
+use Rattle.sched_core.specs.declared.backlog.FlowList.{FlowList}
+use Rattle.sched_core.specs.declared.backlog.FlowList.TheVariants.{New, Old}
 
 -- What a fair scheduler keeps of its flows (RFC 8290, section 4): their queues, the list of new flows and the list of old flows, and an
 -- account for each flow: its credits, in bytes, and its CoDel state.
@@ -31,12 +33,7 @@ pub record AreSound (s : FairQueues) : Type 0 where
   pub listed : AreListed s.lists
   pub accounts : length s.accounts ≡ length s.lists.queues
 
--- which of the two lists a flow stands in
-pub data FlowList : Type 0 where
-  new_list : FlowList
-  old_list : FlowList
-
--- a flow at the head of a list, and what stays in both lists without it
+-- a flow at the head of a list, which list that is, and what stays in both lists without it
 pub record Head : Type 0 where
   pub flow : ℕ
   pub from : FlowList
@@ -46,8 +43,8 @@ pub record Head : Type 0 where
 -- The flow that is looked at: the head of the list of new flows, or, where that list is empty, of the list of old flows (RFC 8290,
 -- section 4.2).
 abbrev pub head_of_lists : List ℕ → List ℕ → Option Head
-head_of_lists (flow ∷ rest) old = Some (record { flow = flow; from = new_list; new_flows = rest; old_flows = old })
-head_of_lists [] (flow ∷ rest) = Some (record { flow = flow; from = old_list; new_flows = []; old_flows = rest })
+head_of_lists (flow ∷ rest) old = Some (record { flow = flow; from = New; new_flows = rest; old_flows = old })
+head_of_lists [] (flow ∷ rest) = Some (record { flow = flow; from = Old; new_flows = []; old_flows = rest })
 head_of_lists [] [] = None
 
 abbrev pub head_of : FairQueues → Option Head

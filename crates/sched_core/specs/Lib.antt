@@ -11,6 +11,7 @@ pub mod Policies
 pub mod TurnBound
 pub mod NewFlows
 pub mod FqCodel
+pub mod Backlogs
 pub mod Steps
 pub mod Runs
 pub mod Happened

@@ -5,7 +5,7 @@ use Rattle.codel_core.specs.declared.state.CodelState.{CodelState}
 use Rattle.flow_core.specs.FlowLists.{queue_at, with_queue}
 use Rattle.sched_core.specs.Disciplines.{Given, Batch}
 use Rattle.sched_core.specs.FairQueues.{FairQueues, Head, account_at, head_of, to_old, unlisted}
-use Rattle.sched_core.specs.FairQueues.FlowList.{new_list, old_list}
+use Rattle.sched_core.specs.declared.backlog.FlowList.TheVariants.{New, Old}
 
 -- What a fair scheduler leaves to others: how many bytes a flow may send in its turn; which packets of a flow's queue are dropped when
 -- it is served; and which packets are dropped when too many wait. `verdict now queue codel drops mark codel'`: at that moment so many
@@ -34,7 +34,7 @@ pub data Turn (p : Policy) (now : ℕ) (old : FairQueues) (service : Option Serv
       }
       → Turn p now old service new
   -- It is a new flow without packets: it goes to the end of the list of old flows.
-  emptied_new : (head : Head) → head_of old ≡ Some head → head.from ≡ new_list
+  emptied_new : (head : Head) → head_of old ≡ Some head → head.from ≡ New
       → pos 0 <ℤ (account_at old head.flow).credits
       → queue_at old.lists head.flow ≡ []
       → (mark : Mark) → (codel : CodelState) → p.verdict now [] (account_at old head.flow).codel 0 mark codel
@@ -45,7 +45,7 @@ pub data Turn (p : Policy) (now : ℕ) (old : FairQueues) (service : Option Serv
       }
       → Turn p now old service new
   -- It is an old flow without packets: it leaves the lists.
-  emptied_old : (head : Head) → head_of old ≡ Some head → head.from ≡ old_list
+  emptied_old : (head : Head) → head_of old ≡ Some head → head.from ≡ Old
       → pos 0 <ℤ (account_at old head.flow).credits
       → queue_at old.lists head.flow ≡ []
       → (mark : Mark) → (codel : CodelState) → p.verdict now [] (account_at old head.flow).codel 0 mark codel

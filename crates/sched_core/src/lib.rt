@@ -5,6 +5,7 @@
 #![tactic(auto)]
 
 mod account;
+mod backlog;
 mod event;
 mod fates;
 mod journal;

@@ -1,0 +1,104 @@
+use Rattle.std.specs.Prelude.{◌≡◌, ℕ, ◌+◌, ◌*◌, ◌^◌, ◌≤◌, List, ◌∷◌, [], ◌++◌, drop, take, get_or, set, length, slice_get, Option, Some, None, option_map, ℤ, pos, ◌+ℤ◌, ◌-ℤ◌, ◌≤ℤ◌}
+use Rattle.packet_core.specs.declared.packet.Waiting.{Waiting}
+use Rattle.packet_core.specs.declared.params.ParamFields.{ParamFields}
+use Rattle.codel_core.specs.Schedule.{StaysInRange}
+use Rattle.codel_core.specs.Verdict.{Decides, served}
+use Rattle.codel_core.specs.declared.served.Mark.{Mark}
+use Rattle.codel_core.specs.declared.served.Served.{Served}
+use Rattle.codel_core.specs.declared.state.CodelState.{CodelState}
+use Rattle.flow_core.specs.FlowLists.{FlowLists, Holding, queue_at, waiting_in, with_queue}
+use Rattle.sched_core.specs.declared.account.Account.{Account}
+use Rattle.sched_core.specs.declared.backlog.Backlog.TheInside.{Inside}
+use Rattle.sched_core.specs.declared.backlog.Head.{Head as ShownHead}
+use Rattle.sched_core.specs.declared.event.Cause.TheVariants as cause
+use Rattle.sched_core.specs.Books.{Book}
+use Rattle.sched_core.specs.FairQueueing.{with_flow_listed}
+use Rattle.sched_core.specs.FairQueues.{FairQueues, Head, account_at, new_account}
+use Rattle.sched_core.specs.Fating.{with_drops}
+use Rattle.sched_core.specs.FqCodel.{fq_codel_policy}
+use Rattle.sched_core.specs.Turns.{Chain, Service}
+
+-- the flows as the scheduler sees them: how many packets came so far, and how many more may come without taking memory
+pub record Held : Type 0 where
+  pub queues : FairQueues
+  pub arrived : ℕ
+  pub room : ℕ
+
+abbrev pub held_of : Inside → Held
+held_of b = record { queues = record { lists = b.flows.lists; accounts = b.accounts.items }; arrived = b.arrived; room = b.flows.room }
+
+-- The numbers of an account fit: CoDel's count is of packets that came, and so many that wait did not count yet.
+pub record IsAccountInRange (account : Account) (waiting arrived : ℕ) : Type 0 where
+  pub low : pos 0 ≤ℤ (account.credits +ℤ pos 65535)
+  pub high : account.credits ≤ℤ pos 1000000
+  pub count : account.codel.count + waiting ≤ arrived
+  pub lastcount : account.codel.lastcount ≤ arrived
+  pub drop_next : account.codel.drop_next ≤ 2 ^ 60 + 1000000000
+
+-- What is kept of flows, accounts and the number of packets that came.
+pub record AreHeld (lists : FlowLists) (accounts : List Account) (arrived : ℕ) : Type 0 where
+  pub as_many : length accounts ≡ length lists.queues
+  pub few : arrived ≤ 2 ^ 40
+  pub waiting : waiting_in lists ≤ arrived
+  pub numbers : (flow : ℕ) → IsAccountInRange (get_or accounts flow new_account) (length (queue_at lists flow)) arrived
+
+abbrev pub IsHeld : Inside → Type 0
+IsHeld b = AreHeld b.flows.lists b.accounts.items b.arrived
+
+-- the head of a list as the code has it
+abbrev pub shown_head : Head → ShownHead
+shown_head head = record { flow = head.flow; from = head.from }
+
+-- the packet that is served, with its field as sent
+abbrev pub shown_service : Service → Served
+shown_service s = served s.given.mark s.given.waiting
+
+-- a packet at the tail of its flow's queue, which is listed
+abbrev pub with_arrival_listed : ParamFields → FairQueues → ℕ → Waiting → FairQueues
+with_arrival_listed p s flow w =
+    record (with_flow_listed (fq_codel_policy p) s flow) {
+      lists = record ((with_flow_listed (fq_codel_policy p) s flow).lists) { queues = set s.lists.queues flow (queue_at s.lists flow ++ w ∷ []) };
+    }
+
+-- CoDel serves the queue of a flow: it drops packets, which the journal records, and gives the next one, if one waits.
+pub record ServesQueue (p : ParamFields) (now flow : ℕ) (old : Holding) (codel : CodelState) (book : Book) (answer : Option Served) (new : Holding) (codel' : CodelState) (book' : Book) : Type 0 where
+  pub drops : ℕ
+  pub mark : Mark
+  pub decides : Decides p now (queue_at old.lists flow) codel drops mark codel'
+  pub given : answer ≡ option_map (served mark) (slice_get (queue_at old.lists flow) drops)
+  pub rest : new ≡ record old { lists = with_queue old.lists flow (drop (drops + 1) (queue_at old.lists flow)) }
+  pub stays : StaysInRange p now codel (length (queue_at old.lists flow)) codel' (length (drop (drops + 1) (queue_at old.lists flow)))
+  pub journal : book' ≡ with_drops book now cause.Codel (take drops (queue_at old.lists flow))
+
+-- the credits once a packet was given, if one was
+abbrev pub spent : ℤ → Option Waiting → ℤ
+spent credits None = credits
+spent credits (Some w) = credits -ℤ pos w.packet.len
+
+-- A flow is served: CoDel drops packets of it, which the journal records, and gives the next one, if one waits.
+pub record ServesFlow (p : ParamFields) (now flow : ℕ) (old : Held) (book : Book) (answer : Option Served) (new : Held) (book' : Book) : Type 0 where
+  pub drops : ℕ
+  pub mark : Mark
+  pub codel : CodelState
+  pub decides : Decides p now (queue_at old.queues.lists flow) (account_at old.queues flow).codel drops mark codel
+  pub given : answer ≡ option_map (served mark) (slice_get (queue_at old.queues.lists flow) drops)
+  pub rest : new
+      ≡ record old {
+        queues = record {
+          lists = with_queue old.queues.lists flow (drop (drops + 1) (queue_at old.queues.lists flow));
+          accounts = set old.queues.accounts flow (record { credits = spent ((account_at old.queues flow).credits) (slice_get (queue_at old.queues.lists flow) drops); codel = codel });
+        };
+      }
+  pub journal : book' ≡ with_drops book now cause.Codel (take drops (queue_at old.queues.lists flow))
+
+-- what a service dropped
+abbrev pub dropped_by : Option Service → List Waiting
+dropped_by None = []
+dropped_by (Some s) = s.dropped
+
+-- A chain of turns is made, and the journal records what it drops.
+pub record ServesChain (p : ParamFields) (now : ℕ) (old : Held) (book : Book) (turns : ℕ) (answer : Option Served) (new : Held) (book' : Book) : Type 0 where
+  pub service : Option Service
+  pub chain : Chain (fq_codel_policy p) now old.queues turns service new.queues
+  pub given : answer ≡ option_map shown_service service
+  pub journal : book' ≡ with_drops book now cause.Codel (dropped_by service)
