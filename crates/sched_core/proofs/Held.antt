@@ -43,8 +43,24 @@ held_serves p now lists accounts arrived flow gone account h within soon low hig
           | inr other ↦ rw (get_or-set_other accounts flow f account new_account other, get_or-set_other lists.queues flow f (drop gone (queue_at lists flow)) [] other) (h.numbers f)
         ]
 
+-- an account that stays in range
+pub held_account : (lists : FlowLists) (accounts : List Account) (arrived flow : ℕ) (account : Account) → AreHeld lists accounts arrived → flow < length lists.queues → IsAccountInRange account (length (queue_at lists flow)) arrived → AreHeld lists (set accounts flow account) arrived
+held_account lists accounts arrived flow account h within range = record {
+  as_many = length-set accounts flow account ∙ h.as_many;
+  few = h.few;
+  waiting = h.waiting;
+  numbers = numbers;
+}
+  where
+    numbers : (f : ℕ) → IsAccountInRange (get_or (set accounts flow account) f new_account) (length (get_or lists.queues f [])) arrived
+    numbers f =
+        elim (cases_eq f flow) [
+          | inl same ↦ rw (same, get_or-set_same accounts flow account new_account (rw h.as_many within)) range
+          | inr other ↦ rw (get_or-set_other accounts flow f account new_account other) (h.numbers f)
+        ]
+
 -- what a map of an option comes from
-some_from_map : {X Y : Type 0} (f : X → Y) (o : Option X) (y : Y) → Some y ≡ option_map f o → (x : X) × (o ≡ Some x) × (y ≡ f x)
+pub some_from_map : {X Y : Type 0} (f : X → Y) (o : Option X) (y : Y) → Some y ≡ option_map f o → (x : X) × (o ≡ Some x) × (y ≡ f x)
 some_from_map f None y e = absurd cc
 some_from_map f (Some x) y e = (x, refl, (let same : y ≡ f x = cc in same))
 
@@ -64,6 +80,7 @@ flow_from_queue p now flow old codel codel' book book' s flows' credits' was q c
       codel = codel';
       decides = rw (← was) q.decides;
       given = q.given;
+      none = q.none;
       rest = rw (q.rest, credits_are) refl;
       journal = q.journal;
     }

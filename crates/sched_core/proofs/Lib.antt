@@ -19,6 +19,8 @@ pub mod Sound
 pub mod Waiting
 pub mod FqCodelRuns
 pub mod Held
+pub mod Dropping
+pub mod Listing
 pub mod FqCodel
 pub mod Running
 pub mod Examples

@@ -1,4 +1,4 @@
-use Rattle.std.specs.Prelude.{◌≡◌, ℕ, ◌+◌, ◌*◌, ◌^◌, ◌≤◌, List, ◌∷◌, [], ◌++◌, drop, take, get_or, set, length, slice_get, Option, Some, None, option_map, ℤ, pos, ◌+ℤ◌, ◌-ℤ◌, ◌≤ℤ◌}
+use Rattle.std.specs.Prelude.{◌≡◌, ◌↔◌, IsNone, ℕ, ◌+◌, ◌*◌, ◌^◌, ◌≤◌, List, ◌∷◌, [], ◌++◌, drop, take, get_or, set, length, slice_get, Option, Some, None, option_map, ℤ, pos, ◌+ℤ◌, ◌-ℤ◌, ◌≤ℤ◌}
 use Rattle.packet_core.specs.declared.packet.Waiting.{Waiting}
 use Rattle.packet_core.specs.declared.params.ParamFields.{ParamFields}
 use Rattle.codel_core.specs.Schedule.{StaysInRange}
@@ -9,14 +9,18 @@ use Rattle.codel_core.specs.declared.state.CodelState.{CodelState}
 use Rattle.flow_core.specs.FlowLists.{FlowLists, Holding, queue_at, waiting_in, with_queue}
 use Rattle.sched_core.specs.declared.account.Account.{Account}
 use Rattle.sched_core.specs.declared.backlog.Backlog.TheInside.{Inside}
+use Rattle.sched_core.specs.declared.backlog.FlowList.{FlowList}
+use Rattle.sched_core.specs.declared.backlog.FlowList.TheVariants.{New, Old}
 use Rattle.sched_core.specs.declared.backlog.Head.{Head as ShownHead}
 use Rattle.sched_core.specs.declared.event.Cause.TheVariants as cause
 use Rattle.sched_core.specs.Books.{Book}
+use Rattle.sched_core.specs.Disciplines.{Batch, packets_of}
 use Rattle.sched_core.specs.FairQueueing.{with_flow_listed}
-use Rattle.sched_core.specs.FairQueues.{FairQueues, Head, account_at, new_account}
+use Rattle.sched_core.specs.FairQueues.{FairQueues, Head, account_at, new_account, to_old, unlisted}
 use Rattle.sched_core.specs.Fating.{with_drops}
 use Rattle.sched_core.specs.FqCodel.{fq_codel_policy}
-use Rattle.sched_core.specs.Turns.{Chain, Service}
+use Rattle.sched_core.specs.Overflow.{Overflow}
+use Rattle.sched_core.specs.Turns.{Chain, Service, Turn}
 
 -- the flows as the scheduler sees them: how many packets came so far, and how many more may come without taking memory
 pub record Held : Type 0 where
@@ -49,6 +53,26 @@ IsHeld b = AreHeld b.flows.lists b.accounts.items b.arrived
 abbrev pub shown_head : Head → ShownHead
 shown_head head = record { flow = head.flow; from = head.from }
 
+-- the list that a head is of
+abbrev pub list_of : Head → FlowList
+list_of head = head.from
+
+-- other lists, and all else the same
+abbrev pub with_lists : Held → FlowLists → Held
+with_lists old lists = record old { queues = record old.queues { lists = lists } }
+
+-- the lists without a flow at the head that has no packet: a new flow becomes an old one, and an old flow leaves
+abbrev pub lists_by : FlowList → FairQueues → Head → FlowLists
+lists_by New s head = to_old s head
+lists_by Old s head = unlisted s head
+
+abbrev pub emptied_lists : FairQueues → Head → FlowLists
+emptied_lists s head = lists_by head.from s head
+
+-- the flows, once so many packets left the head of that flow's queue
+abbrev pub without_head : Holding → ℕ → ℕ → Holding
+without_head old flow n = record old { lists = with_queue old.lists flow (drop n (queue_at old.lists flow)) }
+
 -- the packet that is served, with its field as sent
 abbrev pub shown_service : Service → Served
 shown_service s = served s.given.mark s.given.waiting
@@ -67,6 +91,7 @@ pub record ServesQueue (p : ParamFields) (now flow : ℕ) (old : Holding) (codel
   pub decides : Decides p now (queue_at old.lists flow) codel drops mark codel'
   pub given : answer ≡ option_map (served mark) (slice_get (queue_at old.lists flow) drops)
   pub rest : new ≡ record old { lists = with_queue old.lists flow (drop (drops + 1) (queue_at old.lists flow)) }
+  pub none : IsNone answer ↔ (queue_at old.lists flow ≡ [])
   pub stays : StaysInRange p now codel (length (queue_at old.lists flow)) codel' (length (drop (drops + 1) (queue_at old.lists flow)))
   pub journal : book' ≡ with_drops book now cause.Codel (take drops (queue_at old.lists flow))
 
@@ -82,6 +107,7 @@ pub record ServesFlow (p : ParamFields) (now flow : ℕ) (old : Held) (book : Bo
   pub codel : CodelState
   pub decides : Decides p now (queue_at old.queues.lists flow) (account_at old.queues flow).codel drops mark codel
   pub given : answer ≡ option_map (served mark) (slice_get (queue_at old.queues.lists flow) drops)
+  pub none : IsNone answer ↔ (queue_at old.queues.lists flow ≡ [])
   pub rest : new
       ≡ record old {
         queues = record {
@@ -102,3 +128,28 @@ pub record ServesChain (p : ParamFields) (now : ℕ) (old : Held) (book : Book) 
   pub chain : Chain (fq_codel_policy p) now old.queues turns service new.queues
   pub given : answer ≡ option_map shown_service service
   pub journal : book' ≡ with_drops book now cause.Codel (dropped_by service)
+
+-- A turn is made, and the journal records what it drops.
+pub record MakesTurn (p : ParamFields) (now : ℕ) (old : Held) (book : Book) (answer : Option Served) (new : Held) (book' : Book) : Type 0 where
+  pub service : Option Service
+  pub turn : Turn (fq_codel_policy p) now old.queues service new.queues
+  pub given : answer ≡ option_map shown_service service
+  pub journal : book' ≡ with_drops book now cause.Codel (dropped_by service)
+  pub arrived : new.arrived ≡ old.arrived
+  pub room : new.room ≡ old.room
+
+-- a quantum more for that flow
+abbrev pub with_credits_raised : ℕ → Held → ℕ → Held
+with_credits_raised quantum old flow =
+    record old {
+      queues = record old.queues {
+        accounts = set old.queues.accounts flow (record (account_at old.queues flow) { credits = (account_at old.queues flow).credits +ℤ pos quantum });
+      };
+    }
+
+-- What overflows is dropped, and the journal records it.
+pub record DropsOverflow (limit moment : ℕ) (old : Held) (book : Book) (new : Held) (book' : Book) : Type 0 where
+  pub batches : List Batch
+  pub overflow : Overflow limit old.queues.lists.queues batches new.queues.lists.queues
+  pub rest : new ≡ record old { queues = record old.queues { lists = record old.queues.lists { queues = new.queues.lists.queues } } }
+  pub journal : book' ≡ with_drops book moment cause.Overflow (packets_of batches)

@@ -25,7 +25,7 @@ pub record RecordsDrops (moment : ℕ) (cause : Cause) (old : MutBor Book) (ws :
   pub same_reference : new.ghost_name ≡ old.ghost_name
   pub book : new.now ≡ with_drops old.now moment cause ws
 
-drops_none : (book : Book) (moment : ℕ) (cause : Cause) → book ≡ with_drops book moment cause []
+pub drops_none : (book : Book) (moment : ℕ) (cause : Cause) → book ≡ with_drops book moment cause []
 drops_none book moment cause =
     let none : book.room ≡ book.room - 0 = omega arith in
     λ i. record { events = sym (append-nil book.events) i; counts = book.counts; room = none i }
@@ -35,7 +35,7 @@ count_drops_push : (cause : Cause) (c : Counts) (ws : List Waiting) (w : Waiting
 count_drops_push cause c [] w = refl
 count_drops_push cause c (v ∷ ws) w = count_drops_push cause (count_dropped c v.packet.len cause) ws w
 
-drops_more : (book : Book) (moment : ℕ) (cause : Cause) (ws : List Waiting) (w : Waiting) → with_drops (with_drops book moment cause ws) moment cause (w ∷ []) ≡ with_drops book moment cause (ws ++ w ∷ [])
+pub drops_more : (book : Book) (moment : ℕ) (cause : Cause) (ws : List Waiting) (w : Waiting) → with_drops (with_drops book moment cause ws) moment cause (w ∷ []) ≡ with_drops book moment cause (ws ++ w ∷ [])
 drops_more book moment cause ws w =
     let told = map (drop_event moment cause) ws in
     let events : (book.events ++ told) ++ drop_event moment cause w ∷ [] ≡ book.events ++ map (drop_event moment cause) (ws ++ w ∷ []) = append_assoc book.events told (drop_event moment cause w ∷ []) ∙ ap (λ (es : List Event). book.events ++ es) (sym (map-append (drop_event moment cause) ws (w ∷ []))) in

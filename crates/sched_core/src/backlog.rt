@@ -1,8 +1,10 @@
-ghost use Rattle.std.specs.Prelude.{◌≡◌, ◌+◌, ◌^◌, ◌<◌, ◌≤◌, IfOk, OnErr, OnOk, Some, length, option_map, pos, ◌<ℤ◌};
+ghost use Rattle.std.specs.Prelude.{◌≡◌, ◌+◌, ◌^◌, ◌<◌, ◌≤◌, IfOk, IfSome, OnErr, OnOk, Some, length, option_map, pos, take, ◌<ℤ◌, ◌≤ℤ◌};
 ghost use Rattle.codel_core.specs.Schedule.{IsStateInRange};
-ghost use Rattle.flow_core.specs.FlowLists.{waiting_in};
-ghost use Rattle.sched_core.specs.Backlogs.{ServesChain, ServesFlow, ServesQueue, shown_head, with_arrival_listed};
-ghost use Rattle.sched_core.specs.FairQueues.{account_at, head_of, no_queues};
+ghost use Rattle.flow_core.specs.FlowLists.{queue_at, waiting_in};
+ghost use Rattle.sched_core.specs.Backlogs.{DropsOverflow, MakesTurn, ServesChain, ServesFlow, ServesQueue, emptied_lists, list_of, shown_head, with_arrival_listed, with_credits_raised, with_lists, without_head};
+ghost use Rattle.sched_core.specs.Fating.{with_drops};
+ghost use Rattle.sched_core.specs.declared.event.Cause.TheVariants as cause;
+ghost use Rattle.sched_core.specs.FairQueues.{account_at, head_of, no_queues, to_old};
 
 use crate::account::Account;
 use crate::event::Cause;
@@ -14,6 +16,9 @@ use flow_core::Flows;
 use packet_core::{Params, Waiting};
 use std::alloc::Global;
 use std::marker::Model;
+
+/// The most packets that one overflow drops.
+const MAX_BATCH: u64 = 64;
 
 /// One of the two lists of flows (RFC 8290, section 4).
 #[derive(Clone, Copy, Debug)]
@@ -88,7 +93,8 @@ impl Backlog {
 
     /// The flow that a turn looks at (RFC 8290, section 4.2).
     fn head(&self) -> Option<Head>
-        ensures { result ≡ option_map shown_head (head_of self.now.queues) }
+        ensures value { result ≡ option_map shown_head (head_of self.now.queues) }
+        ensures within { IfSome result (λ head. head.flow < length self.now.queues.lists.queues) }
     {
         if let Some(flow) = self.flows.head_new() {
             return Some(Head {
@@ -118,6 +124,105 @@ impl Backlog {
         if !self.flows.listed(flow) {
             self.flows.add_new(flow);
             self.accounts[flow as usize].credits = i64::from(params.quantum());
+        }
+    }
+
+    /// Where more than `limit` packets wait, the flow with the most bytes loses a batch from its head, which the
+    /// journal records (RFC 8290, section 4.1).
+    pub(crate) fn overflow(&mut self, limit: u32, moment: u64, journal: &mut Journal)
+        requires limit { 1 ≤ limit }
+        requires room { waiting_in self.old.queues.lists ≤ journal.old.room }
+        ensures { DropsOverflow limit moment self.old journal.old self.new journal.new }
+    {
+        if self.flows.total_len() <= u64::from(limit) {
+            return;
+        }
+        let Some(flow) = self.flows.fattest() else {
+            unreachable!()
+        };
+        let batch = (self.flows.len(flow) / 2).clamp(1, MAX_BATCH);
+        drop_batch(&mut self.flows, flow, batch, moment, journal);
+    }
+
+    /// A chain of turns, up to the first one that serves a flow, or to where both lists are empty (RFC 8290,
+    /// section 4.2). What CoDel drops goes to the journal.
+    pub(crate) fn serve(&mut self, now: u64, params: &Params, journal: &mut Journal) -> Serving
+        requires moment { now < 2 ^ 60 }
+        requires room { waiting_in self.old.queues.lists ≤ journal.old.room }
+        ensures chain { ServesChain params.now now self.old journal.old result.turns result.served self.new journal.new }
+        ensures arrived { self.new.arrived ≡ self.old.arrived }
+        ensures room { self.new.room ≡ self.old.room }
+    {
+        let mut turns = 0;
+        while let Some(head) = self.head() {
+            turns += 1;
+            let served = self.turn(head, now, params, journal);
+            if served.is_some() {
+                return Serving { turns, served };
+            }
+        }
+        Serving {
+            turns,
+            served: None,
+        }
+    }
+
+    /// One turn of the flow at the head (RFC 8290, section 4.2).
+    fn turn(&mut self, head: Head, now: u64, params: &Params, journal: &mut Journal) -> Option<Served>
+        requires head { option_map shown_head (head_of self.old.queues) ≡ Some head }
+        requires flow { head.flow < length self.old.queues.lists.queues }
+        requires moment { now < 2 ^ 60 }
+        requires room { waiting_in self.old.queues.lists ≤ journal.old.room }
+        ensures { MakesTurn params.now now self.old journal.old result self.new journal.new }
+    {
+        if self.credits(head.flow) <= 0 {
+            self.raise_credits(head.flow, params);
+            self.move_to_old(head.from);
+            return None;
+        }
+        let served = self.serve_flow(head.flow, now, params, journal);
+        if served.is_none() {
+            self.leave(head.from);
+        }
+        served
+    }
+
+    /// How many bytes a flow may still send.
+    pub(crate) fn credits(&self, flow: u32) -> i64
+        requires { flow < length self.now.queues.lists.queues }
+        ensures { result ≡ (account_at self.now.queues flow).credits }
+    {
+        self.accounts[flow as usize].credits
+    }
+
+    /// A flow that used up its credits gets a quantum more.
+    fn raise_credits(&mut self, flow: u32, params: &Params)
+        requires flow { flow < length self.old.queues.lists.queues }
+        requires credits { (account_at self.old.queues flow).credits ≤ℤ pos 0 }
+        ensures { self.new ≡ with_credits_raised params.now.quantum self.old flow }
+    {
+        self.accounts[flow as usize].credits += i64::from(params.quantum());
+    }
+
+    /// The flow at the head of that list goes to the end of the list of old flows.
+    fn move_to_old(&mut self, from: FlowList)
+        requires { option_map list_of (head_of self.old.queues) ≡ Some from }
+        ensures { IfSome (head_of self.old.queues) (λ head. self.new ≡ with_lists self.old (to_old self.old.queues head)) }
+    {
+        match from {
+            FlowList::New => self.flows.new_to_old(),
+            FlowList::Old => self.flows.rotate_old(),
+        }
+    }
+
+    /// The flow at the head of that list has no packet: a new flow becomes an old one, and an old flow leaves.
+    fn leave(&mut self, from: FlowList)
+        requires { option_map list_of (head_of self.old.queues) ≡ Some from }
+        ensures { IfSome (head_of self.old.queues) (λ head. self.new ≡ with_lists self.old (emptied_lists self.old.queues head)) }
+    {
+        match from {
+            FlowList::New => self.flows.new_to_old(),
+            FlowList::Old => self.flows.leave_old(),
         }
     }
 
@@ -158,4 +263,18 @@ fn serve_queue(
         cause: Cause::Codel,
     };
     codel.serve(&mut line, now, params, &mut fates)
+}
+
+/// Drops so many packets from the head of a flow's queue, as overflow.
+fn drop_batch(flows: &mut Flows, flow: u32, batch: u64, moment: u64, journal: &mut Journal)
+    requires flow { flow < length flows.old.lists.queues }
+    requires room { length (queue_at flows.old.lists flow) ≤ journal.old.room }
+    ensures flows { flows.new ≡ without_head flows.old flow batch }
+    ensures journal { journal.new ≡ with_drops journal.old moment cause.Overflow (take batch (queue_at flows.old.lists flow)) }
+{
+    for _ in 0..batch {
+        if let Some(dropped) = flows.pop(flow) {
+            journal.drop(&dropped, moment, Cause::Overflow);
+        }
+    }
 }

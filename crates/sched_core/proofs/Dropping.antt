@@ -1,0 +1,38 @@
+-- Packets that leave the head of a flow's queue, one after another, into the journal.
+use Rattle.std.proofs.Common.{◌≡◌, ℕ, zero, suc, ◌+◌, ◌<◌, List, [], ◌∷◌, ◌++◌, drop, take, get_or, set, length, Option, Some, None, slice_get, refl, sym, ap, ◌∙◌, arith}
+use Rattle.std.proofs.lemmas.List.{drop-drop, get_or-set_same, set-set}
+use Rattle.packet_core.specs.declared.packet.Waiting.{Waiting}
+use Rattle.flow_core.specs.FlowLists.{Holding, queue_at, with_queue}
+use Rattle.sched_core.specs.declared.event.Cause.{Cause}
+use Rattle.sched_core.specs.Backlogs.{without_head}
+use Rattle.sched_core.specs.Books.{Book}
+use Rattle.sched_core.specs.Fating.{drops_more, drops_none, with_drops}
+
+-- n packets left, and then one more
+pub head_leaves : (old : Holding) (flow n : ℕ) → flow < length old.lists.queues → without_head (without_head old flow n) flow 1 ≡ without_head old flow (n + 1)
+head_leaves old flow n within =
+    let q = queue_at old.lists flow in
+    rw (get_or-set_same old.lists.queues flow (drop n q) [] within, set-set old.lists.queues flow (drop n q) (drop 1 (drop n q)), drop-drop 1 n q) refl
+
+-- the n packets at the head and the next one
+take_next : (q : List Waiting) (n : ℕ) (w : Waiting) → slice_get (drop n q) 0 ≡ Some w → take (n + 1) q ≡ take n q ++ w ∷ []
+take_next [] zero w found = absurd cc
+take_next [] (suc n) w found = absurd cc
+take_next (x ∷ q) zero w found = let e : x ≡ w = cc in ap (λ y. y ∷ []) e
+take_next (x ∷ q) (suc n) w found = let e : suc n + 1 ≡ suc (n + 1) = omega arith in rw e (ap (λ l. x ∷ l) (take_next q n w found))
+
+take_no_more : (q : List Waiting) (n : ℕ) → slice_get (drop n q) 0 ≡ None → take (n + 1) q ≡ take n q
+take_no_more [] zero none = refl
+take_no_more [] (suc n) none = let e : suc n + 1 ≡ suc (n + 1) = omega arith in rw e refl
+take_no_more (x ∷ q) zero none = absurd cc
+take_no_more (x ∷ q) (suc n) none = let e : suc n + 1 ≡ suc (n + 1) = omega arith in rw e (ap (λ l. x ∷ l) (take_no_more q n none))
+
+-- the next one is recorded
+pub one_recorded : (book now next : Book) (moment : ℕ) (why : Cause) (q : List Waiting) (n : ℕ) (w : Waiting) → now ≡ with_drops book moment why (take n q) → slice_get (drop n q) 0 ≡ Some w → next ≡ with_drops now moment why (w ∷ [])
+    → next ≡ with_drops book moment why (take (n + 1) q)
+one_recorded book now next moment why q n w before found recorded =
+    recorded ∙ ap (λ (b : Book). with_drops b moment why (w ∷ [])) before ∙ drops_more book moment why (take n q) w ∙ ap (with_drops book moment why) (sym (take_next q n w found))
+
+-- or there is none
+pub none_recorded : (book now : Book) (moment : ℕ) (why : Cause) (q : List Waiting) (n : ℕ) → now ≡ with_drops book moment why (take n q) → slice_get (drop n q) 0 ≡ None → now ≡ with_drops book moment why (take (n + 1) q)
+none_recorded book now moment why q n before none = before ∙ ap (with_drops book moment why) (sym (take_no_more q n none))
