@@ -21,6 +21,8 @@ pub mod FqCodelRuns
 pub mod Held
 pub mod Dropping
 pub mod Listing
+pub mod Turning
+pub mod MostTurns
 pub mod FqCodel
 pub mod Running
 pub mod Examples

@@ -1,10 +1,11 @@
-ghost use Rattle.std.specs.Prelude.{◌≡◌, ◌+◌, ◌^◌, ◌<◌, ◌≤◌, IfOk, IfSome, OnErr, OnOk, Some, length, option_map, pos, take, ◌<ℤ◌, ◌≤ℤ◌};
+ghost use Rattle.std.specs.Prelude.{◌≡◌, ℕ, ◌+◌, ◌^◌, ◌<◌, ◌≤◌, IfOk, IfSome, OnErr, OnOk, Some, length, option_map, pos, take, ◌<ℤ◌, ◌≤ℤ◌};
 ghost use Rattle.codel_core.specs.Schedule.{IsStateInRange};
 ghost use Rattle.flow_core.specs.FlowLists.{queue_at, waiting_in};
 ghost use Rattle.sched_core.specs.Backlogs.{DropsOverflow, MakesTurn, ServesChain, ServesFlow, ServesQueue, emptied_lists, list_of, shown_head, with_arrival_listed, with_credits_raised, with_lists, without_head};
 ghost use Rattle.sched_core.specs.Fating.{with_drops};
+ghost use Rattle.sched_core.specs.TurnBound.{turns_at_most};
 ghost use Rattle.sched_core.specs.declared.event.Cause.TheVariants as cause;
-ghost use Rattle.sched_core.specs.FairQueues.{account_at, head_of, no_queues, to_old};
+ghost use Rattle.sched_core.specs.FairQueues.{AreSound, account_at, head_of, no_queues, to_old};
 
 use crate::account::Account;
 use crate::event::Cause;
@@ -95,7 +96,10 @@ impl Backlog {
     fn head(&self) -> Option<Head>
         ensures value { result ≡ option_map shown_head (head_of self.now.queues) }
         ensures within { IfSome result (λ head. head.flow < length self.now.queues.lists.queues) }
+        ensures sound { AreSound self.now.queues }
+        ensures bound { (quantum : ℕ) → 0 < quantum → turns_at_most quantum self.now.queues ≤ 2 ^ 40 }
     {
+        let _flows = self.flows.flows();
         if let Some(flow) = self.flows.head_new() {
             return Some(Head {
                 flow,
@@ -154,12 +158,14 @@ impl Backlog {
         ensures room { self.new.room ≡ self.old.room }
     {
         let mut turns = 0;
-        while let Some(head) = self.head() {
+        let mut next = self.head();
+        while let Some(head) = next {
             turns += 1;
             let served = self.turn(head, now, params, journal);
             if served.is_some() {
                 return Serving { turns, served };
             }
+            next = self.head();
         }
         Serving {
             turns,
