@@ -1,5 +1,5 @@
 -- What the fields say of the flows as callers see them.
-use Rattle.std.proofs.Common.{◌≡◌, ℕ, ◌<◌, ◌≤◌, Some, None, IfSome, List, [], ◌∷◌, length, drop, set, eqb, position, slice_get, All, vec_len, sym, ap, subst, ◌∙◌, arith}
+use Rattle.std.proofs.Common.{◌≡◌, ℕ, ◌<◌, ◌≤◌, None, IfSome, List, [], ◌∷◌, length, drop, set, eqb, position, slice_get, All, vec_len, sym, ap, subst, ◌∙◌, arith}
 use Rattle.std.specs.List.{remove}
 use Rattle.std.proofs.lemmas.List.{set-get_or}
 use Rattle.std.proofs.lemmas.List.Elements.{All-from_get_or}
@@ -9,7 +9,7 @@ use Rattle.packet_core.specs.declared.packet.Waiting.{Waiting}
 use Rattle.flow_core.specs.declared.arrivals.Arrival.{Arrival}
 use Rattle.flow_core.specs.declared.flows.Flows.TheInside.{Inside}
 use Rattle.flow_core.specs.declared.arrivals.TheConstants.{MAX_WAITING}
-use Rattle.flow_core.specs.FlowLists.{AreListed, FlowLists, Holding, queue_at, waiting_in, with_queue}
+use Rattle.flow_core.specs.FlowLists.{AreListed, Holding, queue_at, waiting_in, with_queue}
 use Rattle.flow_core.specs.Arrivals.{queue_of, queues_of}
 use Rattle.flow_core.specs.Kept.{holding_of, IsKept}
 use Rattle.flow_core.proofs.Listing.{head_new_within, head_old_within}

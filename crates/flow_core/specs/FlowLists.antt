@@ -1,4 +1,4 @@
-use Rattle.std.specs.Prelude.{◌≡◌, ◌≢◌, ℕ, ◌+◌, ◌<◌, List, [], ◌∷◌, ◌++◌, All, length, drop, get_or, set, replicate, sum_by}
+use Rattle.std.specs.Prelude.{◌≢◌, ℕ, ◌<◌, List, [], ◌∷◌, ◌++◌, All, length, get_or, set, replicate, sum_by}
 use Rattle.packet_core.specs.declared.packet.Waiting.{Waiting}
 
 -- The queues of all flows, that of flow 0 first, and the two lists of flow numbers that a device looks at: the new flows and the old

@@ -56,13 +56,15 @@ impl Flows {
         })
     }
 
-    /// Takes memory for the next pushes, so many at least, into whatever flows. Room that is there stays.
+    /// Takes memory for the next pushes, so many at least, into whatever flows. Room that is there stays. It
+    /// fails only where that much room was missing.
     pub fn reserve(&mut self, pushes: u64) -> Result<(), Memory>
         requires { pushes ≤ MAX_WAITING }
         ensures lists { self.new.lists ≡ self.old.lists }
         ensures room { self.old.room ≤ self.new.room }
         ensures ok { OnOk result (pushes ≤ self.new.room) }
         ensures err { OnErr result (self.new ≡ self.old) }
+        ensures missing { OnErr result (self.old.room < pushes) }
     {
         self.arrivals.reserve(pushes as usize)?;
         if self.room < pushes {

@@ -7,9 +7,11 @@ use packet_core::Waiting;
 /// The queue of one flow, borrowed: a pull takes its head.
 #[derive(Drop)]
 pub struct Line<'a> {
-    pub(crate) flows: &'a mut Flows,
-    pub(crate) flow: u32,
-    ghost within: { flow < length flows.now.lists.queues },
+    /// The flows that it is borrowed from.
+    pub flows: &'a mut Flows,
+    /// The flow's number.
+    pub flow: u32,
+    pub ghost within: { flow < length flows.now.lists.queues },
 }
 
 impl Pull for Line<'_> {

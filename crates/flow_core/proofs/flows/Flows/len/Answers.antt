@@ -1,6 +1,5 @@
-use Rattle.std.proofs.Common.{length, sym, ap, ◌∙◌}
-use Rattle.flow_core.specs.FlowLists.{Holding, queue_at}
-use Rattle.flow_core.proofs.Keeping.{below_seen, size_seen}
+use Rattle.std.proofs.Common.{sym}
+use Rattle.flow_core.proofs.Keeping.{below_seen}
 use Rattle.flow_core.proofs.Queueing.{length-queue}
 use Rattle.flow_core.proofs.flows.Flows.len.Goals as goal
 
