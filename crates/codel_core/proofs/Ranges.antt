@@ -17,6 +17,7 @@ choice_le : (b : Bool) (m n bound : ℕ) → m ≤ bound → n ≤ bound → (if
 choice_le true m n bound h h' = h
 choice_le false m n bound h h' = h'
 
+-- the search from above finds nothing above its start
 root_le_most : (v n most : ℕ) → greatest_root v n most ≤ most
 root_le_most v n zero = omega arith
 root_le_most v n (suc r) = choice_le (nat_le (suc r * suc r * n) v) (suc r) (greatest_root v n r) (suc r) (omega arith) (omega (arith, root_le_most v n r))
@@ -85,6 +86,7 @@ stop_bounded p now q old waiting k mark new h due (marks d due' can marked e) =
       lastcount = omega (arith, lastcount);
     }
 
+-- behind each way of a verdict
 verdict_bounded : (p : ParamFields) (now : ℕ) (q : List Waiting) (old : CodelState) (k : ℕ) (mark : Mark) (new : CodelState)
     → Verdict p now q old k mark new → AreBounded p.interval now old (length q) k new
 verdict_bounded p now q old k mark new (nothing early is unmarked e) =
@@ -97,6 +99,7 @@ verdict_bounded p now q old k mark new (first_drop d idle cannot is unmarked e) 
 verdict_bounded p now q old k mark new (drops d dropping before s) =
     stop_bounded p now q old (length q) k mark new (within p now q old k d before) (λ j h. (before j h).due) s
 
+-- what a caller keeps, by the length of the line that is left
 pub verdict_in_range : (p : ParamFields) (now : ℕ) (q left : List Waiting) (old : CodelState) (k : ℕ) (mark : Mark) (new : CodelState)
     → IsIntervalInRange p.interval → Verdict p now q old k mark new → left ≡ drop (k + 1) q → StaysInRange p now old (length q) new (length left)
 verdict_in_range p now q left old k mark new interval v rest =

@@ -23,34 +23,42 @@ use Rattle.codel_core.proofs.Turns.{below_next}
 abbrev IsTold : Type 0 → Type 0
 IsTold P = P ⊎ (P → ⊥)
 
+-- two facts that can be told can be told together
 both_told : (P Q : Type 0) → IsTold P → IsTold Q → IsTold (P × Q)
 both_told P Q (inl p) (inl q) = inl (p, q)
 both_told P Q (inl p) (inr n) = inr (λ h. n h.1)
 both_told P Q (inr n) told = inr (λ h. n h.0)
 
+-- an order of numbers can be told
 le_told : (a b : ℕ) → IsTold (a ≤ b)
 le_told a b = elim (leb_tells a b) [ inl t ↦ inl t.1 | inr t ↦ inr (λ h. omega arith) ]
 
+-- what can be told of each value can be told of the one that may be there
 some_told : (X : Type 0) (P : X → Type 0) → ((x : X) → IsTold (P x)) → (o : Option X) → IsTold (IsSomeAnd o P)
 some_told X P told None = inr (λ h. h)
 some_told X P told (Some x) = told x
 
+-- a test can be told
 true_told : (b : Bool) → IsTold (IsTrue b)
 true_told true = inl refl
 true_told false = inr (λ h. cc)
 
+-- whether the packet at place j is late
 late_told : (p : ParamFields) (now : ℕ) (q : List Waiting) (j : ℕ) → IsTold (IsLate p now q j)
 late_told p now q j =
     let behind = drop (j + 1) q in
     some_told Waiting (λ w. IsLateBefore p now w behind) (λ w. both_told (w.stamp + p.target ≤ now) (p.mtu < bytes_of behind) (le_told (w.stamp + p.target) now) (le_told (suc p.mtu) (bytes_of behind))) (slice_get q j)
 
+-- whether the packet at place j is droppable
 droppable_told : (p : ParamFields) (now : ℕ) (q : List Waiting) (first_above : Option ℕ) (j : ℕ) → IsTold (IsDroppable p now q first_above j)
 droppable_told p now q first_above j =
     both_told (IsLate p now q j) (HasCome first_above now) (late_told p now q j) (some_told ℕ (λ t. t ≤ now) (λ t. le_told t now) first_above)
 
+-- whether the packet at place j may be marked
 markable_told : (p : ParamFields) (q : List Waiting) (j : ℕ) → IsTold (IsMarkableAt p q j)
 markable_told p q j = some_told Waiting (λ w. IsTrue (is_markable p.ecn w.packet.ecn)) (λ w. true_told (is_markable p.ecn w.packet.ecn)) (slice_get q j)
 
+-- whether the packet at place j is dropped while the queue drops
 dropped_told : (p : ParamFields) (now : ℕ) (q : List Waiting) (old : CodelState) (j : ℕ) → IsTold (IsDropped p now q old j)
 dropped_told p now q old j =
     elim (droppable_told p now q old.first_above j) [
@@ -78,6 +86,7 @@ behind_late : (o : Option Waiting) (p : ParamFields) (now : ℕ) (behind : List 
 behind_late None p now behind h = absurd h
 behind_late (Some w) p now behind h = some_wait behind p.mtu h.1
 
+-- a late packet has another one behind it
 pub one_behind : (p : ParamFields) (now : ℕ) (q : List Waiting) (j : ℕ) → IsLate p now q j → j + 1 < length q
 one_behind p now q j late = omega (arith, behind_late (slice_get q j) p now (drop (j + 1) q) late, length-drop (j + 1) q)
 
@@ -86,6 +95,7 @@ pub within : (p : ParamFields) (now : ℕ) (q : List Waiting) (old : CodelState)
 within p now q old zero first before = omega (arith, one_behind p now q 0 first.0)
 within p now q old (suc j) first before = omega (arith, one_behind p now q j (before j (omega arith)).droppable.0)
 
+-- a queue that isn't empty gives a packet
 pub verdict_gives : (p : ParamFields) (now : ℕ) (q : List Waiting) (old : CodelState) (k : ℕ) (mark : Mark) (new : CodelState)
     → Verdict p now q old k mark new → ((q ≡ []) × (k ≡ 0)) ⊎ (k < length q)
 verdict_gives p now [] old k mark new (nothing early is unmarked e) = inl (refl, is)
@@ -104,16 +114,19 @@ markable_is ecn.Mark Ect1 h = (refl, λ e. cc)
 markable_is ecn.Mark Ect0 h = (refl, λ e. cc)
 markable_is ecn.Mark Ce h = (refl, λ e. cc)
 
+-- the same of the packet at a place
 markable_place : (p : ParamFields) (o : Option Waiting) → IsSomeAnd o (λ w. IsTrue (is_markable p.ecn w.packet.ecn)) → IsSomeAnd o (λ w. (p.ecn ≡ ecn.Mark) × (w.packet.ecn ≢ NotEct))
 markable_place p None h = h
 markable_place p (Some w) h = markable_is p.ecn w.packet.ecn h
 
+-- a queue that stops at a mark stops at a packet that may be marked
 stop_honest : (p : ParamFields) (now : ℕ) (q : List Waiting) (old : CodelState) (k : ℕ) (mark : Mark) (new : CodelState)
     → Stops p now q old k mark new → mark ≡ CodelMark → IsMarkableAt p q k
 stop_honest p now q old k mark new (leaves d unmarked e) marked = let clash : NoMark ≡ CodelMark = sym unmarked ∙ marked in cc
 stop_honest p now q old k mark new (waits d early unmarked e) marked = let clash : NoMark ≡ CodelMark = sym unmarked ∙ marked in cc
 stop_honest p now q old k mark new (marks d due can is e) marked = can
 
+-- a packet with a mark may be marked
 markable_at : (p : ParamFields) (now : ℕ) (q : List Waiting) (old : CodelState) (k : ℕ) (mark : Mark) (new : CodelState)
     → Verdict p now q old k mark new → mark ≡ CodelMark → IsMarkableAt p q k
 markable_at p now q old k mark new (nothing early is unmarked e) marked = let clash : NoMark ≡ CodelMark = sym unmarked ∙ marked in cc
@@ -121,6 +134,7 @@ markable_at p now q old k mark new (first_mark d idle can is marked' e) marked =
 markable_at p now q old k mark new (first_drop d idle cannot is unmarked e) marked = let clash : NoMark ≡ CodelMark = sym unmarked ∙ marked in cc
 markable_at p now q old k mark new (drops d dropping before stop) marked = stop_honest p now q old k mark new stop marked
 
+-- its sender takes part, and marks are made
 pub verdict_honest : (p : ParamFields) (now : ℕ) (q : List Waiting) (old : CodelState) (k : ℕ) (mark : Mark) (new : CodelState)
     → Verdict p now q old k mark new → mark ≡ CodelMark → IsSomeAnd (slice_get q k) (λ w. (p.ecn ≡ ecn.Mark) × (w.packet.ecn ≢ NotEct))
 verdict_honest p now q old k mark new v marked = markable_place p (slice_get q k) (markable_at p now q old k mark new v marked)
@@ -187,6 +201,7 @@ droppable_verdict p now q old false is d =
       | inr cannot ↦ completed p now q old 1 NoMark (λ o. record (entered p now old) { first_above = o }) (λ o. refl) (λ o. first_drop d is cannot refl refl refl)
     ]
 
+-- there is a verdict on each queue, state and moment
 pub verdict_exists : (p : ParamFields) (now : ℕ) (q : List Waiting) (old : CodelState) → (k : ℕ) × (mark : Mark) × (new : CodelState) × Decides p now q old k mark new
 verdict_exists p now q old =
     elim (droppable_told p now q old.first_above 0) [
@@ -218,6 +233,7 @@ same_state made new new' f e e' = e ∙ ap made f ∙ sym e'
 abbrev AreOne : ℕ → ℕ → Mark → Mark → CodelState → CodelState → Type 0
 AreOne k k' mark mark' new new' = (k ≡ k') × (new.first_above ≡ new'.first_above → (mark ≡ mark') × (new ≡ new'))
 
+-- a queue stops at a place in one way only
 stop_unique : (p : ParamFields) (now : ℕ) (q : List Waiting) (old : CodelState) (k : ℕ) (mark mark' : Mark) (new new' : CodelState)
     → Stops p now q old k mark new → Stops p now q old k mark' new' → new.first_above ≡ new'.first_above → (mark ≡ mark') × (new ≡ new')
 stop_unique p now q old k mark mark' new new' (leaves n m e) (leaves n' m' e') f =
@@ -233,6 +249,7 @@ stop_unique p now q old k mark mark' new new' (marks d due can m e) (waits d' ea
 stop_unique p now q old k mark mark' new new' (marks d due can m e) (marks d' due' can' m' e') f =
     (m ∙ sym m', same_state (λ o. record old { first_above = o; count = old.count + k + 1; drop_next = drop_moment p.interval old (k + 1) }) new new' f e e')
 
+-- a queue that drops stops at one place only
 drops_unique : (p : ParamFields) (now : ℕ) (q : List Waiting) (old : CodelState) (k k' : ℕ) (mark mark' : Mark) (new new' : CodelState)
     → ((j : ℕ) → j < k → IsDropped p now q old j) → Stops p now q old k mark new
     → ((j : ℕ) → j < k' → IsDropped p now q old j) → Stops p now q old k' mark' new' → AreOne k k' mark mark' new new'
@@ -240,6 +257,7 @@ drops_unique p now q old k k' mark mark' new new' before s before' s' =
     let e = one_cut (IsDropped p now q old) k k' before (stop_kept p now q old k mark new s) before' (stop_kept p now q old k' mark' new' s') in
     (e, λ f. stop_unique p now q old k mark mark' new new' s (subst (λ (n : ℕ). Stops p now q old n mark' new') (sym e) s') f)
 
+-- the four ways of a verdict keep out one another
 pub one_of_two : (p : ParamFields) (now : ℕ) (q : List Waiting) (old : CodelState) (k k' : ℕ) (mark mark' : Mark) (new new' : CodelState)
     → Verdict p now q old k mark new → Verdict p now q old k' mark' new' → AreOne k k' mark mark' new new'
 one_of_two p now q old k k' mark mark' new new' (nothing n z m e) (nothing n' z' m' e') =
@@ -262,6 +280,7 @@ one_of_two p now q old k k' mark mark' new new' (drops d dropping before s) (fir
 one_of_two p now q old k k' mark mark' new new' (drops d dropping before s) (first_drop d' idle cannot z' m' e') = let clash : false ≡ true = sym idle ∙ dropping in cc
 one_of_two p now q old k k' mark mark' new new' (drops d dropping before s) (drops d' dropping' before' s') = drops_unique p now q old k k' mark mark' new new' before s before' s'
 
+-- first_above has one fate
 one_fate : (late : Type 0) (interval now : ℕ) (old new new' : Option ℕ) → FirstAbove late interval now old new → FirstAbove late interval now old new' → new ≡ new'
 one_fate late interval now old new new' (given_up n e) (given_up n' e') = e ∙ sym e'
 one_fate late interval now old new new' (given_up n e) (stays l t is e') = absurd (n l)
@@ -273,6 +292,7 @@ one_fate late interval now old new new' (set l is e) (given_up n e') = absurd (n
 one_fate late interval now old new new' (set l is e) (stays l' t is' e') = let clash : Some t ≡ None = sym is' ∙ is in cc
 one_fate late interval now old new new' (set l is e) (set l' is' e') = e ∙ sym e'
 
+-- there is one verdict at most
 pub verdict_unique : (p : ParamFields) (now : ℕ) (q : List Waiting) (old : CodelState) (k k' : ℕ) (mark mark' : Mark) (new new' : CodelState)
     → Decides p now q old k mark new → Decides p now q old k' mark' new' → (k ≡ k') × (mark ≡ mark') × (new ≡ new')
 verdict_unique p now q old k k' mark mark' new new' v v' =
