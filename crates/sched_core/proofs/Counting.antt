@@ -1,19 +1,23 @@
 -- The counts that run along are those of the statistics, event by event.
-use Rattle.std.proofs.Common.{◌≡◌, ℕ, ◌+◌, Bool, cond, List, [], ◌∷◌, ◌++◌, length, sum_by, Some, refl, sym, ap, ◌∙◌, arith}
+use Rattle.std.proofs.Common.{◌≡◌, ℕ, ◌+◌, Bool, cond, List, [], ◌∷◌, ◌++◌, length, map, sum_by, Some, refl, sym, ap, subst, ◌∙◌, arith, append-nil, append_assoc}
 use Rattle.std.specs.List.{AllByRecursion, filter_map}
 use Rattle.std.proofs.lemmas.List.{length_push}
 use Rattle.std.proofs.lemmas.List.Sums.{sum_by_push}
 use Rattle.packet_core.specs.Packets.{PacketParts}
 use Rattle.sched_core.specs.declared.journal.Counts.{Counts}
+use Rattle.packet_core.specs.declared.packet.Waiting.{Waiting}
+use Rattle.sched_core.specs.declared.event.Cause.{Cause}
+use Rattle.sched_core.specs.declared.event.Cause.TheVariants.{Codel, Overflow}
 use Rattle.sched_core.specs.declared.event.Event.{Event}
 use Rattle.sched_core.specs.declared.event.Event.TheVariants.{Accepted, Sent, Dropped, Closed}
 use Rattle.codel_core.specs.declared.served.Mark.{Mark}
 use Rattle.codel_core.specs.declared.served.Mark.TheVariants.{NoMark, CodelMark}
 use Rattle.packet_core.specs.declared.packet.Ecn.{Ecn}
-use Rattle.sched_core.specs.Books.{count_accepted, count_sent, marks_of}
+use Rattle.sched_core.specs.Books.{count_accepted, count_sent, count_dropped, count_drops, marks_of, codel_drops_of, overflow_drops_of}
 use Rattle.sched_core.specs.Happened.{Acceptance, acceptance_of, fate_of, acceptances, fate_ids, named}
 use Rattle.sched_core.specs.History.{AreCounts}
 use Rattle.sched_core.specs.Statistics.{sent_of, dropped_of, is_codel_drop, is_overflow_drop, is_marked, length_of, length_named, bytes_named}
+use Rattle.sched_core.specs.Steps.{drop_event}
 use Rattle.sched_core.proofs.Appending.{filter_map_same, filter_map_push}
 use Rattle.sched_core.proofs.Histories.{bytes_stay}
 use Rattle.sched_core.proofs.Lines.{AreFound}
@@ -90,6 +94,60 @@ counts_send c events id moment ecn mark len value h =
     mark_counts : (mark : Mark) → marks_of mark ≡ cond (is_marked (Sent id moment ecn mark)) 1 0
     mark_counts NoMark = refl
     mark_counts CodelMark = refl
+
+-- a packet dropped
+pub counts_drop : (c : Counts) (events : List Event) (id moment : ℕ) (why : Cause) (len : ℕ) → length_named (acceptances events) id ≡ len → AreCounts c events → AreCounts (count_dropped c len why) (events ++ Dropped id moment why ∷ [])
+counts_drop c events id moment why len value h =
+    let e : Event = Dropped id moment why in
+    let accepted : acceptances (events ++ e ∷ []) ≡ acceptances events = filter_map_same acceptance_of events e refl in
+    let fated : fate_ids (events ++ e ∷ []) ≡ fate_ids events ++ id ∷ [] = filter_map_push fate_of events e id refl in
+    let sent : filter_map sent_of (events ++ e ∷ []) ≡ filter_map sent_of events = filter_map_same sent_of events e refl in
+    let dropped : filter_map dropped_of (events ++ e ∷ []) ≡ filter_map dropped_of events ++ id ∷ [] = filter_map_push dropped_of events e id refl in
+    let sums = sum_push (filter_map dropped_of events) in
+    let fate_sums = sum_push (fate_ids events) in
+    record {
+      accepted = h.accepted ∙ ap length (sym accepted);
+      accepted_bytes = h.accepted_bytes ∙ ap (sum_by length_of) (sym accepted);
+      sent = h.sent ∙ ap length (sym sent);
+      sent_bytes = h.sent_bytes ∙ sym (rw (accepted, sent));
+      dropped_codel = let was = h.dropped_codel in let one = count_push is_codel_drop events e in let is = codel_counts why in omega arith;
+      dropped_overflow = let was = h.dropped_overflow in let one = count_push is_overflow_drop events e in let is = overflow_counts why in omega arith;
+      dropped_bytes = ap (λ k. k + len) h.dropped_bytes ∙ sym (rw (accepted, dropped) sums);
+      marked = let was = h.marked in let one = count_push is_marked events e in omega arith;
+      fates = let was = h.fates in let all = ap length fated ∙ length_push (fate_ids events) id in let one = one_drop why in omega arith;
+      fate_bytes = let was = h.fate_bytes in let now : bytes_named (acceptances (events ++ e ∷ [])) (fate_ids (events ++ e ∷ [])) ≡ bytes_named (acceptances events) (fate_ids events) + len = rw (accepted, fated) fate_sums in omega arith;
+    }
+  where
+    sum_push : (ids : List ℕ) → bytes_named (acceptances events) (ids ++ id ∷ []) ≡ bytes_named (acceptances events) ids + len
+    sum_push ids = let all = sum_by_push (length_named (acceptances events)) ids id in omega arith
+
+    codel_counts : (why : Cause) → codel_drops_of why ≡ cond (is_codel_drop (Dropped id moment why)) 1 0
+    codel_counts Codel = refl
+    codel_counts Overflow = refl
+
+    overflow_counts : (why : Cause) → overflow_drops_of why ≡ cond (is_overflow_drop (Dropped id moment why)) 1 0
+    overflow_counts Codel = refl
+    overflow_counts Overflow = refl
+
+    one_drop : (why : Cause) → codel_drops_of why + overflow_drops_of why ≡ 1
+    one_drop Codel = refl
+    one_drop Overflow = refl
+
+-- packets dropped, one after another
+pub counts_drops : (why : Cause) (moment : ℕ) (c : Counts) (events : List Event) (ws : List Waiting) → AllByRecursion (λ w. length_named (acceptances events) w.id ≡ w.packet.len) ws → AreCounts c events → AreCounts (count_drops why c ws) (events ++ map (drop_event moment why) ws)
+counts_drops why moment c events [] known h = rw (append-nil events) h
+counts_drops why moment c events (w ∷ ws) known h =
+    let e : Event = drop_event moment why w in
+    let accepted : acceptances (events ++ e ∷ []) ≡ acceptances events = filter_map_same acceptance_of events e refl in
+    let first = counts_drop c events w.id moment why w.packet.len known.0 h in
+    let still : AllByRecursion (λ (v : Waiting). length_named (acceptances (events ++ e ∷ [])) v.id ≡ v.packet.len) ws = rw accepted known.1 in
+    subst (AreCounts (count_drops why c (w ∷ ws))) (append_assoc events (e ∷ []) (map (drop_event moment why) ws))
+    (counts_drops why moment (count_dropped c w.packet.len why) (events ++ e ∷ []) ws still first)
+
+-- drops accept nothing
+pub count_drops-accepted : (why : Cause) (c : Counts) (ws : List Waiting) → (count_drops why c ws).accepted ≡ c.accepted
+count_drops-accepted why c [] = refl
+count_drops-accepted why c (w ∷ ws) = count_drops-accepted why (count_dropped c w.packet.len why) ws
 
 -- a close
 pub counts_close : (c : Counts) (events : List Event) (moment : ℕ) → AreCounts c events → AreCounts c (events ++ Closed moment ∷ [])

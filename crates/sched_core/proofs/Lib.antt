@@ -8,6 +8,7 @@ pub mod LawsOfHistory
 pub mod Refusals
 pub mod Keeping
 pub mod Counting
+pub mod Known
 pub mod KeptSteps
 pub mod OneQueueLaws
 pub mod FairFifo

@@ -33,10 +33,22 @@ marks_of CodelMark = 1
 abbrev pub count_sent : Counts → ℕ → Mark → Counts
 count_sent c len mark = record c { sent = c.sent + 1; sent_bytes = c.sent_bytes + len; marked = c.marked + marks_of mark }
 
+-- how many drops by CoDel that is, and how many by overflow
+abbrev pub codel_drops_of : Cause → ℕ
+codel_drops_of Codel = 1
+codel_drops_of Overflow = 0
+
+abbrev pub overflow_drops_of : Cause → ℕ
+overflow_drops_of Codel = 0
+overflow_drops_of Overflow = 1
+
 -- one dropped
 abbrev pub count_dropped : Counts → ℕ → Cause → Counts
-count_dropped c len Codel = record c { dropped_codel = c.dropped_codel + 1; dropped_bytes = c.dropped_bytes + len }
-count_dropped c len Overflow = record c { dropped_overflow = c.dropped_overflow + 1; dropped_bytes = c.dropped_bytes + len }
+count_dropped c len cause = record c {
+  dropped_codel = c.dropped_codel + codel_drops_of cause;
+  dropped_overflow = c.dropped_overflow + overflow_drops_of cause;
+  dropped_bytes = c.dropped_bytes + len;
+}
 
 -- those dropped, one after another
 abbrev pub count_drops : Cause → Counts → List Waiting → Counts

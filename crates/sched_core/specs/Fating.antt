@@ -1,6 +1,7 @@
 use Rattle.std.specs.Prelude.{◌≡◌, ℕ, ◌-◌, List, [], ◌∷◌, ◌++◌, length, map}
 use Rattle.std.specs.Borrow.{MutBor}
-use Rattle.std.proofs.Common.{refl, sym, ap, ◌∙◌, append-nil, append_assoc, arith}
+use Rattle.std.proofs.Common.{refl, sym, ap, ◌∙◌, append-nil, append_assoc}
+use Rattle.std.proofs.Math.Nat.{sub-zero, sub-add-eq}
 use Rattle.std.proofs.lemmas.List.{length_push, map-append}
 use Rattle.packet_core.specs.declared.packet.Waiting.{Waiting}
 use Rattle.sched_core.specs.Books.{Book, count_dropped, count_drops}
@@ -25,22 +26,21 @@ pub record RecordsDrops (moment : ℕ) (cause : Cause) (old : MutBor Book) (ws :
   pub same_reference : new.ghost_name ≡ old.ghost_name
   pub book : new.now ≡ with_drops old.now moment cause ws
 
+-- no drop
 pub drops_none : (book : Book) (moment : ℕ) (cause : Cause) → book ≡ with_drops book moment cause []
-drops_none book moment cause =
-    let none : book.room ≡ book.room - 0 = omega arith in
-    λ i. record { events = sym (append-nil book.events) i; counts = book.counts; room = none i }
+drops_none book moment cause = λ i. record { events = sym (append-nil book.events) i; counts = book.counts; room = sym (sub-zero book.room) i }
 
 -- the counts of one more, behind others
 count_drops_push : (cause : Cause) (c : Counts) (ws : List Waiting) (w : Waiting) → count_dropped (count_drops cause c ws) w.packet.len cause ≡ count_drops cause c (ws ++ w ∷ [])
 count_drops_push cause c [] w = refl
 count_drops_push cause c (v ∷ ws) w = count_drops_push cause (count_dropped c v.packet.len cause) ws w
 
+-- a drop behind others
 pub drops_more : (book : Book) (moment : ℕ) (cause : Cause) (ws : List Waiting) (w : Waiting) → with_drops (with_drops book moment cause ws) moment cause (w ∷ []) ≡ with_drops book moment cause (ws ++ w ∷ [])
 drops_more book moment cause ws w =
     let told = map (drop_event moment cause) ws in
     let events : (book.events ++ told) ++ drop_event moment cause w ∷ [] ≡ book.events ++ map (drop_event moment cause) (ws ++ w ∷ []) = append_assoc book.events told (drop_event moment cause w ∷ []) ∙ ap (λ (es : List Event). book.events ++ es) (sym (map-append (drop_event moment cause) ws (w ∷ []))) in
-    let all = length_push ws w in
-    let room : (book.room - length ws) - 1 ≡ book.room - length (ws ++ w ∷ []) = omega arith in
+    let room : (book.room - length ws) - 1 ≡ book.room - length (ws ++ w ∷ []) = sym (sub-add-eq book.room (length ws) 1) ∙ ap (λ (n : ℕ). book.room - n) (sym (length_push ws w)) in
     λ i. record { events = events i; counts = count_drops_push cause book.counts ws w i; room = room i }
 
 -- none is taken

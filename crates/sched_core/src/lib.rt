@@ -10,6 +10,8 @@ mod event;
 mod fates;
 mod journal;
 pub mod laws;
+#[cfg(test)]
+mod lent_journal;
 mod run;
 mod sched;
 mod step;
