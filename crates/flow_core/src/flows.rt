@@ -147,6 +147,7 @@ impl Flows {
         ensures least { 1 ≤ result }
         ensures most { result ≤ MAX_FLOWS }
         ensures listed { AreListed self.now.lists }
+        ensures few_listed { length self.now.lists.new_flows + length self.now.lists.old_flows ≤ result }
         ensures lengths { All (All (λ w. IsLengthInRange w.packet.len)) self.now.lists.queues }
     {
         self.count

@@ -1,12 +1,16 @@
 -- Packets that leave the head of a flow's queue, one after another, into the journal.
-use Rattle.std.proofs.Common.{◌≡◌, ℕ, zero, suc, ◌+◌, ◌<◌, List, [], ◌∷◌, ◌++◌, drop, take, get_or, set, length, Option, Some, None, slice_get, refl, sym, ap, ◌∙◌, arith}
+use Rattle.std.proofs.Common.{◌≡◌, ℕ, zero, suc, ◌+◌, ◌<◌, List, [], ◌∷◌, ◌++◌, drop, take, get_or, set, length, Option, Some, None, slice_get, refl, sym, ap, ◌∙◌, arith, append-nil}
 use Rattle.std.proofs.lemmas.List.{drop-drop, get_or-set_same, set-set}
 use Rattle.packet_core.specs.declared.packet.Waiting.{Waiting}
-use Rattle.flow_core.specs.FlowLists.{Holding, queue_at, with_queue}
+use Rattle.flow_core.specs.Fattest.{IsFattest}
+use Rattle.flow_core.specs.FlowLists.{Holding, queue_at, waiting_in, with_queue}
 use Rattle.sched_core.specs.declared.event.Cause.{Cause}
-use Rattle.sched_core.specs.Backlogs.{without_head}
+use Rattle.sched_core.specs.declared.event.Cause.TheVariants as cause
+use Rattle.sched_core.specs.Backlogs.{DropsOverflow, Held, without_head}
 use Rattle.sched_core.specs.Books.{Book}
 use Rattle.sched_core.specs.Fating.{drops_more, drops_none, with_drops}
+use Rattle.sched_core.specs.Overflow.{Overflow, batch_of, batch_size}
+use Rattle.sched_core.specs.Overflow.Overflow.{exceeds}
 
 -- n packets left, and then one more
 pub head_leaves : (old : Holding) (flow n : ℕ) → flow < length old.lists.queues → without_head (without_head old flow n) flow 1 ≡ without_head old flow (n + 1)
@@ -36,3 +40,16 @@ one_recorded book now next moment why q n w before found recorded =
 -- or there is none
 pub none_recorded : (book now : Book) (moment : ℕ) (why : Cause) (q : List Waiting) (n : ℕ) → now ≡ with_drops book moment why (take n q) → slice_get (drop n q) 0 ≡ None → now ≡ with_drops book moment why (take (n + 1) q)
 none_recorded book now moment why q n before none = before ∙ ap (with_drops book moment why) (sym (take_no_more q n none))
+
+-- Where too many packets wait, the fattest flow's batch overflows.
+pub drops_exceeding : (limit moment : ℕ) (old : Held) (book book' : Book) (flow batch : ℕ) (flows' : Holding) → limit < waiting_in old.queues.lists → IsFattest old.queues.lists.queues flow → batch ≡ batch_size (length (queue_at old.queues.lists flow))
+    → flows' ≡ without_head (record { lists = old.queues.lists; room = old.room }) flow batch → book' ≡ with_drops book moment cause.Overflow (take batch (queue_at old.queues.lists flow))
+    → DropsOverflow limit moment old book (record { queues = record { lists = flows'.lists; accounts = old.queues.accounts }; arrived = old.arrived; room = flows'.room }) book'
+drops_exceeding limit moment old book book' flow batch flows' many fattest size flows journal =
+    let n = length (queue_at old.queues.lists flow) in
+    record {
+      batches = batch_of old.queues.lists.queues flow ∷ [];
+      overflow = exceeds many flow fattest refl (rw (flows, size) refl);
+      rest = rw flows refl;
+      journal = rw (append-nil (take (batch_size n) (queue_at old.queues.lists flow)), ← size) journal;
+    }

@@ -24,6 +24,7 @@ pub mod Dropping
 pub mod Listing
 pub mod Turning
 pub mod MostTurns
+pub mod Serving
 pub mod FqCodel
 pub mod Running
 pub mod Examples

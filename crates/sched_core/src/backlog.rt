@@ -157,6 +157,8 @@ impl Backlog {
         ensures arrived { self.new.arrived ≡ self.old.arrived }
         ensures room { self.new.room ≡ self.old.room }
     {
+        // That it is above 0 is seen here: with it, the turns end.
+        let _quantum = params.quantum();
         let mut turns = 0;
         let mut next = self.head();
         while let Some(head) = next {

@@ -14,10 +14,10 @@ pub returns-then-is_none : goal.returns-then-is_none
 returns-then-is_none c =
     let some : pos 0 <ℤ c.credits.result = let t = c.if-credits-le0.false in grind (arith, ints) in
     emptied_turn c.args.params.now c.args.now c.args.self.now c.args.head c.requires.head c.serve_flow-served.new.self c.leave.new.self c.args.journal.now c.serve_flow-served.new.journal c.serve_flow-served.result
-    (rw (← c.credits.ensures) some) c.serve_flow-served.ensures (c.if-is_none.ensures tt) c.leave.ensures
+    (rw (← c.credits.ensures) some) c.serve_flow-served.ensures (c.if-is_none.ensures {u = tt}) c.leave.ensures
 
 pub returns-else-is_none : goal.returns-else-is_none
 returns-else-is_none c =
     let some : pos 0 <ℤ c.credits.result = let t = c.if-credits-le0.false in grind (arith, ints) in
     serving_turn c.args.params.now c.args.now c.args.self.now c.args.head c.requires.head c.serve_flow-served.new.self c.args.journal.now c.serve_flow-served.new.journal c.serve_flow-served.result
-    (rw (← c.credits.ensures) some) c.serve_flow-served.ensures (λ none. let e : true ≡ false = sym (c.if-is_none.ensures tt) ∙ none in absurd cc)
+    (rw (← c.credits.ensures) some) c.serve_flow-served.ensures (λ none. let e : true ≡ false = sym (c.if-is_none.ensures {u = tt}) ∙ none in absurd cc)

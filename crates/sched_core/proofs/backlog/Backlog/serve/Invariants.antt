@@ -1,0 +1,14 @@
+use Rattle.std.proofs.Common.{◌≡◌, ℕ, ◌+◌, ◌≤◌, Option, IfSome, option_map}
+use Rattle.sched_core.specs.Backlogs.{Held, shown_head}
+use Rattle.sched_core.specs.FairQueues.{AreSound, FairQueues, head_of}
+use Rattle.sched_core.specs.FqCodel.{fq_codel_policy}
+use Rattle.sched_core.specs.TurnBound.{turns_at_most}
+use Rattle.sched_core.specs.Turns.{Chain, Service}
+use Rattle.sched_core.proofs.Serving.{IsOnChain}
+use Rattle.sched_core.proofs.backlog.Backlog.serve.Given as goal
+
+abbrev pub invariant-loop-next : goal.invariant-loop-next
+invariant-loop-next l = IsOnChain l.params l.now l.initial.self l.initial.journal l.turns l.self l.journal l.next
+
+abbrev pub decreases-loop-next : goal.decreases-loop-next
+decreases-loop-next l = turns_at_most l.params.quantum l.self.queues
