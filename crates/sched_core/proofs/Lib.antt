@@ -21,4 +21,5 @@ pub mod FqCodelRuns
 pub mod FqCodel
 pub mod Running
 pub mod Examples
+pub mod ExamplesComputed
 pub mod Refused
