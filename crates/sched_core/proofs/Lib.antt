@@ -22,4 +22,7 @@ pub mod FqCodel
 pub mod Running
 pub mod Examples
 pub mod ExamplesComputed
+pub mod ExamplesRun
+pub mod FairExamples
+pub mod OverflowExamples
 pub mod Refused
