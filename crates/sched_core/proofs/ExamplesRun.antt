@@ -1,5 +1,4 @@
--- How whole runs of the worked examples are computed, as far as no packet is dropped by CoDel: a step and a run, each with the lemma that it
--- is what the definitions mean.
+-- How whole runs of the worked examples are computed: a step and a run, each with the lemma that it is what the definitions mean.
 use Rattle.std.proofs.Common.{◌≡◌, ℕ, zero, suc, ◌+◌, ◌<◌, ◌≤◌, max, Bool, true, false, ◌&&◌, List, [], ◌∷◌, ◌++◌, drop, get_or, set, length, map, sum_by, Option, Some, None, MatchOption, if◌then◌else◌, nat_le, nat_lt, refl, sym, subst, arith}
 use Rattle.std.proofs.lemmas.Bool.{and_parts, leb-true, leb-false, ltb-true}
 use Rattle.packet_core.specs.FlowNumber.{flow_number}
@@ -11,6 +10,7 @@ use Rattle.packet_core.specs.declared.packet.Waiting.{Waiting}
 use Rattle.codel_core.specs.declared.served.Mark.TheVariants.{NoMark}
 use Rattle.packet_core.specs.declared.params.ParamFields.{ParamFields}
 use Rattle.codel_core.specs.Queue.{bytes_of}
+use Rattle.codel_core.specs.Schedule.{spacing_of}
 use Rattle.flow_core.specs.Fattest.{IsFattest, bytes_at}
 use Rattle.flow_core.specs.FlowLists.{queue_at}
 use Rattle.sched_core.specs.declared.event.Cause.TheVariants as cause
@@ -30,7 +30,7 @@ use Rattle.sched_core.specs.Runs.{Made, Runs}
 use Rattle.sched_core.specs.State.{State, arrival, opening_state, refusal_of}
 use Rattle.sched_core.specs.Steps.{Makes, Steps, dequeue_answer, drop_event, sent_events}
 use Rattle.sched_core.specs.Turns.{Service, Chain}
-use Rattle.sched_core.proofs.ExamplesComputed.{walk, walk_is}
+use Rattle.sched_core.proofs.ExamplesComputed.{Walk, walk, walk_is}
 
 -- THE FATTEST FLOW
 
@@ -90,7 +90,16 @@ pub record Run : Type 0 where
   pub state : State FairQueues
   pub good : Bool
 
-module _ (p : ParamFields) (seed : Seed) (fuel : ℕ) where
+-- the spacings of drops, in a form that computes quickly
+pub record Spacings (p : ParamFields) : Type 0 where
+  pub spacing : ℕ → ℕ
+  pub right : (n : ℕ) → spacing n ≡ spacing_of p.interval n
+
+-- the same as they are defined
+abbrev pub as_defined : (p : ParamFields) → Spacings p
+as_defined p = record { spacing = spacing_of p.interval; right = λ n. refl }
+
+module _ (p : ParamFields) (table : Spacings p) (seed : Seed) (fuel : ℕ) where
   abbrev flow_of : PacketParts → ℕ
   flow_of packet = flow_number p.classify p.flows seed packet.tuple
 
@@ -130,12 +139,12 @@ module _ (p : ParamFields) (seed : Seed) (fuel : ℕ) where
       let queues = arrived old moment packet in
       admitted old moment lane packet queues (nat_le (sum_by length queues) p.limit)
   stepped old (Dequeue moment) None =
-      let w = walk fuel p moment old.queues in
+      let w = walk p table.spacing moment fuel old.queues in
       record {
         answer = dequeue_answer (given_in w.service);
         events = map (drop_event moment cause.Codel) (dropped_in w.service) ++ sent_events moment (given_in w.service);
         state = record old { queues = w.queues; last = moment };
-        good = w.ends;
+        good = w.good;
       }
   stepped old (Close moment) None = record { answer = answer.Closed; events = event.Closed moment ∷ []; state = record old { last = moment; closed = true }; good = true }
 
@@ -188,12 +197,12 @@ module _ (p : ParamFields) (seed : Seed) (fuel : ℕ) where
   made_is : (old : State FairQueues) (step : Step) → (stepped old step None).good ≡ true → MakesSo old step (stepped old step None)
   made_is old (Enqueue moment lane packet) e = admitted_is old moment lane packet (nat_le (sum_by length (arrived old moment packet)) p.limit) refl e
   made_is old (Dequeue moment) e =
-      let w = walk fuel p moment old.queues in (
+      let w = walk p table.spacing moment fuel old.queues in (
         given_in w.service,
         refl,
         record {
           dropped = dropped_in w.service;
-          queues = record { turns = w.turns; service = w.service; chain = walk_is fuel p moment old.queues e; dropped_by = refl; given_by = refl };
+          queues = record { turns = w.turns; service = w.service; chain = walk_is p table.spacing moment table.right fuel old.queues e; dropped_by = refl; given_by = refl };
           told = refl;
           next_id = refl;
           last = refl;
@@ -229,27 +238,34 @@ pub record RunGives (p : ParamFields) (seed : Seed) (steps : List Step) (made : 
   pub state : State FairQueues
   pub runs : Runs (fq_codel p seed) (opening_state (no_queues p.flows)) steps made state
 
--- the run of them, and its state
-abbrev pub run_of : ParamFields → Seed → List Step → Run
-run_of p seed steps = run_from p seed 10 (opening_state (no_queues p.flows)) steps
+-- there is one, and that holds of the state that it leaves
+pub record RunLeaves (p : ParamFields) (seed : Seed) (steps : List Step) (Holds : State FairQueues → Type 0) : Type 0 where
+  pub made : List Made
+  pub state : State FairQueues
+  pub runs : Runs (fq_codel p seed) (opening_state (no_queues p.flows)) steps made state
+  pub holds : Holds state
 
-abbrev pub state_of : ParamFields → Seed → List Step → State FairQueues
-state_of p seed steps = (run_of p seed steps).state
+-- a dequeue of that state makes so many turns
+abbrev pub MakesTurns : ParamFields → ℕ → ℕ → State FairQueues → Type 0
+MakesTurns p moment turns s = (service : Option Service) × (new : FairQueues) × Chain (fq_codel_policy p) moment s.queues turns service new
 
-pub run_gives : (p : ParamFields) (seed : Seed) (steps : List Step) → (run_of p seed steps).good ≡ true → RunGives p seed steps (run_of p seed steps).made
-run_gives p seed steps e = record { state = state_of p seed steps; runs = run_is p seed 10 (opening_state (no_queues p.flows)) steps e }
+module _ (p : ParamFields) (table : Spacings p) (seed : Seed) (steps : List Step) where
+  abbrev pub run_of : Run
+  run_of = run_from p table seed 10 (opening_state (no_queues p.flows)) steps
 
--- from the queues that a run of those steps leaves a dequeue makes so many turns
-pub record TurnsAfter (p : ParamFields) (seed : Seed) (steps : List Step) (moment turns : ℕ) : Type 0 where
-  pub service : Option Service
-  pub queues : FairQueues
-  pub chain : Chain (fq_codel_policy p) moment (state_of p seed steps).queues turns service queues
+  pub run_gives : run_of.good ≡ true → RunGives p seed steps run_of.made
+  run_gives good = record { state = run_of.state; runs = run_is p table seed 10 (opening_state (no_queues p.flows)) steps good }
 
-pub turns_after : (p : ParamFields) (seed : Seed) (steps : List Step) (moment : ℕ) → (walk 10 p moment (state_of p seed steps).queues).ends ≡ true
-    → TurnsAfter p seed steps moment (walk 10 p moment (state_of p seed steps).queues).turns
-turns_after p seed steps moment e =
-    let w = walk 10 p moment ((state_of p seed steps).queues) in
-    record { service = w.service; queues = w.queues; chain = walk_is 10 p moment ((state_of p seed steps).queues) e }
+  pub run_leaves : (Holds : State FairQueues → Type 0) → run_of.good ≡ true → Holds run_of.state → RunLeaves p seed steps Holds
+  run_leaves Holds good holds = record { made = run_of.made; state = run_of.state; runs = run_is p table seed 10 (opening_state (no_queues p.flows)) steps good; holds = holds }
+
+  abbrev walk_of : ℕ → Walk
+  walk_of moment = walk p table.spacing moment 10 run_of.state.queues
+
+  pub run_turns : (moment : ℕ) → run_of.good ≡ true → (walk_of moment).good ≡ true → RunLeaves p seed steps (λ s. MakesTurns p moment (walk_of moment).turns s)
+  run_turns moment good ends =
+      run_leaves (λ s. MakesTurns p moment (walk_of moment).turns s) good
+      ((walk_of moment).service, (walk_of moment).queues, walk_is p table.spacing moment table.right 10 run_of.state.queues ends)
 
 -- PACKETS AND WHAT STEPS GIVE
 

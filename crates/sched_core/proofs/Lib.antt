@@ -21,6 +21,7 @@ pub mod FqCodelRuns
 pub mod FqCodel
 pub mod Running
 pub mod Examples
+pub mod ExamplesVerdict
 pub mod ExamplesComputed
 pub mod ExamplesRun
 pub mod FairExamples
