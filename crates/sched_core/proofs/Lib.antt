@@ -26,4 +26,6 @@ pub mod ExamplesComputed
 pub mod ExamplesRun
 pub mod FairExamples
 pub mod OverflowExamples
+pub mod ExamplesSpacing
+pub mod CodelExamples
 pub mod Refused
