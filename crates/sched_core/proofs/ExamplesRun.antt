@@ -267,6 +267,14 @@ module _ (p : ParamFields) (table : Spacings p) (seed : Seed) (steps : List Step
       run_leaves (λ s. MakesTurns p moment (walk_of moment).turns s) good
       ((walk_of moment).service, (walk_of moment).queues, walk_is p table.spacing moment table.right 10 run_of.state.queues ends)
 
+-- a run and then another
+pub runs_then : (p : ParamFields) (seed : Seed) (old mid new : State FairQueues) (steps steps' : List Step) (made made' : List Made) → Runs (fq_codel p seed) old steps made mid
+    → Runs (fq_codel p seed) mid steps' made' new → Runs (fq_codel p seed) old (steps ++ steps') (made ++ made') new
+runs_then p seed old mid new [] steps' [] made' first then' = subst (λ (s : State FairQueues). Runs (fq_codel p seed) s steps' made' new) first then'
+runs_then p seed old mid new [] steps' (m ∷ made) made' first then' = absurd first
+runs_then p seed old mid new (step ∷ steps) steps' [] made' first then' = absurd first
+runs_then p seed old mid new (step ∷ steps) steps' (m ∷ made) made' first then' = (first.0, first.1, runs_then p seed first.0 mid new steps steps' made made' first.2 then')
+
 -- PACKETS AND WHAT STEPS GIVE
 
 -- a packet of so many bytes to that port, and so to the flow of that number

@@ -28,4 +28,5 @@ pub mod FairExamples
 pub mod OverflowExamples
 pub mod ExamplesSpacing
 pub mod CodelExamples
+pub mod GiantExamples
 pub mod Refused
