@@ -34,9 +34,9 @@ ten_packets moments = map (λ _. arrives 0 1000) (range_with_len 0 10) ++ map De
 -- The first is late; an interval later one is dropped, and more from the moments that are due. With one packet behind it no packet is late.
 ten_packets_drop_and_send : (seed : Seed)
     → RunGives (one_flow Drop) seed (ten_packets (5000 ∷ 105000 ∷ 205000 ∷ 275710 ∷ 333445 ∷ 333446 ∷ 333447 ∷ []))
-      (map (λ id. accepts id 0 1000) (range_with_len 0 10)
-      ++ sends 0 5000 ∷ drops_and_sends (1 ∷ []) 2 105000 ∷ drops_and_sends (3 ∷ []) 4 205000 ∷ drops_and_sends (5 ∷ []) 6 275710 ∷ drops_and_sends (7 ∷ []) 8 333445
-      ∷ sends 9 333446 ∷ idles ∷ [])
+    (map (λ id. accepts id 0 1000) (range_with_len 0 10)
+    ++ sends 0 5000 ∷ drops_and_sends (1 ∷ []) 2 105000 ∷ drops_and_sends (3 ∷ []) 4 205000 ∷ drops_and_sends (5 ∷ []) 6 275710 ∷ drops_and_sends (7 ∷ []) 8 333445
+    ∷ sends 9 333446 ∷ idles ∷ [])
 ten_packets_drop_and_send seed = run_gives (one_flow Drop) (standard_spacings Drop) seed _ refl
 
 -- The third dequeue finds the credits used up.
@@ -59,7 +59,7 @@ seven_packets moments = map (λ _. arrives 0 100) (range_with_len 0 7) ++ map De
 -- With an interval of one microsecond all drops from the second on are due at once.
 drop_burst : (seed : Seed)
     → RunGives (tight Drop) seed (seven_packets (0 ∷ 1 ∷ 2 ∷ []))
-      (map (λ id. accepts id 0 100) (range_with_len 0 7) ++ sends 0 0 ∷ drops_and_sends (1 ∷ []) 2 1 ∷ drops_and_sends (3 ∷ 4 ∷ 5 ∷ []) 6 2 ∷ [])
+    (map (λ id. accepts id 0 100) (range_with_len 0 7) ++ sends 0 0 ∷ drops_and_sends (1 ∷ []) 2 1 ∷ drops_and_sends (3 ∷ 4 ∷ 5 ∷ []) 6 2 ∷ [])
 drop_burst seed = run_gives (tight Drop) (tight_spacings Drop) seed _ refl
 
 abbrev after_burst : CodelState
@@ -83,7 +83,7 @@ sends_marked id moment = record { answer = answer.Sent; events = Sent id moment 
 -- What would be dropped is marked and sent, and no second packet leaves.
 ten_packets_marked : (seed : Seed)
     → RunGives (one_flow Mark) seed (willing (5000 ∷ 105000 ∷ 205000 ∷ []))
-      (map accepts_willing (range_with_len 0 10) ++ record { answer = answer.Sent; events = Sent 0 5000 Ect0 NoMark ∷ [] } ∷ sends_marked 1 105000 ∷ sends_marked 2 205000 ∷ [])
+    (map accepts_willing (range_with_len 0 10) ++ record { answer = answer.Sent; events = Sent 0 5000 Ect0 NoMark ∷ [] } ∷ sends_marked 1 105000 ∷ sends_marked 2 205000 ∷ [])
 ten_packets_marked seed = run_gives (one_flow Mark) (standard_spacings Mark) seed _ refl
 
 abbrev after_marks : CodelState

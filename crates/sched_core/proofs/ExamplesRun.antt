@@ -21,7 +21,7 @@ use Rattle.sched_core.specs.declared.run.Answer.TheVariants as answer
 use Rattle.sched_core.specs.declared.step.Refusal.{Refusal}
 use Rattle.sched_core.specs.declared.step.Step.{Step}
 use Rattle.sched_core.specs.declared.step.Step.TheVariants.{Enqueue, Dequeue, Close}
-use Rattle.sched_core.specs.FairQueueing.{Arrives, dropped_in, given_in, with_flow_listed}
+use Rattle.sched_core.specs.FairQueueing.{dropped_in, given_in, with_flow_listed}
 use Rattle.sched_core.specs.FairQueues.{FairQueues, no_queues}
 use Rattle.sched_core.specs.FqCodel.{fq_codel, fq_codel_policy}
 use Rattle.sched_core.specs.Overflow.{batch_of, batch_size}

@@ -18,10 +18,10 @@ found_below : (v n r most : ℕ) → r ≤ most → r * r * n ≤ v → v < (r +
 found_below v n r zero below low high = omega arith
 found_below v n r (suc m) below low high =
     elim (leb_tells (suc m) r) [
-      | inl t ↦ let same : r ≡ suc m = omega arith in let fits : suc m * suc m * n ≤ v = rw same at low in elim (leb_tells (suc m * suc m * n) v) [ | inl u ↦ rw u.0 (sym same) | inr u ↦ absurd (omega arith) ]
+      | inl t ↦ let same : r ≡ suc m = omega arith in let fits : suc m * suc m * n ≤ v = rw same at low in elim (leb_tells (suc m * suc m * n) v) [ inl u ↦ rw u.0 (sym same) | inr u ↦ absurd (omega arith) ]
       | inr t ↦
           let over : (r + 1) * (r + 1) * n ≤ suc m * suc m * n = squares_rise (r + 1) (suc m) n (omega arith) in
-          elim (leb_tells (suc m * suc m * n) v) [ | inl u ↦ absurd (omega arith) | inr u ↦ rw u.0 (found_below v n r m (omega arith) low high) ]
+          elim (leb_tells (suc m * suc m * n) v) [ inl u ↦ absurd (omega arith) | inr u ↦ rw u.0 (found_below v n r m (omega arith) low high) ]
     ]
 
 spacing_found : (interval n r : ℕ) → r ≤ interval → IsSpacing interval n r → spacing_of interval n ≡ r

@@ -1,12 +1,12 @@
 -- How CoDel's verdict is computed in the worked examples, with the lemma that it is the verdict of the definitions. The spacing of drops is read from a
 -- table, since to compute it takes as many steps as the interval has microseconds.
-use Rattle.std.proofs.Common.{◌≡◌, ℕ, zero, suc, ◌+◌, ◌-◌, ◌<◌, ◌≤◌, Bool, true, false, not, ◌&&◌, List, [], ◌∷◌, drop, Option, Some, None, slice_get, IsSomeAnd, IsTrue, nat_le, nat_lt, refl, sym, ap, subst, ◌∙◌, inl, inr, arith}
+use Rattle.std.proofs.Common.{◌≡◌, ℕ, zero, suc, ◌+◌, ◌-◌, ◌<◌, ◌≤◌, Bool, true, false, not, ◌&&◌, List, drop, Option, Some, None, slice_get, IsSomeAnd, IsTrue, nat_le, nat_lt, refl, subst, inl, inr, arith}
 use Rattle.std.proofs.lemmas.Bool.{and_from, and_parts, both_ways, cases_eq, leb-true, ltb-true, ltb-false, le-leb, lt-ltb, not-true}
 use Rattle.packet_core.specs.declared.packet.Waiting.{Waiting}
 use Rattle.packet_core.specs.declared.params.ParamFields.{ParamFields}
-use Rattle.codel_core.specs.Queue.{bytes_of, is_markable, HasCome, IsDroppable, IsLate, IsLateBefore, IsMarkableAt}
-use Rattle.codel_core.specs.Schedule.{drop_moment, entered, resumed_count, spacing_of}
-use Rattle.codel_core.specs.Verdict.{Decides, FirstAbove, IsDropped, Stops, Verdict}
+use Rattle.codel_core.specs.Queue.{bytes_of, is_markable, HasCome, IsDroppable, IsLate, IsLateBefore}
+use Rattle.codel_core.specs.Schedule.{drop_moment, resumed_count, spacing_of}
+use Rattle.codel_core.specs.Verdict.{Decides, FirstAbove, IsDropped, Stops}
 use Rattle.codel_core.specs.Verdict.FirstAbove.{given_up, stays, set as set_ahead}
 use Rattle.codel_core.specs.Verdict.Stops.{leaves, waits, marks}
 use Rattle.codel_core.specs.Verdict.Verdict.{nothing, first_mark, first_drop, drops}
@@ -184,7 +184,7 @@ module _ (p : ParamFields) (spacing : ℕ → ℕ) (now : ℕ) where
         go : (((i : ℕ) → i < suc j → IsDropped p now q s i) → (i : ℕ) → i < first_stop fuel q s (suc j) → IsDropped p now q s i)
             → (b : Bool) → is_dropped q s j ≡ b → (i : ℕ) → i < on_from (λ k. first_stop fuel q s k) j b → IsDropped p now q s i
         go further true e =
-            further (λ i below. elim (cases_eq i j) [ | inl same ↦ rw same (dropped q s j e) | inr other ↦ so i (omega arith) ])
+            further (λ i below. elim (cases_eq i j) [ inl same ↦ rw same (dropped q s j e) | inr other ↦ so i (omega arith) ])
         go further false e = so
 
     entry_is : (q : List Waiting) (s : CodelState) → is_droppable q s.first_above 0 ≡ true → s.dropping ≡ false → (b : Bool) → may_be_marked (slice_get q 0) ≡ b
@@ -201,7 +201,7 @@ module _ (p : ParamFields) (spacing : ℕ → ℕ) (now : ℕ) where
     stop_is : (q : List Waiting) (s : CodelState) (k : ℕ) (d early m : Bool) → is_droppable q s.first_above k ≡ d → nat_lt now (moment_at s k) ≡ early → may_be_marked (slice_get q k) ≡ m
         → (judged_stop q s k d early m).good ≡ true
         → (judged_stop q s k d early m).drops ≡ k × Stops p now q s k (judged_stop q s k d early m).mark (judged_stop q s k d early m).codel
-            × FirstAbove (IsLate p now q k) p.interval now s.first_above (judged_stop q s k d early m).codel.first_above
+        × FirstAbove (IsLate p now q k) p.interval now s.first_above (judged_stop q s k d early m).codel.first_above
     stop_is q s k false early m d e m' good = (refl, leaves (not_droppable q s.first_above k d) refl (rw (moment_is s (k - 1)) refl), first_above_is q k s.first_above)
     stop_is q s k true true m d e m' good =
         (refl, waits (droppable q s.first_above k d) (subst (λ (t : ℕ). now < t) (moment_is s k) (ltb-true now (moment_at s k) e)) refl (rw (moment_is s k) refl), first_above_is q k s.first_above)

@@ -1,6 +1,6 @@
 -- A worked example of many turns: a quantum of one byte and two packets of 65,535 bytes. The second packet waits for 65,535 quanta. Its turns aren't
 -- walked through one by one: a lemma on flows whose credits are used up counts them.
-use Rattle.std.proofs.Common.{◌≡◌, ℕ, zero, suc, false, List, [], ◌∷◌, ◌++◌, Option, Some, None, ℤ, pos, negsuc, ◌+ℤ◌, ◌≤ℤ◌, refl, sym, ap, subst, ◌∙◌, inl, inr, arith}
+use Rattle.std.proofs.Common.{◌≡◌, ℕ, zero, suc, false, List, [], ◌∷◌, Some, ℤ, pos, negsuc, ◌+ℤ◌, ◌≤ℤ◌, refl, ap, subst, inr, arith}
 use Rattle.std.proofs.lemmas.Int.{ints}
 use Rattle.packet_core.specs.Params.{standard_fields}
 use Rattle.packet_core.specs.declared.flow.Seed.{Seed}
@@ -11,11 +11,9 @@ use Rattle.codel_core.specs.Verdict.{opening}
 use Rattle.codel_core.specs.declared.served.Mark.TheVariants.{NoMark}
 use Rattle.sched_core.specs.declared.step.Step.{Step}
 use Rattle.sched_core.specs.declared.step.Step.TheVariants.{Dequeue}
-use Rattle.sched_core.specs.Disciplines.{Given}
-use Rattle.sched_core.specs.FairQueues.{FairQueues, Head, no_queues}
+use Rattle.sched_core.specs.FairQueues.{FairQueues, no_queues}
 use Rattle.sched_core.specs.FairQueues.FlowList.{new_list, old_list}
-use Rattle.sched_core.specs.FqCodel.{fq_codel, fq_codel_policy}
-use Rattle.sched_core.specs.Runs.{Made, Runs}
+use Rattle.sched_core.specs.FqCodel.{fq_codel_policy}
 use Rattle.sched_core.specs.State.{State, opening_state}
 use Rattle.sched_core.specs.TurnBound.{turns_at_most}
 use Rattle.sched_core.specs.Turns.{Chain, Service}
@@ -114,8 +112,7 @@ giant_packets_small_quantum seed =
     record {
       state = sent_at_last;
       runs = runs_then one_byte seed (opening_state (no_queues 1)) first_state sent_at_last first_sent (Dequeue 1 ∷ []) (accepts 0 0 65535 ∷ accepts 1 0 65535 ∷ sends 0 1 ∷ []) (sends 1 1 ∷ [])
-          (run_is one_byte (as_defined one_byte) seed 10 (opening_state (no_queues 1)) first_sent refl)
-          (
+          (run_is one_byte (as_defined one_byte) seed 10 (opening_state (no_queues 1)) first_sent refl) (
             sent_at_last,
             (
               Some service.given,

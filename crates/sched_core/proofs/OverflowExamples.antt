@@ -6,7 +6,6 @@ use Rattle.packet_core.specs.declared.flow.Seed.{Seed}
 use Rattle.packet_core.specs.declared.packet.Waiting.{Waiting}
 use Rattle.packet_core.specs.declared.params.EcnUse.TheVariants.{Drop}
 use Rattle.packet_core.specs.declared.params.ParamFields.{ParamFields}
-use Rattle.flow_core.specs.FlowLists.{waiting_in}
 use Rattle.sched_core.specs.declared.event.Cause.TheVariants.{Overflow}
 use Rattle.sched_core.specs.declared.event.Event.TheVariants.{Dropped}
 use Rattle.sched_core.specs.declared.run.Answer.TheVariants as answer
@@ -26,8 +25,8 @@ accepts_over id flow len lost = record { answer = answer.Accepted; events = acce
 -- The fattest flow has the most bytes, not the packet that came last: flow 1 loses its head.
 fattest_by_bytes : (seed : Seed)
     → RunGives (limited 4) seed
-      (arrives 1 1000 ∷ arrives 1 1000 ∷ arrives 1 1000 ∷ arrives 2 100 ∷ arrives 2 100 ∷ [])
-      (accepts 0 1 1000 ∷ accepts 1 1 1000 ∷ accepts 2 1 1000 ∷ accepts 3 2 100 ∷ accepts_over 4 2 100 (0 ∷ []) ∷ [])
+    (arrives 1 1000 ∷ arrives 1 1000 ∷ arrives 1 1000 ∷ arrives 2 100 ∷ arrives 2 100 ∷ [])
+    (accepts 0 1 1000 ∷ accepts 1 1 1000 ∷ accepts 2 1 1000 ∷ accepts 3 2 100 ∷ accepts_over 4 2 100 (0 ∷ []) ∷ [])
 fattest_by_bytes seed = run_gives (limited 4) (as_defined (limited 4)) seed _ refl
 
 -- The packet that came last is its flow's head, and the flow is the fattest one.
