@@ -29,4 +29,5 @@ pub mod OverflowExamples
 pub mod ExamplesSpacing
 pub mod CodelExamples
 pub mod GiantExamples
+pub mod ShortPackets
 pub mod Refused
