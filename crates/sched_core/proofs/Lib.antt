@@ -30,4 +30,5 @@ pub mod ExamplesSpacing
 pub mod CodelExamples
 pub mod GiantExamples
 pub mod ShortPackets
+pub mod OneRun
 pub mod Refused
