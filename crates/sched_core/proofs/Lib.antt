@@ -28,4 +28,14 @@ pub mod Serving
 pub mod FqCodel
 pub mod Running
 pub mod Examples
+pub mod ExamplesVerdict
+pub mod ExamplesComputed
+pub mod ExamplesRun
+pub mod FairExamples
+pub mod OverflowExamples
+pub mod ExamplesSpacing
+pub mod CodelExamples
+pub mod GiantExamples
+pub mod ShortPackets
+pub mod OneRun
 pub mod Refused

@@ -1,0 +1,175 @@
+-- Where no packet so far was longer than a quantum, no flow is owed more than one quantum, so a dequeue makes three turns at most for each new
+-- flow, and two for each old one.
+use Rattle.std.proofs.Common.{◌≡◌, ℕ, zero, suc, ◌+◌, ◌*◌, ◌<◌, ◌≤◌, List, [], ◌∷◌, ◌++◌, All, drop, get_or, set, replicate, length, Option, Some, None, MatchOption, slice_get, ℤ, pos, ◌+ℤ◌, ◌<ℤ◌, sym, ap, subst, inl, inr, arith}
+use Rattle.std.specs.List.{AllByRecursion}
+use Rattle.std.proofs.lemmas.Bool.{cases_Bool, cases_lt}
+use Rattle.std.proofs.lemmas.Int.{ints}
+use Rattle.std.proofs.lemmas.List.Elements.{filter_map-append, recursion_from_All}
+use Rattle.std.proofs.lemmas.List.Sums.{sum_by-le}
+use Rattle.packet_core.specs.Params.{AreInRange}
+use Rattle.packet_core.specs.FlowNumber.{flow_number}
+use Rattle.packet_core.specs.declared.flow.Seed.{Seed}
+use Rattle.packet_core.specs.declared.packet.FiveTuple.{FiveTuple}
+use Rattle.packet_core.specs.declared.packet.Waiting.{Waiting}
+use Rattle.packet_core.specs.declared.params.ParamFields.{ParamFields}
+use Rattle.flow_core.specs.FlowLists.{queue_at}
+use Rattle.sched_core.specs.declared.account.Account.{Account}
+use Rattle.sched_core.specs.declared.event.Event.{Event}
+use Rattle.sched_core.specs.declared.run.Answer.{Answer}
+use Rattle.sched_core.specs.declared.run.Answer.TheVariants as answer
+use Rattle.sched_core.specs.declared.step.Refusal.{Refusal}
+use Rattle.sched_core.specs.declared.step.Step.{Step}
+use Rattle.sched_core.specs.declared.step.Step.TheVariants.{Enqueue, Dequeue, Close}
+use Rattle.sched_core.specs.FairQueueing.{Arrives, fair_queueing, is_listed, with_flow_listed}
+use Rattle.sched_core.specs.FairQueues.{FairQueues, account_at, new_account, no_queues, queue_of}
+use Rattle.sched_core.specs.FqCodel.{fq_codel, fq_codel_policy}
+use Rattle.sched_core.specs.Happened.{Acceptance, acceptance_of, acceptances}
+use Rattle.sched_core.specs.Policies.{DropsFromHeads}
+use Rattle.sched_core.specs.Runs.{Made, Runs, journal_of}
+use Rattle.sched_core.specs.State.{State, arrival, opening_state, refusal_of}
+use Rattle.sched_core.specs.Steps.{Makes, Steps}
+use Rattle.sched_core.specs.TurnBound.{quanta_owed, turns_at_most}
+use Rattle.sched_core.specs.Turns.{Chain, Policy, Service, Turn}
+use Rattle.sched_core.specs.Turns.Turn.{used_up, emptied_new, emptied_old, serving}
+use Rattle.sched_core.proofs.Chains.{chain_bound}
+use Rattle.sched_core.proofs.FqCodel.{VerdictLaws, policy_decided, policy_drops}
+use Rattle.sched_core.proofs.FqCodelRuns.{fq_codel_sound}
+use Rattle.sched_core.proofs.Lists.{ByRecursion-append, ByRecursion-parts}
+use Rattle.sched_core.proofs.Quanta.{quanta_owed_is}
+
+-- what holds of each element holds of each where one is set
+set_keeps : {X : Type 0} (P : X → Type 0) (d : X) (xs : List X) (i : ℕ) (v : X) → P v → ((j : ℕ) → P (get_or xs j d)) → (j : ℕ) → P (get_or (set xs i v) j d)
+set_keeps P d [] i v here all j = all j
+set_keeps P d (x ∷ xs) zero v here all zero = here
+set_keeps P d (x ∷ xs) zero v here all (suc j) = all (suc j)
+set_keeps P d (x ∷ xs) (suc i) v here all zero = all zero
+set_keeps P d (x ∷ xs) (suc i) v here all (suc j) = set_keeps P d xs i v here (λ k. all (suc k)) j
+
+replicate_keeps : {X : Type 0} (P : X → Type 0) (d : X) (n : ℕ) → P d → (j : ℕ) → P (get_or (replicate n d) j d)
+replicate_keeps P d zero here j = here
+replicate_keeps P d (suc n) here zero = here
+replicate_keeps P d (suc n) here (suc j) = replicate_keeps P d n here j
+
+module _ (quantum : ℕ) where
+  abbrev IsShort : Waiting → Type 0
+  IsShort w = w.packet.len ≤ quantum
+
+  -- no queue has a packet longer than a quantum, and a quantum brings all credits above 0
+  record AreShort (s : FairQueues) : Type 0 where
+    credits : (flow : ℕ) → pos 0 <ℤ ((account_at s flow).credits +ℤ pos quantum)
+    queues : (flow : ℕ) → AllByRecursion IsShort (queue_of s flow)
+
+  short_behind : (n : ℕ) (q : List Waiting) → AllByRecursion IsShort q → AllByRecursion IsShort (drop n q)
+  short_behind zero q h = h
+  short_behind (suc n) [] h = tt
+  short_behind (suc n) (w ∷ q) h = short_behind n q h.1
+
+  short_at : (k : ℕ) (q : List Waiting) (w : Waiting) → AllByRecursion IsShort q → slice_get q k ≡ Some w → IsShort w
+  short_at k [] w h found = absurd cc
+  short_at zero (v ∷ q) w h found = let e : v ≡ w = cc in subst IsShort e h.0
+  short_at (suc k) (v ∷ q) w h found = short_at k q w h.1 found
+
+  opening_short : (flows : ℕ) → 0 < quantum → AreShort (no_queues flows)
+  opening_short flows some = record {
+    credits = replicate_keeps (λ (a : Account). pos 0 <ℤ (a.credits +ℤ pos quantum)) new_account flows (omega (arith, ints));
+    queues = replicate_keeps (AllByRecursion IsShort) [] flows tt;
+  }
+
+  -- at most one quantum is owed
+  one_owed : (credits : ℤ) → 0 < quantum → pos 0 <ℤ (credits +ℤ pos quantum) → quanta_owed quantum credits ≤ 1
+  one_owed credits some short =
+      let owed = quanta_owed_is quantum credits some in
+      elim (cases_lt 1 (quanta_owed quantum credits)) [
+        | inl more ↦ let least = owed.least 1 more in absurd (omega (arith, ints))
+        | inr few ↦ few
+      ]
+
+  short_bound : (s : FairQueues) → 0 < quantum → AreShort s → turns_at_most quantum s ≤ 3 * length s.lists.new_flows + 2 * length s.lists.old_flows
+  short_bound s some short =
+      let new = sum_by-le (λ flow. quanta_owed quantum ((account_at s flow).credits) + 2) 3 s.lists.new_flows (λ i d below. let o = one_owed _ some (short.credits (get_or s.lists.new_flows i d)) in omega arith) in
+      let old = sum_by-le (λ flow. quanta_owed quantum ((account_at s flow).credits) + 1) 2 s.lists.old_flows (λ i d below. let o = one_owed _ some (short.credits (get_or s.lists.old_flows i d)) in omega arith) in
+      omega arith
+
+-- The flows stay so.
+module _ (p : Policy) (drops : DropsFromHeads p) where
+  abbrev Short : FairQueues → Type 0
+  Short s = AreShort p.quantum s
+
+  abbrev HasFew : Account → Type 0
+  HasFew a = pos 0 <ℤ (a.credits +ℤ pos p.quantum)
+
+  turn_short : (now : ℕ) (old : FairQueues) (service : Option Service) (new : FairQueues) → Turn p now old service new → Short old → Short new
+  turn_short now old service new (used_up head at credits none e) short =
+      let few = short.credits head.flow in
+      rw e (record { credits = set_keeps HasFew new_account old.accounts head.flow _ (omega (arith, ints)) short.credits; queues = short.queues })
+  turn_short now old service new (emptied_new head at from credits empty mark codel verdict none e) short =
+      rw e (record { credits = set_keeps HasFew new_account old.accounts head.flow _ (short.credits head.flow) short.credits; queues = short.queues })
+  turn_short now old service new (emptied_old head at from credits empty mark codel verdict none e) short =
+      rw e (record { credits = set_keeps HasFew new_account old.accounts head.flow _ (short.credits head.flow) short.credits; queues = short.queues })
+  turn_short now old service new (serving head at credits drops mark codel verdict w found some e) short =
+      let fits = short_at p.quantum drops (queue_at old.lists head.flow) w (short.queues head.flow) found in
+      rw e (record {
+        credits = set_keeps HasFew new_account old.accounts head.flow _ (omega (arith, ints)) short.credits;
+        queues = set_keeps (AllByRecursion (IsShort p.quantum)) [] old.lists.queues head.flow _ (short_behind p.quantum (drops + 1) (queue_at old.lists head.flow) (short.queues head.flow)) short.queues;
+      })
+
+  chain_short : (turns now : ℕ) (old : FairQueues) (service : Option Service) (new : FairQueues) → Chain p now old turns service new → Short old → Short new
+  chain_short zero now old service new c short = rw c.2 short
+  chain_short (suc more) now old service new (inl c) short = turn_short now old (Some c.1) new c.3 short
+  chain_short (suc more) now old service new (inr c) short = chain_short more now c.0 service new c.2 (turn_short now old None c.0 c.1 short)
+
+  listed_short : (old : FairQueues) (flow : ℕ) → 0 < p.quantum → Short old → (other : ℕ) → HasFew (account_at (with_flow_listed p old flow) other)
+  listed_short old flow some short other =
+      elim (cases_Bool (is_listed old flow)) [
+        | inl t ↦ rw t (short.credits other)
+        | inr t ↦ rw t (set_keeps HasFew new_account old.accounts flow _ (omega (arith, ints)) short.credits other)
+      ]
+
+  arrival_short : (old : FairQueues) (flow : ℕ) (w : Waiting) (lost : List Waiting) (new : FairQueues) → Arrives p old flow w lost new → 0 < p.quantum → IsShort p.quantum w → Short old → Short new
+  arrival_short old flow w lost new a some fits short =
+      let same : new.accounts ≡ (with_flow_listed p old flow).accounts = ap (λ (s : FairQueues). s.accounts) a.rest in
+      let queues = set old.lists.queues flow (queue_at old.lists flow ++ w ∷ []) in
+      let leave = drops.heads queues a.batches new.lists.queues a.overflow in
+      let with_w = set_keeps (AllByRecursion (IsShort p.quantum)) [] old.lists.queues flow (queue_at old.lists flow ++ w ∷ []) (ByRecursion-append (IsShort p.quantum) (queue_at old.lists flow) (w ∷ []) (short.queues flow) (fits, tt)) short.queues in
+      record {
+        credits = λ other. subst (λ (accounts : List Account). HasFew (get_or accounts other new_account)) (sym same) (listed_short old flow some short other);
+        queues = λ other. (ByRecursion-parts (IsShort p.quantum) _ (get_or new.lists.queues other []) (subst (AllByRecursion (IsShort p.quantum)) (leave other) (with_w other))).1;
+      }
+
+  module _ (flows : ℕ) (flow_of : FiveTuple → ℕ) (some : 0 < p.quantum) where
+    abbrev AcceptsShort : List Event → Type 0
+    AcceptsShort events = AllByRecursion (λ (a : Acceptance). a.packet.len ≤ p.quantum) (acceptances events)
+
+    makes_short : (old new : State FairQueues) (step : Step) (said : Answer) (made : List Event) → Makes (fair_queueing p flows flow_of) old step said made new → AcceptsShort made → Short old.queues → Short new.queues
+    makes_short old new (Enqueue moment lane packet) said made m accepts short =
+        let first = subst AcceptsShort m.1.told accepts in
+        arrival_short old.queues (flow_of packet.tuple) (arrival old moment packet) m.1.lost new.queues m.1.queues some first.0 short
+    makes_short old new (Dequeue moment) said made m accepts short = chain_short m.2.queues.turns moment old.queues m.2.queues.service new.queues m.2.queues.chain short
+    makes_short old new (Close moment) said made m accepts short = rw m.1.state short
+
+    steps_short : (old new : State FairQueues) (step : Step) (said : Answer) (made : List Event) → Steps (fair_queueing p flows flow_of) old step said made new → AcceptsShort made → Short old.queues → Short new.queues
+    steps_short old new step said made s accepts short = go (refusal_of old step) s
+      where
+        go : (o : Option Refusal) → MatchOption o (Makes (fair_queueing p flows flow_of) old step said made new) (λ r. (said ≡ answer.Refused r) × (made ≡ []) × (new ≡ old)) → Short new.queues
+        go None m = makes_short old new step said made m accepts short
+        go (Some r) m = rw m.2 short
+
+    runs_short : (old new : State FairQueues) (steps : List Step) (made : List Made) → Runs (fair_queueing p flows flow_of) old steps made new → AcceptsShort (journal_of made) → Short old.queues → Short new.queues
+    runs_short old new [] [] r accepts short = rw r short
+    runs_short old new [] (m ∷ made) r accepts short = absurd r
+    runs_short old new (step ∷ steps) [] r accepts short = absurd r
+    runs_short old new (step ∷ steps) (m ∷ made) r accepts short =
+        let parts = ByRecursion-parts (λ (a : Acceptance). a.packet.len ≤ p.quantum) (acceptances m.events) (acceptances (journal_of made)) (rw (← filter_map-append acceptance_of m.events (journal_of made)) accepts) in
+        runs_short r.0 new steps made r.2 parts.1 (steps_short old r.0 step m.answer m.events r.1 parts.0 short)
+
+-- the turns of a dequeue, wherever a run stands that accepted no packet longer than a quantum
+pub short_packets_few_turns : VerdictLaws → (p : ParamFields) (seed : Seed) → AreInRange p → (steps : List Step) (made : List Made) (new : State FairQueues) → Runs (fq_codel p seed) (opening_state (no_queues p.flows)) steps made new
+    → All (λ (a : Acceptance). a.packet.len ≤ p.quantum) (acceptances (journal_of made))
+    → (turns now : ℕ) (service : Option Service) (next : FairQueues) → Chain (fq_codel_policy p) now new.queues turns service next
+    → turns ≤ 3 * length new.queues.lists.new_flows + 2 * length new.queues.lists.old_flows
+short_packets_few_turns laws p seed range steps made new r accepts turns now service next c =
+    let short = runs_short (fq_codel_policy p) (policy_drops laws p) p.flows (flow_number p.classify p.flows seed) range.quantum.0 (opening_state (no_queues p.flows)) new steps made r
+    (recursion_from_All (λ (a : Acceptance). a.packet.len ≤ p.quantum) (acceptances (journal_of made)) accepts) (opening_short p.quantum p.flows range.quantum.0) in
+    let bound = chain_bound (fq_codel_policy p) (policy_decided laws p range) turns now new.queues service next (fq_codel_sound laws p seed range steps made new r) c in
+    let few = short_bound p.quantum new.queues range.quantum.0 short in
+    omega arith
