@@ -32,7 +32,7 @@ use Rattle.sched_core.specs.TurnBound.{quanta_owed, turns_at_most}
 use Rattle.sched_core.specs.Turns.{Chain, Policy, Service, Turn}
 use Rattle.sched_core.specs.Turns.Turn.{used_up, emptied_new, emptied_old, serving}
 use Rattle.sched_core.proofs.Chains.{chain_bound}
-use Rattle.sched_core.proofs.FqCodel.{VerdictLaws, policy_decided, policy_drops}
+use Rattle.sched_core.proofs.FqCodel.{policy_drops}
 use Rattle.sched_core.proofs.FqCodelRuns.{fq_codel_sound}
 use Rattle.sched_core.proofs.Lists.{ByRecursion-append, ByRecursion-parts}
 use Rattle.sched_core.proofs.Quanta.{quanta_owed_is}
@@ -163,13 +163,13 @@ module _ (p : Policy) (drops : DropsFromHeads p) where
         runs_short r.0 new steps made r.2 parts.1 (steps_short old r.0 step m.answer m.events r.1 parts.0 short)
 
 -- the turns of a dequeue, wherever a run stands that accepted no packet longer than a quantum
-pub short_packets_few_turns : VerdictLaws → (p : ParamFields) (seed : Seed) → AreInRange p → (steps : List Step) (made : List Made) (new : State FairQueues) → Runs (fq_codel p seed) (opening_state (no_queues p.flows)) steps made new
+pub short_packets_few_turns : (p : ParamFields) (seed : Seed) → AreInRange p → (steps : List Step) (made : List Made) (new : State FairQueues) → Runs (fq_codel p seed) (opening_state (no_queues p.flows)) steps made new
     → All (λ (a : Acceptance). a.packet.len ≤ p.quantum) (acceptances (journal_of made))
     → (turns now : ℕ) (service : Option Service) (next : FairQueues) → Chain (fq_codel_policy p) now new.queues turns service next
     → turns ≤ 3 * length new.queues.lists.new_flows + 2 * length new.queues.lists.old_flows
-short_packets_few_turns laws p seed range steps made new r accepts turns now service next c =
-    let short = runs_short (fq_codel_policy p) (policy_drops laws p) p.flows (flow_number p.classify p.flows seed) range.quantum.0 (opening_state (no_queues p.flows)) new steps made r
+short_packets_few_turns p seed range steps made new r accepts turns now service next c =
+    let short = runs_short (fq_codel_policy p) (policy_drops p) p.flows (flow_number p.classify p.flows seed) range.quantum.0 (opening_state (no_queues p.flows)) new steps made r
     (recursion_from_All (λ (a : Acceptance). a.packet.len ≤ p.quantum) (acceptances (journal_of made)) accepts) (opening_short p.quantum p.flows range.quantum.0) in
-    let bound = chain_bound (fq_codel_policy p) (policy_decided laws p range) turns now new.queues service next (fq_codel_sound laws p seed range steps made new r) c in
+    let bound = chain_bound (fq_codel_policy p) range.quantum.0 turns now new.queues service next (fq_codel_sound p seed range steps made new r) c in
     let few = short_bound p.quantum new.queues range.quantum.0 short in
     omega arith

@@ -1,7 +1,7 @@
 //! What holds of every run of FQ-CoDel, whatever its parameters and its seed, as contracts of functions that
 //! do nothing.
 
-ghost use Rattle.std.specs.Prelude.{◌≡◌, ℕ, ◌≤◌, ◌<◌, List, [], Option, sum_by, ℤ};
+ghost use Rattle.std.specs.Prelude.{◌≡◌, ℕ, ◌+◌, ◌*◌, ◌≤◌, ◌<◌, All, List, [], length, Option, sum_by, ℤ};
 ghost use Rattle.std.specs.Bool.{Decides};
 ghost use Rattle.packet_core.specs.Packets.{same_tuple};
 ghost use Rattle.packet_core.specs.Params.{AreInRange};
@@ -13,6 +13,7 @@ ghost use Rattle.flow_core.specs.FlowLists.{waiting_in};
 ghost use Rattle.sched_core.specs.declared.step.Step.{Step};
 ghost use Rattle.sched_core.specs.FairQueues.{AreSound, FairQueues, no_queues, queue_of};
 ghost use Rattle.sched_core.specs.FqCodel.{fq_codel, fq_codel_policy};
+ghost use Rattle.sched_core.specs.Happened.{Acceptance, acceptances};
 ghost use Rattle.sched_core.specs.JournalLaws.{JournalLaws, WaitWithoutFate};
 ghost use Rattle.sched_core.specs.NewFlows.{IsFirstReady, SendsFrom};
 ghost use Rattle.sched_core.specs.Runs.{Made, Runs, given_by_made, journal_of, steps_made};
@@ -40,13 +41,23 @@ pub fn refused_steps_change_nothing()
 /// The turns of a dequeue end, with the first one that serves a flow or where no flow is listed: from the flows
 /// that any run leaves, and from any others that stand in the lists once and have an account, there is one
 /// serving chain, and no other. It has at most as many turns as quanta bring the credits of the listed flows
-/// above 0, and one more for an old flow, two for a new one (RFC 8290, section 4.2).
+/// above 0, and one more for an old flow, two for a new one (RFC 8290, section 4.2). Where the run accepted no
+/// packet longer than a quantum, that is three at most for each new flow and two for each old one.
 pub fn serving_chains_end()
     ensures sound { (p : ParamFields) (seed : Seed) → AreInRange p → (steps : List Step) (made : List Made) (new : State FairQueues) → Runs (fq_codel p seed) (opening_state (no_queues p.flows)) steps made new → AreSound new.queues }
     ensures there { (p : ParamFields) → AreInRange p → (now : ℕ) (old : FairQueues) → AreSound old → (turns : ℕ) × (service : Option Service) × (new : FairQueues) × Chain (fq_codel_policy p) now old turns service new }
     ensures once { (p : ParamFields) → AreInRange p → (turns turns' now : ℕ) (old : FairQueues) (service service' : Option Service) (new new' : FairQueues) → Chain (fq_codel_policy p) now old turns service new → Chain (fq_codel_policy p) now old turns' service' new' → (turns ≡ turns') × (service ≡ service') × (new ≡ new') }
     ensures bound { (p : ParamFields) → AreInRange p → (turns now : ℕ) (old : FairQueues) (service : Option Service) (new : FairQueues) → AreSound old → Chain (fq_codel_policy p) now old turns service new → turns ≤ turns_at_most p.quantum old }
+    ensures short { (p : ParamFields) (seed : Seed) → AreInRange p → (steps : List Step) (made : List Made) (new : State FairQueues) → Runs (fq_codel p seed) (opening_state (no_queues p.flows)) steps made new → All (λ (a : Acceptance). a.packet.len ≤ p.quantum) (acceptances (journal_of made)) → (turns now : ℕ) (service : Option Service) (next : FairQueues) → Chain (fq_codel_policy p) now new.queues turns service next → turns ≤ 3 * length new.queues.lists.new_flows + 2 * length new.queues.lists.old_flows }
     ensures least { (quantum : ℕ) (credits : ℤ) → 0 < quantum → AreQuantaOwed quantum credits (quanta_owed quantum credits) }
+{
+    one_verdict();
+}
+
+/// From one state a list of steps has one run at most: the rules leave no choice of an answer, an event or a
+/// state.
+pub fn one_run()
+    ensures { (p : ParamFields) (seed : Seed) → AreInRange p → (steps : List Step) (made made' : List Made) (old new new' : State FairQueues) → Runs (fq_codel p seed) old steps made new → Runs (fq_codel p seed) old steps made' new' → (made ≡ made') × (new ≡ new') }
 {
     one_verdict();
 }

@@ -2,6 +2,7 @@ use Rattle.sched_core.specs.FqCodel.{fq_codel_policy}
 use Rattle.sched_core.proofs.Chains.{chain_bound, chain_once, chain_there}
 use Rattle.sched_core.proofs.FqCodel.{policy_decided}
 use Rattle.sched_core.proofs.FqCodelRuns.{fq_codel_sound}
+use Rattle.sched_core.proofs.ShortPackets.{short_packets_few_turns}
 use Rattle.sched_core.proofs.laws.serving_chains_end.Goals as goal
 
 pub returns-clause-sound : goal.returns-clause-sound
@@ -15,3 +16,6 @@ returns-clause-once c = λ p range turns turns' now old service service' new new
 
 pub returns-clause-bound : goal.returns-clause-bound
 returns-clause-bound c = λ p range turns now old service new sound a. chain_bound (fq_codel_policy p) range.quantum.0 turns now old service new sound a
+
+pub returns-clause-short : goal.returns-clause-short
+returns-clause-short c = λ p seed range steps made new r accepts turns now service next a. short_packets_few_turns p seed range steps made new r accepts turns now service next a
