@@ -1,5 +1,5 @@
 -- Worked examples, by computation: the definitions are the ones that are meant.
-use Rattle.std.proofs.Common.{◌≡◌, ℕ, ◌^◌, ◌-◌, Bool, true, false, ◌==◌, All, List, [], ◌∷◌, arith, Some, None, refl}
+use Rattle.std.proofs.Common.{◌≡◌, ℕ, ◌^◌, ◌-◌, Bool, true, false, ◌==◌, All, List, [], ◌∷◌, arith, Some, None, refl, ◌++◌, cond, drop, option_map, slice_get}
 use Rattle.packet_core.specs.Packets.{PacketParts}
 use Rattle.packet_core.specs.declared.packet.Waiting.{Waiting}
 use Rattle.packet_core.specs.declared.packet.FiveTuple.{FiveTuple}
@@ -14,12 +14,28 @@ use Rattle.sched_core.specs.declared.step.Refusal.TheVariants as refusal
 use Rattle.sched_core.specs.declared.step.Step.{Step}
 use Rattle.sched_core.specs.declared.step.Step.TheVariants.{Enqueue, Dequeue, Close}
 use Rattle.sched_core.specs.declared.run.Answer.TheVariants as answer
-use Rattle.sched_core.specs.OneQueue.{one_queue, queue_of, unmarked}
+use Rattle.sched_core.specs.Disciplines.{Discipline, Given}
 use Rattle.sched_core.specs.State.{State, opening_state, refusal_of}
 use Rattle.sched_core.specs.Statistics.{statistics}
 use Rattle.sched_core.specs.Happened.{acceptances, fate_ids}
 use Rattle.sched_core.specs.JournalLaws.{AreDistinct, FatesFollow, LeaveInOrder, IsClosedForGood, IsHonest, WaitWithoutFate}
 use Rattle.sched_core.specs.Runs.{Made, Runs, journal_of, outcomes_from}
+
+-- The plainest discipline: one queue, flow 0, for all packets. An accepted packet goes to its tail, a dequeue gives its head, and nothing
+-- is dropped or marked.
+abbrev unmarked : Waiting → Given
+unmarked w = record { waiting = w; mark = NoMark }
+
+abbrev one_queue : Discipline (List Waiting)
+one_queue = record {
+  opening = [];
+  flow_of = λ _. 0;
+  admits = λ old w lost new. (lost ≡ []) × (new ≡ old ++ w ∷ []);
+  serves = λ old _ dropped given new. (dropped ≡ []) × (given ≡ option_map unmarked (slice_get old 0)) × (new ≡ drop 1 old);
+}
+
+abbrev queue_of : List Waiting → ℕ → List Waiting
+queue_of queue flow = cond (0 == flow) queue []
 
 tuple : FiveTuple
 tuple = record { proto = 17; src = V4 (10 ∷ 0 ∷ 0 ∷ 1 ∷ []); dst = V4 (10 ∷ 0 ∷ 0 ∷ 2 ∷ []); sport = 5000; dport = 53 }

@@ -76,27 +76,28 @@ module _ (p : Policy) (drops : DropsFromHeads p) where
     runs_as_many old new (step ∷ steps) [] r = absurd r
     runs_as_many old new (step ∷ steps) (m ∷ made) r = runs_as_many r.0 new steps made r.2 ∙ steps_as_many old r.0 step m.answer m.events r.1
 
-flow_below : (classify : Classify) (flows : ℕ) (seed : Seed) (tuple : FiveTuple) → 0 < flows → flow_number classify flows seed tuple < flows
+pub flow_below : (classify : Classify) (flows : ℕ) (seed : Seed) (tuple : FiveTuple) → 0 < flows → flow_number classify flows seed tuple < flows
 flow_below Dport flows seed tuple some = mod_below tuple.dport flows some
 
-module _ (p : ParamFields) (seed : Seed) (range : AreInRange p) where
+module _ (p : ParamFields) (seed : Seed) where
   abbrev Run : List Step → List Made → State FairQueues → Type 0
   Run steps made new = Runs (fq_codel p seed) (opening_state (no_queues p.flows)) steps made new
 
   pub fq_codel_laws : (steps : List Step) (made : List Made) (new : State FairQueues) → Run steps made new → JournalLaws (fq_codel p seed).flow_of (journal_of made) × WaitWithoutFate (queue_of new.queues) (journal_of made)
   fq_codel_laws steps made new r = run_laws (fq_codel p seed) queue_of (fair_is_fifo (fq_codel_policy p) (policy_drops p) p.flows (flow_number p.classify p.flows seed)) steps made new r
 
-  pub fq_codel_sound : (steps : List Step) (made : List Made) (new : State FairQueues) → Run steps made new → AreSound new.queues
-  fq_codel_sound steps made new r = runs_sound (fq_codel_policy p) (policy_drops p) (range.quantum.0) p.flows (flow_number p.classify p.flows seed) (opening_state (no_queues p.flows)) new steps made r (opening_sound p.flows)
-
   pub fq_codel_flows : (steps : List Step) (made : List Made) (new : State FairQueues) → Run steps made new → length new.queues.lists.queues ≡ p.flows
   fq_codel_flows steps made new r = runs_as_many (fq_codel_policy p) (policy_drops p) p.flows (flow_number p.classify p.flows seed) (opening_state (no_queues p.flows)) new steps made r ∙ length-replicate {A = List Waiting} p.flows []
 
+module _ (p : ParamFields) (seed : Seed) (range : AreInRange p) where
+  pub fq_codel_sound : (steps : List Step) (made : List Made) (new : State FairQueues) → Run p seed steps made new → AreSound new.queues
+  fq_codel_sound steps made new r = runs_sound (fq_codel_policy p) (policy_drops p) (range.quantum.0) p.flows (flow_number p.classify p.flows seed) (opening_state (no_queues p.flows)) new steps made r (opening_sound p.flows)
+
   -- sums over what waits are sums over what has no fate
-  waiting_sum : (h : Waiting → ℕ) (steps : List Step) (made : List Made) (new : State FairQueues) → Run steps made new → sum_by (λ q. sum_by h q) new.queues.lists.queues ≡ sum_by (λ a. h (waiting_of a)) (without_fate (journal_of made))
+  waiting_sum : (h : Waiting → ℕ) (steps : List Step) (made : List Made) (new : State FairQueues) → Run p seed steps made new → sum_by (λ q. sum_by h q) new.queues.lists.queues ≡ sum_by (λ a. h (waiting_of a)) (without_fate (journal_of made))
   waiting_sum h steps made new r =
-      let held = fq_codel_laws steps made new r in
-      let flows = fq_codel_flows steps made new r in
+      let held = fq_codel_laws p seed steps made new r in
+      let flows = fq_codel_flows p seed steps made new r in
       let events = journal_of made in
       by_queues h 0 new.queues.lists.queues (without_fate events) (λ i below. rw (let e : 0 + i ≡ i = omega arith in e) (held.1 i))
       (ByRecursion-filter (λ a. (0 ≤ a.flow) × (a.flow < 0 + length new.queues.lists.queues)) (λ a. not (is_among (fate_ids events) a.id)) (acceptances events)
@@ -104,11 +105,11 @@ module _ (p : ParamFields) (seed : Seed) (range : AreInRange p) where
       (λ a e. let low = flow_below p.classify p.flows seed a.packet.tuple range.flows.0 in omega arith)
       (recursion_from_All (λ a. a.flow ≡ (fq_codel p seed).flow_of a.packet.tuple) (acceptances events) held.0.flows_are_named)))
 
-  pub queued_is_waiting : (steps : List Step) (made : List Made) (new : State FairQueues) → Run steps made new → (statistics (journal_of made)).queued ≡ waiting_in new.queues.lists
+  pub queued_is_waiting : (steps : List Step) (made : List Made) (new : State FairQueues) → Run p seed steps made new → (statistics (journal_of made)).queued ≡ waiting_in new.queues.lists
   queued_is_waiting steps made new r =
       length_as_sum (without_fate (journal_of made))
       ∙ sym (waiting_sum (λ _. 1) steps made new r)
       ∙ sum_by_agree_on (λ q. sum_by (λ _. 1) q) length new.queues.lists.queues (ByRecursion-all (λ q. sum_by (λ _. 1) q ≡ length q) new.queues.lists.queues (λ q. sym (length_as_sum q)))
 
-  pub queued_bytes_are_waiting : (steps : List Step) (made : List Made) (new : State FairQueues) → Run steps made new → (statistics (journal_of made)).queued_bytes ≡ sum_by bytes_of new.queues.lists.queues
+  pub queued_bytes_are_waiting : (steps : List Step) (made : List Made) (new : State FairQueues) → Run p seed steps made new → (statistics (journal_of made)).queued_bytes ≡ sum_by bytes_of new.queues.lists.queues
   queued_bytes_are_waiting steps made new r = sym (waiting_sum (λ w. w.packet.len) steps made new r)

@@ -10,7 +10,6 @@ pub mod Keeping
 pub mod Counting
 pub mod Known
 pub mod KeptSteps
-pub mod OneQueueLaws
 pub mod FairFifo
 pub mod Quanta
 pub mod Turns

@@ -5,8 +5,9 @@ use Rattle.packet_core.specs.declared.params.ParamFields.{ParamFields}
 use Rattle.codel_core.specs.declared.served.Served.{Served}
 use Rattle.sched_core.specs.declared.backlog.Head.{Head as ShownHead}
 use Rattle.sched_core.specs.declared.event.Cause.TheVariants as cause
-use Rattle.sched_core.specs.Backlogs.{Held, MakesTurn, ServesChain, dropped_by, shown_head, shown_service}
+use Rattle.sched_core.specs.Backlogs.{Held, MakesTurn, ServesChain, shown_head, shown_service}
 use Rattle.sched_core.specs.Books.{Book}
+use Rattle.sched_core.specs.FairQueueing.{dropped_in}
 use Rattle.sched_core.specs.FairQueues.{AreSound, FairQueues, Head, head_of}
 use Rattle.sched_core.specs.Fating.{drops_none, with_drops}
 use Rattle.sched_core.specs.FqCodel.{fq_codel_policy}
@@ -63,7 +64,7 @@ module _ (p : ParamFields) (now : ℕ) (old : Held) (book : Book) where
       (
         record {
           goes_on = λ more service last c. let e : turns + 1 + more ≡ turns + suc more = omega arith in rw e (on.goes_on (suc more) service last (inr (new.queues, turn, c)));
-          journal = t.journal ∙ ap (λ s. with_drops book' now cause.Codel (dropped_by s)) none ∙ sym (drops_none book' now cause.Codel) ∙ on.journal;
+          journal = t.journal ∙ ap (λ s. with_drops book' now cause.Codel (dropped_in s)) none ∙ sym (drops_none book' now cause.Codel) ∙ on.journal;
           arrived = t.arrived ∙ on.arrived;
           room = t.room ∙ on.room;
           queues = queues_stay (fq_codel_policy p) (policy_drops p) now cur.queues new.queues turn ∙ on.queues;
@@ -85,7 +86,7 @@ module _ (p : ParamFields) (now : ℕ) (old : Held) (book : Book) where
         service = Some s;
         chain = on.goes_on 1 (Some s) new.queues (inl (refl, s, refl, subst (λ o. Turn (fq_codel_policy p) now cur.queues o new.queues) is t.turn));
         given = t.given ∙ ap (option_map shown_service) is;
-        journal = t.journal ∙ ap (λ o. with_drops book' now cause.Codel (dropped_by o)) is ∙ ap (λ (b : Book). with_drops b now cause.Codel s.dropped) on.journal;
+        journal = t.journal ∙ ap (λ o. with_drops book' now cause.Codel (dropped_in o)) is ∙ ap (λ (b : Book). with_drops b now cause.Codel s.dropped) on.journal;
       }
 
   -- no flow is listed

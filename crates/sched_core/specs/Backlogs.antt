@@ -15,7 +15,7 @@ use Rattle.sched_core.specs.declared.backlog.Head.{Head as ShownHead}
 use Rattle.sched_core.specs.declared.event.Cause.TheVariants as cause
 use Rattle.sched_core.specs.Books.{Book}
 use Rattle.sched_core.specs.Disciplines.{Batch, packets_of}
-use Rattle.sched_core.specs.FairQueueing.{with_flow_listed}
+use Rattle.sched_core.specs.FairQueueing.{dropped_in, with_flow_listed}
 use Rattle.sched_core.specs.FairQueues.{FairQueues, Head, account_at, new_account, to_old, unlisted}
 use Rattle.sched_core.specs.Fating.{with_drops}
 use Rattle.sched_core.specs.FqCodel.{fq_codel_policy}
@@ -117,24 +117,19 @@ pub record ServesFlow (p : ParamFields) (now flow : ℕ) (old : Held) (book : Bo
       }
   pub journal : book' ≡ with_drops book now cause.Codel (take drops (queue_at old.queues.lists flow))
 
--- what a service dropped
-abbrev pub dropped_by : Option Service → List Waiting
-dropped_by None = []
-dropped_by (Some s) = s.dropped
-
 -- A chain of turns is made, and the journal records what it drops.
 pub record ServesChain (p : ParamFields) (now : ℕ) (old : Held) (book : Book) (turns : ℕ) (answer : Option Served) (new : Held) (book' : Book) : Type 0 where
   pub service : Option Service
   pub chain : Chain (fq_codel_policy p) now old.queues turns service new.queues
   pub given : answer ≡ option_map shown_service service
-  pub journal : book' ≡ with_drops book now cause.Codel (dropped_by service)
+  pub journal : book' ≡ with_drops book now cause.Codel (dropped_in service)
 
 -- A turn is made, and the journal records what it drops.
 pub record MakesTurn (p : ParamFields) (now : ℕ) (old : Held) (book : Book) (answer : Option Served) (new : Held) (book' : Book) : Type 0 where
   pub service : Option Service
   pub turn : Turn (fq_codel_policy p) now old.queues service new.queues
   pub given : answer ≡ option_map shown_service service
-  pub journal : book' ≡ with_drops book now cause.Codel (dropped_by service)
+  pub journal : book' ≡ with_drops book now cause.Codel (dropped_in service)
   pub arrived : new.arrived ≡ old.arrived
   pub room : new.room ≡ old.room
 

@@ -1,32 +1,44 @@
-use Rattle.std.specs.Prelude.{ℕ, ◌+◌, ◌*◌, ◌^◌, ◌<◌, ◌≤◌, Bool, List, length, if◌then◌else◌}
-use Rattle.packet_core.specs.declared.packet.Waiting.{Waiting}
+use Rattle.std.specs.Prelude.{◌≡◌, ℕ, ◌+◌, ◌*◌, ◌^◌, ◌<◌, ◌≤◌, Bool, length, if◌then◌else◌}
+use Rattle.packet_core.specs.declared.flow.Seed.{Seed}
+use Rattle.packet_core.specs.declared.params.ParamFields.{ParamFields}
+use Rattle.flow_core.specs.FlowLists.{waiting_in}
 use Rattle.sched_core.specs.declared.sched.Sched.TheInside.{Inside}
+use Rattle.sched_core.specs.Backlogs.{Held}
 use Rattle.sched_core.specs.Books.{Book}
-use Rattle.sched_core.specs.Calls.{Standing}
-use Rattle.sched_core.specs.History.{IsHistory, AreCounts}
-use Rattle.sched_core.specs.OneQueue.{one_queue, queue_of}
+use Rattle.sched_core.specs.FairQueues.{queue_of}
+use Rattle.sched_core.specs.FqCodel.{fq_codel}
+use Rattle.sched_core.specs.History.{AreCounts, IsHistory}
+use Rattle.sched_core.specs.Schedulers.{Scheduler}
 
 -- what callers see of a scheduler's fields
-abbrev pub standing_of : Inside → Standing (List Waiting)
-standing_of s = record {
-  state = record { queues = s.waiting.items; next_id = s.journal.counts.accepted; last = s.last_moment; closed = s.is_closed };
-  events = s.journal.events;
+abbrev pub scheduler_of : Inside → Scheduler
+scheduler_of s = record {
+  params = s.params;
+  seed = s.seed;
+  standing = record {
+    state = record { queues = s.backlog.queues; next_id = s.backlog.arrived; last = s.last_moment; closed = s.is_closed };
+    events = s.journal.events;
+  };
+  turns = s.turns;
+  room = s.room;
 }
 
 -- the close that may still come
 abbrev pub closes_left : Bool → ℕ
 closes_left closed = if closed then 0 else 1
 
--- What holds of a queue, a journal, the last moment and the close: there is room for each waiting packet's fate
--- and for the close, and the journal is a history of the queue.
-pub record IsBookKept (queue : List Waiting) (book : Book) (last : ℕ) (closed : Bool) : Type 0 where
-  pub room : length queue + closes_left closed ≤ book.room
-  pub long : length book.events + length queue + closes_left closed ≤ 2 * book.counts.accepted + 1
-  pub few : book.counts.accepted ≤ 2 ^ 40
+-- What holds of the flows, the journal, the last moment, the close and the room that is reserved: there is room for each waiting packet's
+-- fate, for the close, and for the acceptances reserved with their fates; and the journal is a history of the flows.
+pub record IsBookKept (p : ParamFields) (seed : Seed) (held : Held) (book : Book) (last : ℕ) (closed : Bool) (room : ℕ) : Type 0 where
+  pub flows : length held.queues.lists.queues ≡ p.flows
+  pub space : waiting_in held.queues.lists + closes_left closed + 2 * room ≤ book.room
+  pub reserved : room ≤ held.room
+  pub long : length book.events + waiting_in held.queues.lists + closes_left closed ≤ 2 * held.arrived + 1
+  pub few : held.arrived ≤ 2 ^ 40
   pub soon : last < 2 ^ 60
-  pub history : IsHistory one_queue.flow_of (queue_of queue) book.events book.counts.accepted last closed
+  pub history : IsHistory (fq_codel p seed).flow_of (queue_of held.queues) book.events held.arrived last closed
   pub counts : AreCounts book.counts book.events
 
 -- what holds of a scheduler's fields
 abbrev pub IsKept : Inside → Type 0
-IsKept s = IsBookKept s.waiting.items s.journal s.last_moment s.is_closed
+IsKept s = IsBookKept s.params s.seed s.backlog s.journal s.last_moment s.is_closed s.room

@@ -2,7 +2,6 @@ pub use Rattle.codel_core.specs.Verdict
 pub use Rattle.packet_core.specs.Packets
 pub mod State
 pub mod Disciplines
-pub mod OneQueue
 pub mod FairQueues
 pub mod Turns
 pub mod FairQueueing
@@ -21,4 +20,6 @@ pub mod Books
 pub mod Fating
 pub mod Calls
 pub mod History
+pub mod Schedulers
+pub mod Shown
 pub mod Kept

@@ -3,6 +3,7 @@ ghost use Rattle.codel_core.specs.Schedule.{IsStateInRange};
 ghost use Rattle.flow_core.specs.FlowLists.{queue_at, waiting_in};
 ghost use Rattle.sched_core.specs.Backlogs.{DropsOverflow, MakesTurn, ServesChain, ServesFlow, ServesQueue, emptied_lists, list_of, shown_head, with_arrival_listed, with_credits_raised, with_lists, without_head};
 ghost use Rattle.sched_core.specs.Fating.{with_drops};
+ghost use Rattle.sched_core.specs.Shown.{flow_shown};
 ghost use Rattle.sched_core.specs.TurnBound.{turns_at_most};
 ghost use Rattle.sched_core.specs.declared.event.Cause.TheVariants as cause;
 ghost use Rattle.sched_core.specs.FairQueues.{AreSound, account_at, head_of, no_queues, to_old};
@@ -10,6 +11,7 @@ ghost use Rattle.sched_core.specs.FairQueues.{AreSound, account_at, head_of, no_
 use crate::account::Account;
 use crate::event::Cause;
 use crate::fates::Fates;
+use crate::flow_view::FlowView;
 use crate::journal::Journal;
 use crate::step::Memory;
 use codel_core::{Codel, Served};
@@ -92,6 +94,34 @@ impl Backlog {
         self.flows.reserve(arrivals)
     }
 
+    /// How many packets came so far.
+    pub(crate) fn arrived(&self) -> u64
+        ensures { result ≡ self.now.arrived }
+    {
+        self.arrived
+    }
+
+    /// How many packets wait.
+    pub(crate) fn waiting(&self) -> u64
+        ensures value { result ≡ waiting_in self.now.queues.lists }
+        ensures size { result ≤ 2 ^ 40 }
+    {
+        self.flows.total_len()
+    }
+
+    /// What is kept of a flow.
+    pub(crate) fn view(&self, flow: u32) -> FlowView
+        requires { flow < length self.now.queues.lists.queues }
+        ensures { result ≡ flow_shown self.now.queues flow }
+    {
+        FlowView {
+            len: self.flows.len(flow),
+            bytes: self.flows.bytes(flow),
+            credits: self.credits(flow),
+            codel: self.accounts[flow as usize].codel.state(),
+        }
+    }
+
     /// The flow that a turn looks at (RFC 8290, section 4.2).
     fn head(&self) -> Option<Head>
         ensures value { result ≡ option_map shown_head (head_of self.now.queues) }
@@ -156,6 +186,7 @@ impl Backlog {
         ensures chain { ServesChain params.now now self.old journal.old result.turns result.served self.new journal.new }
         ensures arrived { self.new.arrived ≡ self.old.arrived }
         ensures room { self.new.room ≡ self.old.room }
+        ensures sound { AreSound self.old.queues }
     {
         // That it is above 0 is seen here: with it, the turns end.
         let _quantum = params.quantum();
@@ -196,7 +227,7 @@ impl Backlog {
     }
 
     /// How many bytes a flow may still send.
-    pub(crate) fn credits(&self, flow: u32) -> i64
+    fn credits(&self, flow: u32) -> i64
         requires { flow < length self.now.queues.lists.queues }
         ensures { result ≡ (account_at self.now.queues flow).credits }
     {

@@ -7,8 +7,9 @@ use packet_core::Waiting;
 use std::alloc::Global;
 use std::marker::Model;
 
-/// The most events that a journal holds. 2^40 packets have at most two each, and there is one close.
-pub(crate) const MAX_EVENTS: usize = 1 << 42;
+/// The most events that a journal holds. 2^40 packets have at most two each, there is one close, and room may be
+/// reserved for as many packets more.
+pub(crate) const MAX_EVENTS: usize = 1 << 43;
 
 /// Numbers of events and sums of lengths, in bytes, that run along with the journal.
 #[derive(Clone, Copy, Debug, PartialEq, Eq)]

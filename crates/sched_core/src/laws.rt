@@ -28,8 +28,8 @@ use codel_core::one_verdict;
 /// five-tuple leave in the order of acceptance, nothing is accepted after the close, and marks are honest.
 pub fn journal_laws()
     ensures tuples { (a b : FiveTuple) → Decides (same_tuple a b) (a ≡ b) }
-    ensures laws { (p : ParamFields) (seed : Seed) → AreInRange p → (steps : List Step) (made : List Made) (new : State FairQueues) → Runs (fq_codel p seed) (opening_state (no_queues p.flows)) steps made new → JournalLaws (fq_codel p seed).flow_of (journal_of made) }
-    ensures waiting { (p : ParamFields) (seed : Seed) → AreInRange p → (steps : List Step) (made : List Made) (new : State FairQueues) → Runs (fq_codel p seed) (opening_state (no_queues p.flows)) steps made new → WaitWithoutFate (queue_of new.queues) (journal_of made) }
+    ensures laws { (p : ParamFields) (seed : Seed) → (steps : List Step) (made : List Made) (new : State FairQueues) → Runs (fq_codel p seed) (opening_state (no_queues p.flows)) steps made new → JournalLaws (fq_codel p seed).flow_of (journal_of made) }
+    ensures waiting { (p : ParamFields) (seed : Seed) → (steps : List Step) (made : List Made) (new : State FairQueues) → Runs (fq_codel p seed) (opening_state (no_queues p.flows)) steps made new → WaitWithoutFate (queue_of new.queues) (journal_of made) }
 {}
 
 /// Taking the refused steps out of a list changes neither the state that its run leaves nor the journal.

@@ -1,17 +1,13 @@
-//! The scheduler: steps, the journal of what became of every packet, and running totals.
-//!
-//! The body is a plain first one: one queue, whose head a dequeue gives. There are no flows yet, no
-//! CoDel and no overflow.
+//! The scheduler FQ-CoDel (RFC 8290): steps, the journal of what became of every packet, and running totals.
 #![tactic(auto)]
 
 mod account;
 mod backlog;
 mod event;
 mod fates;
+mod flow_view;
 mod journal;
 pub mod laws;
-#[cfg(test)]
-mod lent_journal;
 mod run;
 mod sched;
 mod step;
@@ -19,6 +15,7 @@ mod totals;
 
 pub use codel_core::Mark;
 pub use event::{Cause, Event};
+pub use flow_view::FlowView;
 pub use run::{Answer, Outcome, Ran, run_steps};
 pub use sched::{MAX_ACCEPTED, MAX_MOMENT, Sched};
 pub use step::{Admitted, CloseFault, Memory, MomentFault, Refusal, Sent, Step};

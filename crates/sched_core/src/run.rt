@@ -2,11 +2,14 @@ ghost use Rattle.std.specs.Prelude.{◌≡◌, ◌≢◌, All, IfOk, OnErr};
 ghost use Rattle.sched_core.specs.declared.run.Answer.TheVariants as answer;
 ghost use Rattle.sched_core.specs.declared.step.Refusal.TheVariants as refusals;
 ghost use Rattle.sched_core.specs.JournalLaws.{JournalLaws, WaitWithoutFate};
-ghost use Rattle.sched_core.specs.OneQueue.{one_queue, queue_of};
+ghost use Rattle.sched_core.specs.FairQueues.{queue_of};
+ghost use Rattle.sched_core.specs.FqCodel.{fq_codel};
 ghost use Rattle.sched_core.specs.Runs.{Takes, IsRun, StandsIn};
+ghost use Rattle.sched_core.specs.Schedulers.{discipline_of, flows_of};
 
 use crate::sched::Sched;
 use crate::step::{CloseFault, Memory, Refusal, Step};
+use packet_core::{Params, Seed};
 use std::alloc::{AllocError, Global};
 
 /// How a step was answered. The packets are in its events.
@@ -60,7 +63,9 @@ fn refused(refusal: Refusal) -> Result<Answer, Memory>
 
 /// Makes one step. Where it finds no memory it answers Err, and nothing has changed.
 fn make(sched: &mut Sched, step: &Step) -> Result<Answer, Memory>
-    ensures made { IfOk result (λ said. Takes one_queue sched.old step.now said sched.new) }
+    ensures made { IfOk result (λ said. Takes (discipline_of sched.old) sched.old.standing step.now said sched.new.standing) }
+    ensures params { sched.new.params ≡ sched.old.params }
+    ensures seed { sched.new.seed ≡ sched.old.seed }
     ensures unchanged { OnErr result (sched.new ≡ sched.old) }
 {
     let answer = match *step {
@@ -86,15 +91,16 @@ fn make(sched: &mut Sched, step: &Step) -> Result<Answer, Memory>
     Ok(answer)
 }
 
-/// Makes the steps in turn with a new scheduler. A refused step changes nothing, and the run goes on after it.
+/// Makes the steps in turn with a new scheduler of those parameters and that seed. A refused step changes nothing, and the run goes on after it.
 /// It answers Err where a growth is refused, and then nothing is given.
-pub fn run_steps(alloc: Global, steps: &[Step]) -> Result<Ran, Memory>
-    ensures run { IfOk result (λ ran. IsRun one_queue steps.now ran.sched ran.outcomes.items) }
-    ensures places { IfOk result (λ ran. All (StandsIn ran.sched.events) ran.outcomes.items) }
-    ensures laws { IfOk result (λ ran. JournalLaws one_queue.flow_of ran.sched.events) }
-    ensures waiting { IfOk result (λ ran. WaitWithoutFate (queue_of ran.sched.state.queues) ran.sched.events) }
+pub fn run_steps(alloc: Global, params: Params, seed: Seed, steps: &[Step]) -> Result<Ran, Memory>
+    ensures run { IfOk result (λ ran. IsRun (fq_codel params seed) steps.now ran.sched.standing ran.outcomes.items) }
+    ensures made_with { IfOk result (λ ran. (ran.sched.params ≡ params) × (ran.sched.seed ≡ seed)) }
+    ensures places { IfOk result (λ ran. All (StandsIn ran.sched.standing.events) ran.outcomes.items) }
+    ensures laws { IfOk result (λ ran. JournalLaws (fq_codel params seed).flow_of ran.sched.standing.events) }
+    ensures waiting { IfOk result (λ ran. WaitWithoutFate (queue_of (flows_of ran.sched)) ran.sched.standing.events) }
 {
-    let mut sched = Sched::try_new(alloc)?;
+    let mut sched = Sched::try_new(alloc, params, seed)?;
     let mut outcomes = Vec::with_capacity(alloc, steps.len())?;
     for step in steps {
         let first_event = sched.events().len();

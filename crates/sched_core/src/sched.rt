@@ -1,14 +1,14 @@
-ghost use Rattle.std.specs.Prelude.{◌≡◌, ◌+◌, ◌<◌, [], Some, None, IfOk, IfErr, MatchResult, OnOk, OnErr, length};
+ghost use Rattle.std.specs.Prelude.{◌≡◌, ◌≢◌, ◌+◌, ◌-◌, ◌<◌, ◌≤◌, Some, None, IfOk, IfErr, MatchResult, OnOk, OnErr};
 ghost use Rattle.sched_core.specs.State.{moment_fault_of, Tests};
 
+use crate::backlog::Backlog;
 use crate::event::Event;
+use crate::flow_view::FlowView;
 use crate::journal::Journal;
 use crate::step::{Admitted, CloseFault, Memory, MomentFault, Refusal, Sent};
 use crate::totals::Totals;
-use codel_core::{Mark, Served};
-use packet_core::{Packet, Waiting};
+use packet_core::{Packet, Params, Seed, Waiting, flow_of};
 use std::alloc::Global;
-use std::collections::VecDeque;
 use std::marker::Model;
 
 /// A moment is below this many microseconds.
@@ -16,9 +16,6 @@ pub const MAX_MOMENT: u64 = 1 << 60;
 
 /// At most this many packets are accepted.
 pub const MAX_ACCEPTED: u64 = 1 << 40;
-
-/// The flow of every packet, as long as there is one queue.
-const ONE_FLOW: u32 = 0;
 
 /// Whether a step may be made at that moment, the last one being `last`.
 fn test_moment(moment: u64, last: u64) -> Result<(), MomentFault>
@@ -33,102 +30,147 @@ fn test_moment(moment: u64, last: u64) -> Result<(), MomentFault>
     Ok(())
 }
 
-/// A packet scheduler with the journal of what became of every packet.
+/// A packet scheduler by FQ-CoDel (RFC 8290), with the journal of what became of every packet.
 #[derive(Debug, Drop)]
 pub struct Sched {
-    waiting: VecDeque<Waiting>,
+    params: Params,
+    seed: Seed,
+    backlog: Backlog,
     journal: Journal,
     last_moment: u64,
     is_closed: bool,
+    turns: u64,
+    room: u64,
 }
 
 impl Model for Sched {
-    ghost use Rattle.std.specs.Prelude.{List};
-    ghost use Rattle.packet_core.specs.declared.packet.Waiting.{Waiting};
-    ghost use Rattle.sched_core.specs.Calls.{Standing};
+    ghost use Rattle.sched_core.specs.Schedulers.{Scheduler};
 
-    ghost Value = { Standing (List Waiting) };
+    ghost Value = { Scheduler };
 
-    ghost use Rattle.sched_core.specs.Kept.{standing_of, IsKept};
+    ghost use Rattle.sched_core.specs.Kept.{scheduler_of, IsKept};
 
-    ghost view = { standing_of };
+    ghost view = { scheduler_of };
 
     ghost invariant = { IsKept };
 }
 
 impl Sched {
-    ghost use Rattle.sched_core.specs.Calls.{Advances, Gives, admitted_at, close_refusal};
-    ghost use Rattle.sched_core.specs.State.{opening_state, enqueue_refusal_of, refusal_of, IsRefusal};
-    ghost use Rattle.sched_core.specs.OneQueue.{one_queue, queue_of};
+    ghost use Rattle.flow_core.specs.FlowLists.{waiting_in};
+    ghost use Rattle.sched_core.specs.Calls.{admitted_at, close_refusal};
+    ghost use Rattle.sched_core.specs.FairQueues.{queue_of};
     ghost use Rattle.sched_core.specs.JournalLaws.{JournalLaws, WaitWithoutFate};
+    ghost use Rattle.sched_core.specs.Schedulers.{IsAdvanced, IsServed, discipline_of, flows_of, new_scheduler};
+    ghost use Rattle.sched_core.specs.Shown.{flow_shown};
+    ghost use Rattle.sched_core.specs.State.{enqueue_refusal_of, refusal_of, IsRefusal};
     ghost use Rattle.sched_core.specs.Statistics.{statistics};
     ghost use Rattle.sched_core.specs.declared.step.Step.TheVariants.{Enqueue, Dequeue, Close};
     ghost use Rattle.sched_core.specs.declared.run.Answer.TheVariants as answer;
     ghost use Rattle.sched_core.specs.declared.step.Refusal.TheVariants as refusal;
 
-    /// A scheduler before its first step. Room for the close is taken here.
-    pub fn try_new(alloc: Global) -> Result<Sched, Memory>
-        ensures { IfOk result (λ s. s ≡ record { state = opening_state []; events = [] }) }
+    /// A scheduler before its first step. Room for the close, for both lists of flows, for the credits and for
+    /// CoDel's states is taken here.
+    pub fn try_new(alloc: Global, params: Params, seed: Seed) -> Result<Sched, Memory>
+        ensures { IfOk result (λ s. s ≡ new_scheduler params seed) }
     {
         Ok(Sched {
-            waiting: VecDeque::new(alloc),
+            backlog: Backlog::try_new(alloc, params.flows())?,
             journal: Journal::try_new(alloc, 1)?,
+            params,
+            seed,
             last_moment: 0,
             is_closed: false,
+            turns: 0,
+            room: 0,
         })
     }
 
-    /// Accepts a packet from a lane at a moment, in microseconds, and takes room for its fate in the journal.
-    /// It refuses a moment of 2^60 or more or before the last one, then a packet after the close, then one
-    /// after 2^40 others, and last where a growth is refused.
+    /// Takes memory for so many enqueues, at most 2^40: the next ones take none.
+    pub fn reserve(&mut self, enqueues: u64) -> Result<(), Memory>
+        requires { enqueues ≤ MAX_ACCEPTED }
+        ensures ok { OnOk result (enqueues ≤ self.new.room) }
+        ensures room { self.old.room ≤ self.new.room }
+        ensures rest { self.new ≡ record self.old { room = self.new.room } }
+        ensures err { OnErr result (self.new ≡ self.old) }
+    {
+        if enqueues <= self.room {
+            return Ok(());
+        }
+        // The fates of the packets that wait, the close, and each packet more with its fate.
+        let events = self.backlog.waiting() + 1 + 2 * enqueues;
+        self.journal.reserve(events as usize)?;
+        self.backlog.reserve(enqueues)?;
+        self.room = enqueues;
+        Ok(())
+    }
+
+    /// Accepts a packet from a lane at a moment, in microseconds, into the queue of its flow, and takes room for
+    /// its fate in the journal. Where more packets wait than the limit, the flow with the most bytes loses a
+    /// batch from its head (RFC 8290, section 4.1). It refuses a moment of 2^60 or more or before the last one,
+    /// then a packet after the close, then one after 2^40 others, and last where a growth is refused.
     pub fn enqueue(&mut self, moment: u64, lane: u32, packet: Packet) -> Result<Admitted, Refusal>
-        ensures admitted { IfOk result (λ a. a ≡ admitted_at one_queue self.old.state moment packet) }
-        ensures made { OnOk result (Advances one_queue self.old (Enqueue moment lane packet) answer.Accepted self.new) }
+        ensures admitted { IfOk result (λ a. a ≡ admitted_at (discipline_of self.old) self.old.standing.state moment packet) }
+        ensures made { OnOk result (IsAdvanced self.old (Enqueue moment lane packet) answer.Accepted self.new) }
+        ensures room { OnOk result (self.new.room ≡ self.old.room - 1) }
 
         // Each refusal comes in its case, want of memory last, and changes nothing.
-        ensures refused { IfErr result (IsRefusal (refusal_of self.old.state (Enqueue moment lane packet))) }
+        ensures refused { IfErr result (IsRefusal (refusal_of self.old.standing.state (Enqueue moment lane packet))) }
+        ensures reserved { 0 < self.old.room → OnErr result (refusal_of self.old.standing.state (Enqueue moment lane packet) ≢ None) }
         ensures unchanged { OnErr result (self.new ≡ self.old) }
     {
         self.test_enqueue(moment)?;
-        let id = self.journal.counts().accepted;
-        // The acceptance, its fate, that of each waiting packet, and the close.
-        self.journal.reserve(self.waiting.len() + 3)?;
+        if self.room == 0 {
+            self.reserve(1)?;
+        }
+        Ok(self.admit(moment, lane, packet))
+    }
+
+    /// Accepts a packet that is not refused.
+    fn admit(&mut self, moment: u64, lane: u32, packet: Packet) -> Admitted
+        requires fits { refusal_of self.old.standing.state (Enqueue moment lane packet) ≡ None }
+        requires room { 0 < self.old.room }
+        ensures admitted { result ≡ admitted_at (discipline_of self.old) self.old.standing.state moment packet }
+        ensures made { IsAdvanced self.old (Enqueue moment lane packet) answer.Accepted self.new }
+        ensures room { self.new.room + 1 ≡ self.old.room }
+    {
         let waiting = Waiting {
-            id,
+            id: self.backlog.arrived(),
             stamp: moment,
             packet,
         };
-        self.waiting.push_back(waiting)?;
-        self.journal.accept(&waiting, lane, ONE_FLOW);
+        let flow = flow_of(&self.params, &self.seed, &packet.tuple());
+        self.backlog.arrive(flow, waiting, &self.params);
+        self.journal.accept(&waiting, lane, flow);
+        self.backlog.overflow(self.params.limit(), moment, &mut self.journal);
         self.last_moment = moment;
-        Ok(Admitted {
-            id,
+        self.room -= 1;
+        Admitted {
+            id: waiting.id,
             moment,
-            flow: ONE_FLOW,
-        })
+            flow,
+        }
     }
 
-    /// Gives the packet that waits longest, or nothing where none waits, at a moment in microseconds. It takes
-    /// no memory. It refuses a moment of 2^60 or more or before the last one.
+    /// Gives the packet that is next in turn, or nothing where none waits, at a moment in microseconds (RFC 8290,
+    /// section 4.2). CoDel may drop packets before it, or mark it (RFC 8289, section 5). It takes no memory. It
+    /// refuses a moment of 2^60 or more or before the last one.
     pub fn dequeue(&mut self, moment: u64) -> Result<Option<Sent>, MomentFault>
-        ensures made { IfOk result (λ sent. Gives one_queue self.old moment sent self.new) }
-        ensures refused { IfErr result (λ fault. refusal_of self.old.state (Dequeue moment) ≡ Some (refusal.Moment fault)) }
+        ensures made { IfOk result (λ sent. IsServed self.old moment sent self.new) }
+        ensures refused { IfErr result (λ fault. refusal_of self.old.standing.state (Dequeue moment) ≡ Some (refusal.Moment fault)) }
         ensures unchanged { OnErr result (self.new ≡ self.old) }
     {
         test_moment(moment, self.last_moment)?;
         self.last_moment = moment;
-        let Some(waiting) = self.waiting.pop_front() else {
+        let serving = self.backlog.serve(moment, &self.params, &mut self.journal);
+        self.turns = serving.turns;
+        let Some(served) = serving.served else {
             return Ok(None);
         };
         let sent = Sent {
-            id: waiting.id,
+            id: served.waiting.id,
             moment,
-            packet: waiting.packet,
-            mark: Mark::NoMark,
-        };
-        let served = Served {
-            waiting,
-            mark: Mark::NoMark,
+            packet: served.waiting.packet,
+            mark: served.mark,
         };
         self.journal.send(&served, moment);
         Ok(Some(sent))
@@ -137,8 +179,9 @@ impl Sched {
     /// From here on nothing is accepted; dequeues go on. The moment is in microseconds. It takes no memory. It
     /// refuses a moment of 2^60 or more or before the last one, then a second close.
     pub fn close(&mut self, moment: u64) -> Result<(), CloseFault>
-        ensures made { OnOk result (Advances one_queue self.old (Close moment) answer.Closed self.new) }
-        ensures refused { IfErr result (λ fault. refusal_of self.old.state (Close moment) ≡ Some (close_refusal fault)) }
+        ensures made { OnOk result (IsAdvanced self.old (Close moment) answer.Closed self.new) }
+        ensures room { self.new.room ≡ self.old.room }
+        ensures refused { IfErr result (λ fault. refusal_of self.old.standing.state (Close moment) ≡ Some (close_refusal fault)) }
         ensures unchanged { OnErr result (self.new ≡ self.old) }
     {
         self.test_close(moment)?;
@@ -148,18 +191,47 @@ impl Sched {
         Ok(())
     }
 
+    /// The parameters that it was made with.
+    pub fn params(&self) -> &Params
+        ensures { result.now ≡ self.now.params }
+    {
+        &self.params
+    }
+
+    /// The seed that it was made with.
+    pub fn seed(&self) -> Seed
+        ensures { result ≡ self.now.seed }
+    {
+        self.seed
+    }
+
+    /// How many turns the last dequeue took that wasn't refused, and 0 before the first (RFC 8290, section 4.2).
+    pub fn turns(&self) -> u64
+        ensures { result ≡ self.now.turns }
+    {
+        self.turns
+    }
+
+    /// What is kept of a flow, by its number.
+    pub fn flow_view(&self, flow: u32) -> FlowView
+        requires { flow < self.now.params.flows }
+        ensures { result ≡ flow_shown (flows_of self.now) flow }
+    {
+        self.backlog.view(flow)
+    }
+
     /// The journal: what became of every packet, in order.
     pub fn events(&self) -> &[Event]
-        ensures value { result.now ≡ self.now.events }
-        ensures laws { JournalLaws one_queue.flow_of result.now }
-        ensures waiting { WaitWithoutFate (queue_of self.now.state.queues) result.now }
+        ensures value { result.now ≡ self.now.standing.events }
+        ensures laws { JournalLaws (discipline_of self.now).flow_of result.now }
+        ensures waiting { WaitWithoutFate (queue_of (flows_of self.now)) result.now }
     {
         self.journal.events()
     }
 
     /// The statistics of the journal.
     pub fn totals(&self) -> Totals
-        ensures value { result ≡ statistics self.now.events }
+        ensures value { result ≡ statistics self.now.standing.events }
         ensures balance { result.accepted ≡ result.sent + result.dropped_codel + result.dropped_overflow + result.queued }
     {
         let counts = self.journal.counts();
@@ -181,23 +253,23 @@ impl Sched {
 
     /// How many packets wait.
     pub fn queued(&self) -> u64
-        ensures value { result ≡ length self.now.state.queues }
-        ensures journal { result ≡ (statistics self.now.events).queued }
+        ensures value { result ≡ waiting_in (flows_of self.now).lists }
+        ensures journal { result ≡ (statistics self.now.standing.events).queued }
     {
-        self.waiting.len() as u64
+        self.backlog.waiting()
     }
 
     /// Whether there was a close.
     pub fn is_closed(&self) -> bool
-        ensures value { result ≡ self.now.state.closed }
-        ensures journal { result ≡ (statistics self.now.events).closed }
+        ensures value { result ≡ self.now.standing.state.closed }
+        ensures journal { result ≡ (statistics self.now.standing.events).closed }
     {
         self.is_closed
     }
 
     /// The moment of the last step that wasn't refused, in microseconds, and 0 before the first.
     pub fn last_moment(&self) -> u64
-        ensures value { result ≡ self.now.state.last }
+        ensures value { result ≡ self.now.standing.state.last }
         ensures range { result < MAX_MOMENT }
     {
         self.last_moment
@@ -205,13 +277,13 @@ impl Sched {
 
     /// Why an enqueue at that moment is refused, if it is, apart from want of memory.
     fn test_enqueue(&self, moment: u64) -> Result<(), Refusal>
-        ensures { Tests (enqueue_refusal_of self.now.state moment) result }
+        ensures { Tests (enqueue_refusal_of self.now.standing.state moment) result }
     {
         test_moment(moment, self.last_moment)?;
         if self.is_closed {
             return Err(Refusal::ClosedAlready);
         }
-        if self.journal.counts().accepted >= MAX_ACCEPTED {
+        if self.backlog.arrived() >= MAX_ACCEPTED {
             return Err(Refusal::Exhausted);
         }
         Ok(())
@@ -219,7 +291,7 @@ impl Sched {
 
     /// Why a close at that moment is refused, if it is.
     fn test_close(&self, moment: u64) -> Result<(), CloseFault>
-        ensures { MatchResult result (λ _. refusal_of self.now.state (Close moment) ≡ None) (λ fault. refusal_of self.now.state (Close moment) ≡ Some (close_refusal fault)) }
+        ensures { MatchResult result (λ _. refusal_of self.now.standing.state (Close moment) ≡ None) (λ fault. refusal_of self.now.standing.state (Close moment) ≡ Some (close_refusal fault)) }
     {
         test_moment(moment, self.last_moment)?;
         if self.is_closed {

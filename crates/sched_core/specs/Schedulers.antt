@@ -1,0 +1,61 @@
+use Rattle.std.specs.Prelude.{◌≡◌, ℕ, ◌≤◌, List, [], Option, option_map}
+use Rattle.packet_core.specs.declared.flow.Seed.{Seed}
+use Rattle.packet_core.specs.declared.params.ParamFields.{ParamFields}
+use Rattle.sched_core.specs.declared.run.Answer.{Answer}
+use Rattle.sched_core.specs.declared.step.Sent.{Sent}
+use Rattle.sched_core.specs.declared.step.Step.{Step}
+use Rattle.sched_core.specs.Calls.{Advances, Gives, Standing, sent_at}
+use Rattle.sched_core.specs.Disciplines.{Discipline}
+use Rattle.sched_core.specs.FairQueues.{FairQueues, no_queues}
+use Rattle.sched_core.specs.FqCodel.{fq_codel, fq_codel_policy}
+use Rattle.sched_core.specs.NewFlows.{IsFirstReady, SendsFrom}
+use Rattle.sched_core.specs.State.{opening_state}
+use Rattle.sched_core.specs.TurnBound.{turns_at_most}
+use Rattle.sched_core.specs.Turns.{Chain, Service}
+
+-- A scheduler as callers see it: what it was made with, its state and its journal, the turns of the last dequeue that wasn't refused, and
+-- how many enqueues more take no memory.
+pub record Scheduler : Type 0 where
+  pub params : ParamFields
+  pub seed : Seed
+  pub standing : Standing FairQueues
+  pub turns : ℕ
+  pub room : ℕ
+
+-- before the first step
+abbrev pub new_scheduler : ParamFields → Seed → Scheduler
+new_scheduler p seed = record {
+  params = p;
+  seed = seed;
+  standing = record { state = opening_state (no_queues p.flows); events = [] };
+  turns = 0;
+  room = 0;
+}
+
+-- what it schedules by
+abbrev pub discipline_of : Scheduler → Discipline FairQueues
+discipline_of s = fq_codel s.params s.seed
+
+-- its flows
+abbrev pub flows_of : Scheduler → FairQueues
+flows_of s = s.standing.state.queues
+
+-- A step is made that is no dequeue. What the scheduler was made with stays, and so do the turns of the last dequeue.
+pub record IsAdvanced (old : Scheduler) (step : Step) (answer : Answer) (new : Scheduler) : Type 0 where
+  pub advances : Advances (discipline_of old) old.standing step answer new.standing
+  pub params : new.params ≡ old.params
+  pub seed : new.seed ≡ old.seed
+  pub turns : new.turns ≡ old.turns
+
+-- A dequeue is made: a serving chain, whose turns are told, and whose packet is answered. It has no more turns than the bound, and new flows
+-- go first.
+pub record IsServed (old : Scheduler) (moment : ℕ) (sent : Option Sent) (new : Scheduler) : Type 0 where
+  pub gives : Gives (discipline_of old) old.standing moment sent new.standing
+  pub service : Option Service
+  pub chain : Chain (fq_codel_policy old.params) moment (flows_of old) new.turns service (flows_of new)
+  pub told : sent ≡ option_map (λ s. sent_at moment s.given) service
+  pub bound : new.turns ≤ turns_at_most old.params.quantum (flows_of old)
+  pub new_first : (flow : ℕ) → IsFirstReady (flows_of old) flow → SendsFrom flow (flows_of old).lists.queues service (flows_of new).lists.queues
+  pub params : new.params ≡ old.params
+  pub seed : new.seed ≡ old.seed
+  pub room : new.room ≡ old.room
