@@ -2,9 +2,8 @@ ghost use Rattle.std.specs.Prelude.{◌≡◌, ◌≢◌, ◌⊎◌, ℕ, List, 
 ghost use Rattle.std.specs.Result.{IsOkUnless};
 ghost use Rattle.std.specs.Io.KnownBytes.{Appends, Keeps};
 ghost use Rattle.trace_core.specs.Report.{IsReportOf};
-ghost use Rattle.trace_core.specs.Traces.{trace_of};
+ghost use Rattle.trace_core.specs.Traces.{IsFaultOf};
 ghost use Rattle.trace_core.specs.declared.reader.TraceFault.{TraceFault};
-ghost use Rattle.trace_core.specs.declared.reader.TraceFaultKind.TheVariants as kind;
 ghost use Rattle.trace_core.specs.declared.trace_run.RunFault.TheVariants.{Memory, Trace};
 
 use crate::reader::{TraceFault, read_trace};
@@ -49,7 +48,7 @@ impl From<AllocError> for RunFault {
 pub fn run<R: Read, W: Write>(alloc: Global, reader: &mut R, writer: &mut W) -> Result<(), RunFault>
     ensures report { OnOk result (IfSome (R.remaining reader.old) (λ bytes. (text : List ℕ) × IsReportOf bytes text × Appends (W.contents writer.old) (W.contents writer.new) text)) }
     ensures front { IfErr result (λ fault. fault ≡ RunFault.Write → IfSome (R.remaining reader.old) (λ bytes. (text : List ℕ) × IsReportOf bytes text × (count : ℕ) × Appends (W.contents writer.old) (W.contents writer.new) (take count text))) }
-    ensures trace { IfErr result (λ fault. (why : TraceFault) → fault ≡ RunFault.Trace why → (why.what ≡ kind.Read) ⊎ (why.what ≡ kind.Memory) ⊎ IfSome (R.remaining reader.old) (λ bytes. trace_of bytes ≡ Err why)) }
+    ensures trace { IfErr result (λ fault. (why : TraceFault) → fault ≡ RunFault.Trace why → IfSome (R.remaining reader.old) (λ bytes. IsFaultOf bytes why)) }
     ensures untouched { IfErr result (λ fault. (fault ≢ RunFault.Write) → Keeps (W.contents writer.old) (W.contents writer.new)) }
 {
     let steps = read_trace(alloc, reader)?;

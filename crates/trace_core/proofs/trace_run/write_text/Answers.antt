@@ -1,6 +1,6 @@
 use Rattle.std.proofs.Common.{arith}
 use Rattle.std.proofs.lemmas.List.{take_rest}
-use Rattle.trace_core.proofs.Streams.{appends_more}
+use Rattle.trace_core.proofs.Writing.{appends_more}
 use Rattle.trace_core.proofs.trace_run.write_text.Goals as goal
 
 pub loop-turn-preserved : goal.loop-turn-preserved
