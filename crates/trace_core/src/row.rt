@@ -14,10 +14,7 @@ ghost use Rattle.trace_core.specs.RowGrammar.{HasLeadingZero, IsAddress, IsCutAt
 use crate::reader::TraceFaultKind;
 use csv::ByteRecord;
 use packet_core::{Ecn, FiveTuple, Ip, MAX_LENGTH, Packet};
-use sched_core::Step;
-
-/// A moment of a trace is below this many microseconds.
-const MOMENT_END: u64 = 1 << 60;
+use sched_core::{MAX_MOMENT, Step};
 
 /// Every packet of a trace comes from the one lane.
 const TRACE_LANE: u32 = 0;
@@ -119,7 +116,7 @@ fn read_moment(text: &[u8]) -> Result<u64, TraceFaultKind>
     ensures fault { IsOkUnless result TraceFaultKind.BadNumber }
 {
     match number(text) {
-        Some(moment) if moment < MOMENT_END => Ok(moment),
+        Some(moment) if moment < MAX_MOMENT => Ok(moment),
         _ => Err(TraceFaultKind::BadNumber),
     }
 }

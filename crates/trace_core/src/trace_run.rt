@@ -8,6 +8,7 @@ ghost use Rattle.trace_core.specs.declared.trace_run.RunFault.TheVariants.{Memor
 
 use crate::reader::{TraceFault, read_trace};
 use crate::report::report_of;
+use crate::streams::{Sink, Watched};
 use sched_core::run_steps;
 use std::alloc::{AllocError, Global};
 use std::io::{Read, Write};
@@ -54,14 +55,14 @@ pub fn run<R: Read, W: Write>(alloc: Global, reader: &mut R, writer: &mut W) -> 
     let steps = read_trace(alloc, reader)?;
     let ran = run_steps(alloc, &steps)?;
     let text = report_of(alloc, &ran)?;
-    write_text(writer, &text)
+    write_text(&mut Watched::new(writer), &text)
 }
 
-/// Writes the whole of a text. It refuses a write that fails and one that takes nothing, and the front of the text
-/// is written then.
-fn write_text<W: Write>(writer: &mut W, text: &[u8]) -> Result<(), RunFault>
-    ensures whole { OnOk result (Appends (W.contents writer.old) (W.contents writer.new) text.now) }
-    ensures front { OnErr result ((count : ℕ) × Appends (W.contents writer.old) (W.contents writer.new) (take count text.now)) }
+/// Writes the whole of a text. Where the sink fails, the front of the text is written.
+fn write_text<S: Sink>(sink: &mut S, text: &[u8]) -> Result<(), RunFault>
+    ensures whole { OnOk result (S.Wrote sink.old text.now sink.new) }
+    ensures front { OnErr result ((count : ℕ) × S.Wrote sink.old (take count text.now) sink.new) }
+    ensures failed { OnErr result (S.HasFailed sink.new) }
     ensures fault { IsOkUnless result RunFault.Write }
 {
     let mut done = 0;
@@ -70,9 +71,9 @@ fn write_text<W: Write>(writer: &mut W, text: &[u8]) -> Result<(), RunFault>
         if done == text.len() {
             return Ok(());
         }
-        match writer.write(&text[done..]) {
-            Ok(0) | Err(_) => return Err(RunFault::Write),
+        match sink.write(&text[done..]) {
             Ok(count) => done += count,
+            Err(_) => return Err(RunFault::Write),
         }
     }
     Ok(())

@@ -32,11 +32,14 @@ returns-in-Err-clause-read c = λ is_read text small start.
     c.in-Err.ensures.failed text before read
 
 pub loop-turn-preserved-then-is_blank : goal.loop-turn-preserved-then-is_blank
-loop-turn-preserved-then-is_blank c = (c.loop-turn.invariant.0, λ text small start.
-    let (before, read, turns, steps) = c.loop-turn.invariant.1 text small start in
-    let more = c.in-Ok-true.ensures.more c.in-Ok-true.field-0-test text before read in
-    let blank = sym c.is_blank.ensures ∙ c.if-is_blank.true in
-    (before ++ fields_of c.next_row.new.row ∷ [], more, grind (arith, common_steps, turns), blank_more before (fields_of c.next_row.new.row) c.loop-turn.steps.items steps blank))
+loop-turn-preserved-then-is_blank c = (
+  c.loop-turn.invariant.0,
+  λ text small start.
+      let (before, read, turns, steps) = c.loop-turn.invariant.1 text small start in
+      let more = c.in-Ok-true.ensures.more c.in-Ok-true.field-0-test text before read in
+      let blank = sym c.is_blank.ensures ∙ c.if-is_blank.true in
+      (before ++ fields_of c.next_row.new.row ∷ [], more, grind (arith, common_steps, turns), blank_more before (fields_of c.next_row.new.row) c.loop-turn.steps.items steps blank),
+)
 
 pub returns-then-row_number-gt-MAX_ROWS-clause-fault : goal.returns-then-row_number-gt-MAX_ROWS-clause-fault
 returns-then-row_number-gt-MAX_ROWS-clause-fault c = λ text small start.
@@ -73,16 +76,16 @@ loop-turn-preserved c =
     let items = rw good at c.push.ensures.items in (
       rw items (grind (arith, common_steps, number)),
       λ text small start.
-        let (before, read, turns, steps) = c.loop-turn.invariant.1 text small start in
-        let more = c.in-Ok-true.ensures.more c.in-Ok-true.field-0-test text before read in
-        let filled = sym c.is_blank.ensures ∙ c.if-is_blank.false in
-        let few : nat_lt 1000000 (1 + length c.loop-turn.steps.items) ≡ false = not_large 1000000 (1 + length c.loop-turn.steps.items) (omega arith) in
-        let step = sym c.read_row.ensures.value ∙ c.in-Ok.is in (
-          before ++ fields_of c.next_row.new.row ∷ [],
-          more,
-          grind (arith, common_steps, turns),
-          rw items (row_more before (fields_of c.next_row.new.row) c.loop-turn.steps.items c.in-Ok.step steps filled few step),
-        ),
+          let (before, read, turns, steps) = c.loop-turn.invariant.1 text small start in
+          let more = c.in-Ok-true.ensures.more c.in-Ok-true.field-0-test text before read in
+          let filled = sym c.is_blank.ensures ∙ c.if-is_blank.false in
+          let few : nat_lt 1000000 (1 + length c.loop-turn.steps.items) ≡ false = not_large 1000000 (1 + length c.loop-turn.steps.items) (omega arith) in
+          let step = sym c.read_row.ensures.value ∙ c.in-Ok.is in (
+            before ++ fields_of c.next_row.new.row ∷ [],
+            more,
+            grind (arith, common_steps, turns),
+            rw items (row_more before (fields_of c.next_row.new.row) c.loop-turn.steps.items c.in-Ok.step steps filled few step),
+          ),
     )
 
 pub returns-clause-fault : goal.returns-clause-fault
