@@ -1,5 +1,5 @@
 -- How a trace's text reads, as its steps or the first fault with its row.
-use Rattle.std.specs.Prelude.{◌≡◌, ◌⊎◌, ℕ, ◌+◌, Bool, true, List, [], ◌∷◌, ◌++◌, Some, Result, Ok, Err, length, nat_lt, ◌==◌, ◌&&◌, if◌then◌else◌}
+use Rattle.std.specs.Prelude.{◌≡◌, ◌≤◌, ◌⊎◌, ℕ, ◌+◌, Bool, true, List, [], ◌∷◌, ◌++◌, Some, Result, Ok, Err, length, nat_lt, ◌==◌, ◌&&◌, if◌then◌else◌}
 use Rattle.std.proofs.Common.{Bor}
 use Rattle.csv.specs.Reading.{Reached, Ready, default_config, is_flexible, reader_config, reader_state, reader_trim, records, source_of, strip_bom}
 use Rattle.csv.specs.declared.error.ErrorKind.{ErrorKind}
@@ -79,3 +79,7 @@ pub record HasRead (text : List ℕ) (reader : Reader (Bor (List ℕ))) (before 
   pub rest : List ℕ
   pub source : source_of (λ (s : Bor (List ℕ)). Some s.now) reader ≡ Some rest
   pub reached : Reached default_config st.StartRecord (strip_bom text) before (reader_state reader) rest
+
+-- The reader stands at the start of this text, which is no longer than a trace may be.
+abbrev pub IsAtStart : List ℕ → Reader (Bor (List ℕ)) → Type 0
+IsAtStart text reader = (length text ≤ 134217728) × HasRead text reader []

@@ -137,12 +137,12 @@ fn rows_of(alloc: Global, text: &[u8]) -> csv::Reader<&[u8]>
 /// The steps of all rows of a text, from its start on. A row of one empty field stands for no step, and isn't
 /// counted.
 fn all_steps(alloc: Global, rows: &mut csv::Reader<&[u8]>) -> Result<Vec<Step>, TraceFault>
-    ensures steps { IfOk result (λ steps. (text : List ℕ) → length text ≤ MAX_BYTES → Traces.HasRead text rows.old [] → Traces.steps_of text ≡ Ok steps.items) }
-    ensures fault { IfErr result (λ fault. (text : List ℕ) → length text ≤ MAX_BYTES → Traces.HasRead text rows.old [] → (Traces.steps_of text ≡ Err fault) ⊎ Traces.StopsAtRow text fault) }
+    ensures steps { IfOk result (λ steps. (text : List ℕ) → Traces.IsAtStart text rows.old → Traces.steps_of text ≡ Ok steps.items) }
+    ensures fault { IfErr result (λ fault. (text : List ℕ) → Traces.IsAtStart text rows.old → (Traces.steps_of text ≡ Err fault) ⊎ Traces.StopsAtRow text fault) }
     ensures row { IfErr result (λ fault. 1 ≤ fault.row) }
 
     // Read comes only where `csv` has failed.
-    ensures read { IfErr result (λ fault. fault.what ≡ TraceFaultKind.Read → (text : List ℕ) → length text ≤ MAX_BYTES → Traces.HasRead text rows.old [] → has_failed rows.new ≡ true) }
+    ensures read { IfErr result (λ fault. fault.what ≡ TraceFaultKind.Read → (text : List ℕ) → Traces.IsAtStart text rows.old → has_failed rows.new ≡ true) }
 {
     let mut row = ByteRecord::new(alloc);
     let mut steps = Vec::new(alloc);

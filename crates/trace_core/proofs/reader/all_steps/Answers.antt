@@ -13,37 +13,37 @@ use Rattle.trace_core.proofs.reader.all_steps.Goals as goal
 
 pub loop-turn-init : goal.loop-turn-init
 unfolding steps_from
-loop-turn-init c = (rw c.new-steps.ensures.items refl, λ text small start. ([], start, omega arith, rw c.new-steps.ensures.items refl))
+loop-turn-init c = (rw c.new-steps.ensures.items refl, λ text start. ([], start.1, omega arith, rw c.new-steps.ensures.items refl))
 
 pub returns-in-Ok-false-clause-steps : goal.returns-in-Ok-false-clause-steps
-returns-in-Ok-false-clause-steps c = λ text small start.
-    let (before, read, turns, steps) = c.loop-turn.invariant.1 text small start in
+returns-in-Ok-false-clause-steps c = λ text start.
+    let (before, read, turns, steps) = c.loop-turn.invariant.1 text start in
     let all = c.in-Ok-false.ensures.end c.in-Ok-false.field-0-test text before read in
     rw all steps
 
 pub returns-in-Err-clause-fault : goal.returns-in-Err-clause-fault
-returns-in-Err-clause-fault c = λ text small start.
-    let (before, read, turns, steps) = c.loop-turn.invariant.1 text small start in
+returns-in-Err-clause-fault c = λ text start.
+    let (before, read, turns, steps) = c.loop-turn.invariant.1 text start in
     inr (rw (c.fault.ensures, c.loop-turn.invariant.0) (c.in-Err.ensures.fault, reads_up_to _ read.rest text before c.loop-turn.steps.items read.reached steps))
 
 pub returns-in-Err-clause-read : goal.returns-in-Err-clause-read
-returns-in-Err-clause-read c = λ is_read text small start.
-    let (before, read, turns, steps) = c.loop-turn.invariant.1 text small start in
+returns-in-Err-clause-read c = λ is_read text start.
+    let (before, read, turns, steps) = c.loop-turn.invariant.1 text start in
     c.in-Err.ensures.failed text before read
 
 pub loop-turn-preserved-then-is_blank : goal.loop-turn-preserved-then-is_blank
 loop-turn-preserved-then-is_blank c = (
   c.loop-turn.invariant.0,
-  λ text small start.
-      let (before, read, turns, steps) = c.loop-turn.invariant.1 text small start in
+  λ text start.
+      let (before, read, turns, steps) = c.loop-turn.invariant.1 text start in
       let more = c.in-Ok-true.ensures.more c.in-Ok-true.field-0-test text before read in
       let blank = sym c.is_blank.ensures ∙ c.if-is_blank.true in
       (before ++ fields_of c.next_row.new.row ∷ [], more, grind (arith, common_steps, turns), blank_more before (fields_of c.next_row.new.row) c.loop-turn.steps.items steps blank),
 )
 
 pub returns-then-row_number-gt-MAX_ROWS-clause-fault : goal.returns-then-row_number-gt-MAX_ROWS-clause-fault
-returns-then-row_number-gt-MAX_ROWS-clause-fault c = λ text small start.
-    let (before, read, turns, steps) = c.loop-turn.invariant.1 text small start in
+returns-then-row_number-gt-MAX_ROWS-clause-fault c = λ text start.
+    let (before, read, turns, steps) = c.loop-turn.invariant.1 text start in
     let number = c.loop-turn.invariant.0 in
     let more = c.in-Ok-true.ensures.more c.in-Ok-true.field-0-test text before read in
     let filled = sym c.is_blank.ensures ∙ c.if-is_blank.false in
@@ -51,8 +51,8 @@ returns-then-row_number-gt-MAX_ROWS-clause-fault c = λ text small start.
     inl (rw (c.fault-then-row_number-gt-MAX_ROWS.ensures, number) (too_many _ more.rest text before (fields_of c.next_row.new.row) c.loop-turn.steps.items more.reached steps filled many))
 
 pub returns-in-Err-read_row-clause-fault : goal.returns-in-Err-read_row-clause-fault
-returns-in-Err-read_row-clause-fault c = λ text small start.
-    let (before, read, turns, steps) = c.loop-turn.invariant.1 text small start in
+returns-in-Err-read_row-clause-fault c = λ text start.
+    let (before, read, turns, steps) = c.loop-turn.invariant.1 text start in
     let number = c.loop-turn.invariant.0 in
     let more = c.in-Ok-true.ensures.more c.in-Ok-true.field-0-test text before read in
     let filled = sym c.is_blank.ensures ∙ c.if-is_blank.false in
@@ -61,12 +61,12 @@ returns-in-Err-read_row-clause-fault c = λ text small start.
     inl (rw (c.fault-in-Err-read_row.ensures, number) (row_fault _ more.rest text before (fields_of c.next_row.new.row) c.loop-turn.steps.items c.in-Err-read_row.what more.reached steps filled few fault))
 
 pub returns-in-Err-read_row-clause-read : goal.returns-in-Err-read_row-clause-read
-returns-in-Err-read_row-clause-read c = λ is_read text small start.
+returns-in-Err-read_row-clause-read c = λ is_read text start.
     absurd (c.in-Err-read_row.ensures.fault (sym (ap (λ f. f.what) c.fault-in-Err-read_row.ensures) ∙ is_read))
 
 pub returns-then-is_err-clause-fault : goal.returns-then-is_err-clause-fault
-returns-then-is_err-clause-fault c = λ text small start.
-    let (before, read, turns, steps) = c.loop-turn.invariant.1 text small start in
+returns-then-is_err-clause-fault c = λ text start.
+    let (before, read, turns, steps) = c.loop-turn.invariant.1 text start in
     inr (rw (c.fault-then-is_err.ensures, c.loop-turn.invariant.0) (inr refl, reads_up_to _ read.rest text before c.loop-turn.steps.items read.reached steps))
 
 pub loop-turn-preserved : goal.loop-turn-preserved
@@ -75,8 +75,8 @@ loop-turn-preserved c =
     let good : is_ok c.push.result ≡ true = search rules in
     let items = rw good at c.push.ensures.items in (
       rw items (grind (arith, common_steps, number)),
-      λ text small start.
-          let (before, read, turns, steps) = c.loop-turn.invariant.1 text small start in
+      λ text start.
+          let (before, read, turns, steps) = c.loop-turn.invariant.1 text start in
           let more = c.in-Ok-true.ensures.more c.in-Ok-true.field-0-test text before read in
           let filled = sym c.is_blank.ensures ∙ c.if-is_blank.false in
           let few : nat_lt 1000000 (1 + length c.loop-turn.steps.items) ≡ false = not_large 1000000 (1 + length c.loop-turn.steps.items) (omega arith) in
@@ -89,8 +89,9 @@ loop-turn-preserved c =
     )
 
 pub returns-clause-fault : goal.returns-clause-fault
-returns-clause-fault c = λ text small start.
-    let (before, read, turns, steps) = c.loop-turn.invariant.1 text small start in
+returns-clause-fault c = λ text start.
+    let (before, read, turns, steps) = c.loop-turn.invariant.1 text start in
+    let small = start.0 in
     let few = records_few default_config st.StartRecord _ (strip_bom text) read.rest before read.reached in
     let size = strip_shorter text in
     absurd (omega arith)
