@@ -72,7 +72,7 @@ pub fn read_trace<R: Read>(alloc: Global, reader: &mut R) -> Result<Vec<Step>, T
 }
 
 /// The steps of the trace that a source gives.
-fn read_source<S: Source>(alloc: Global, source: &mut S) -> Result<Vec<Step>, TraceFault>
+pub(crate) fn read_source<S: Source>(alloc: Global, source: &mut S) -> Result<Vec<Step>, TraceFault>
     ensures steps { IfOk result (λ steps. IfSome (S.remaining source.old) (λ bytes. Traces.trace_of bytes ≡ Ok steps.items)) }
     ensures fault { IfErr result (λ fault. IfSome (S.remaining source.old) (λ bytes. Traces.IsFaultOf bytes fault)) }
 
