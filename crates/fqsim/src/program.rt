@@ -1,4 +1,4 @@
-ghost use Rattle.std.specs.Prelude.{◌≡◌, ◌≢◌, ◌≤◌, ℕ, List, IfErr, IfSome, OnOk};
+ghost use Rattle.std.specs.Prelude.{◌≡◌, ◌≢◌, ◌≤◌, ◌↔◌, ◌⊎◌, ℕ, List, IfErr, IfSome, OnOk};
 ghost use Rattle.std.specs.Io.KnownBytes.{Appends, Keeps};
 ghost use Rattle.trace_core.specs.Report.{IsReportOf};
 ghost use Rattle.trace_core.specs.declared.trace_run.RunFault.TheVariants as run_fault;
@@ -33,6 +33,9 @@ impl ProgramFault {
     /// The status that the program ends with: 2 for wrong words or a wrong trace, and else 1.
     pub fn status(self) -> u8
         ensures range { (1 ≤ result) × (result ≤ 2) }
+        ensures words { self ≡ program_fault.Words → result ≡ 2 }
+        ensures trace { (fault : TraceFault) → self ≡ program_fault.Run (run_fault.Trace fault) → (result ≡ 1 ↔ (fault.what ≡ TraceFaultKind.Read) ⊎ (fault.what ≡ TraceFaultKind.Memory)) }
+        ensures memory { self ≡ program_fault.Run run_fault.Memory → result ≡ 1 }
         ensures write { self ≡ program_fault.Run run_fault.Write → result ≡ 1 }
     {
         match self {
@@ -45,7 +48,8 @@ impl ProgramFault {
 
 /// The status that goes with a fault of the trace.
 fn trace_status(fault: TraceFault) -> u8
-    ensures { (1 ≤ result) × (result ≤ 2) }
+    ensures range { (1 ≤ result) × (result ≤ 2) }
+    ensures machine { result ≡ 1 ↔ (fault.what ≡ TraceFaultKind.Read) ⊎ (fault.what ≡ TraceFaultKind.Memory) }
 {
     match fault.what {
         TraceFaultKind::Read | TraceFaultKind::Memory => MACHINE_FAULT,

@@ -7,6 +7,7 @@ use crate::flow_view::FlowView;
 use crate::journal::Journal;
 use crate::step::{Admitted, CloseFault, Memory, MomentFault, Refusal, Sent};
 use crate::totals::Totals;
+use codel_core::Served;
 use packet_core::{Packet, Params, Seed, Waiting, flow_of};
 use std::alloc::Global;
 use std::marker::Model;
@@ -28,6 +29,18 @@ fn test_moment(moment: u64, last: u64) -> Result<(), MomentFault>
         return Err(MomentFault::Backwards { last });
     }
     Ok(())
+}
+
+/// What a dequeue at that moment answers of a packet that is served.
+fn sent_of(served: &Served, moment: u64) -> Sent
+    ensures { result ≡ record { id = served.now.waiting.id; moment = moment; packet = served.now.waiting.packet; mark = served.now.mark } }
+{
+    Sent {
+        id: served.waiting.id,
+        moment,
+        packet: served.waiting.packet,
+        mark: served.mark,
+    }
 }
 
 /// A packet scheduler by FQ-CoDel (RFC 8290), with the journal of what became of every packet.
@@ -166,12 +179,7 @@ impl Sched {
         let Some(served) = serving.served else {
             return Ok(None);
         };
-        let sent = Sent {
-            id: served.waiting.id,
-            moment,
-            packet: served.waiting.packet,
-            mark: served.mark,
-        };
+        let sent = sent_of(&served, moment);
         self.journal.send(&served, moment);
         Ok(Some(sent))
     }

@@ -4,4 +4,3 @@ pub mod Fields
 pub mod Lines
 pub mod Records
 pub mod Reporting
-pub mod Streams

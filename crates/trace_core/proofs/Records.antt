@@ -13,7 +13,7 @@ use Rattle.trace_core.specs.declared.reader.TraceFault.{TraceFault}
 use Rattle.trace_core.specs.declared.reader.TraceFaultKind.{TraceFaultKind}
 use Rattle.trace_core.specs.declared.reader.TraceFaultKind.TheVariants.{Memory, Read, TooLarge}
 use Rattle.trace_core.specs.Rows.{◌>>=◌, row_of}
-use Rattle.trace_core.specs.Traces.{at_row, is_blank, steps_from, steps_of, trace_of}
+use Rattle.trace_core.specs.Traces.{IsFaultOf, ReadsUpTo, StopsAtRow, at_row, is_blank, steps_from, steps_of, trace_of}
 
 -- a record takes no bytes from behind the text
 not_longer : (cfg : Config) (s : State) (fields : List (List ℕ)) (field xs : List ℕ) (p : Cut) → next_record cfg s fields field xs ≡ Some p → length p.2 ≤ length xs
@@ -87,6 +87,13 @@ records-all s2 xs ys rs h e =
     let few = records_few default_config st.StartRecord s2 xs ys rs h in
     let room : (m : ℕ) × (length xs + 1 ≡ length rs + m) = (length xs + 1 - length rs, omega arith) in
     records-from default_config (length xs + 1) room.0 st.StartRecord s2 xs ys rs room.1 h ∙ ap (λ l. rs ++ l) (no-more default_config room.0 s2 ys e) ∙ append-nil rs
+
+-- a text reads up to the row behind records that were reached and that read
+pub reads_up_to : (s2 : State) (ys : List ℕ) (text : List ℕ) (before : List (List (List ℕ))) (steps : List Step)
+    → Reached default_config st.StartRecord (strip_bom text) before s2 ys → steps_from 1 before ≡ Ok steps → ReadsUpTo (1 + length steps) text
+reads_up_to s2 ys text before steps reached e =
+    let (behind, all) = records-front s2 (strip_bom text) ys before reached in
+    record { before = before; behind = behind; cut = all; steps = steps; read = e; row_number = refl }
 
 -- a mark at the start aside, a text gets no longer
 pub strip_shorter : (text : List ℕ) → length (strip_bom text) ≤ length text
@@ -187,7 +194,7 @@ pub whole_trace : (known : Option (List ℕ)) (text : List ℕ) (r : Result (Lis
 whole_trace None text r same small e = tt
 whole_trace (Some bytes) text r same small e = rw (← same, not_large 134217728 (length text) small) e
 
-pub large_trace : (known : Option (List ℕ)) → IfSome known (λ bytes. 134217728 < length bytes) → IfSome known (λ bytes. trace_of bytes ≡ Err (record { row = 0; what = TooLarge }))
+large_trace : (known : Option (List ℕ)) → IfSome known (λ bytes. 134217728 < length bytes) → IfSome known (λ bytes. trace_of bytes ≡ Err (record { row = 0; what = TooLarge }))
 large_trace None large = tt
 large_trace (Some bytes) large = rw (lt-ltb 134217728 (length bytes) large) refl
 
@@ -197,9 +204,18 @@ rows_steps items known text (Ok v) same small e = whole_trace known text (Ok (it
 rows_steps items known text (Err fault) same small e = tt
 
 pub rows_fault : {V : Type 0} (known : Option (List ℕ)) (text : List ℕ) (r : Result V TraceFault) → IfSome known (λ bytes. text ≡ bytes) → length text ≤ 134217728
-    → IfErr r (λ fault. (fault.what ≡ Read) ⊎ (fault.what ≡ Memory) ⊎ (steps_of text ≡ Err fault))
-    → IfErr r (λ fault. (fault.what ≡ Read) ⊎ (fault.what ≡ Memory) ⊎ IfSome known (λ bytes. trace_of bytes ≡ Err fault))
+    → IfErr r (λ fault. (steps_of text ≡ Err fault) ⊎ StopsAtRow text fault) → IfErr r (λ fault. IfSome known (λ bytes. IsFaultOf bytes fault))
 rows_fault known text (Ok v) same small e = tt
-rows_fault known text (Err fault) same small (inl read) = inl read
-rows_fault known text (Err fault) same small (inr (inl memory)) = inr (inl memory)
-rows_fault known text (Err fault) same small (inr (inr e)) = inr (inr (whole_trace known text (Err fault) same small e))
+rows_fault None text (Err fault) same small e = tt
+rows_fault (Some bytes) text (Err fault) same small (inl e) = inl (whole_trace (Some bytes) text (Err fault) same small e)
+rows_fault (Some bytes) text (Err fault) same small (inr stops) = inr (stops.0, inr (rw (← same) stops.1))
+
+-- reading stopped before the first row
+pub stops_at_start : (known : Option (List ℕ)) (fault : TraceFault) → (fault.what ≡ Read) ⊎ (fault.what ≡ Memory) → fault.row ≡ 0 → IfSome known (λ bytes. IsFaultOf bytes fault)
+stops_at_start None fault what row = tt
+stops_at_start (Some bytes) fault what row = inr (what, inl row)
+
+-- more bytes than a trace has
+pub large_fault : (known : Option (List ℕ)) (fault : TraceFault) → fault ≡ record { row = 0; what = TooLarge } → IfSome known (λ bytes. 134217728 < length bytes) → IfSome known (λ bytes. IsFaultOf bytes fault)
+large_fault None fault e large = tt
+large_fault (Some bytes) fault e large = inl (rw e (large_trace (Some bytes) large))

@@ -1,14 +1,16 @@
 -- How a trace's text reads, as its steps or the first fault with its row.
-use Rattle.std.specs.Prelude.{◌≡◌, ℕ, ◌+◌, Bool, List, [], ◌∷◌, Some, Result, Ok, Err, length, nat_lt, ◌==◌, ◌&&◌, if◌then◌else◌}
+use Rattle.std.specs.Prelude.{◌≡◌, ◌≤◌, ◌⊎◌, ℕ, ◌+◌, Bool, true, List, [], ◌∷◌, ◌++◌, Some, Result, Ok, Err, length, nat_lt, ◌==◌, ◌&&◌, if◌then◌else◌}
 use Rattle.std.proofs.Common.{Bor}
-use Rattle.csv.specs.Reading.{Reached, Ready, default_config, reader_config, reader_state, reader_trim, records, source_of, strip_bom}
+use Rattle.csv.specs.Reading.{Reached, Ready, default_config, is_flexible, reader_config, reader_state, reader_trim, records, source_of, strip_bom}
+use Rattle.csv.specs.declared.error.ErrorKind.{ErrorKind}
+use Rattle.csv.specs.declared.error.ErrorKind.TheVariants as csv_error
 use Rattle.csv.specs.declared.parser.State.TheVariants as st
 use Rattle.csv.specs.declared.reader.Reader.{Reader}
 use Rattle.csv.specs.declared.reader.Trim.TheVariants as trim
 use Rattle.sched_core.specs.declared.step.Step.{Step}
 use Rattle.trace_core.specs.declared.reader.TraceFault.{TraceFault}
 use Rattle.trace_core.specs.declared.reader.TraceFaultKind.{TraceFaultKind}
-use Rattle.trace_core.specs.declared.reader.TraceFaultKind.TheVariants.{TooLarge}
+use Rattle.trace_core.specs.declared.reader.TraceFaultKind.TheVariants.{Memory, Read, TooLarge}
 use Rattle.trace_core.specs.Rows.{◌>>=◌, field_of, row_of}
 
 -- whether a record's only field is empty: it stands for no row, and isn't counted
@@ -37,11 +39,47 @@ steps_of text = steps_from 1 (records default_config (strip_bom text))
 abbrev pub trace_of : List ℕ → Result (List Step) TraceFault
 trace_of text = if nat_lt 134217728 (length text) then Err (record { row = 0; what = TooLarge }) else steps_of text
 
+-- The text reads up to this row: each row before it asks for a step.
+pub record ReadsUpTo (row : ℕ) (text : List ℕ) : Type 0 where
+  pub before : List (List (List ℕ))
+  pub behind : List (List (List ℕ))
+  pub cut : records default_config (strip_bom text) ≡ before ++ behind
+  pub steps : List Step
+  pub read : steps_from 1 before ≡ Ok steps
+  pub row_number : row ≡ 1 + length steps
+
+-- Reading stopped with this fault and no fault of the text: at a row up to which the text reads, the reader of
+-- its records failed or memory was wanting.
+abbrev pub StopsAtRow : List ℕ → TraceFault → Type 0
+StopsAtRow text fault = ((fault.what ≡ Read) ⊎ (fault.what ≡ Memory)) × ReadsUpTo fault.row text
+
+-- The same of a whole trace, whose bytes are read first, as row 0.
+abbrev pub StopsReading : List ℕ → TraceFault → Type 0
+StopsReading bytes fault = ((fault.what ≡ Read) ⊎ (fault.what ≡ Memory)) × ((fault.row ≡ 0) ⊎ ReadsUpTo fault.row bytes)
+
+-- The fault of a trace with these bytes: the first one of the grammar, or reading stopped before there was one.
+abbrev pub IsFaultOf : List ℕ → TraceFault → Type 0
+IsFaultOf bytes fault = (trace_of bytes ≡ Err fault) ⊎ StopsReading bytes fault
+
+-- the fault for an error of `csv`
+abbrev pub csv_fault : ErrorKind → TraceFaultKind
+csv_fault csv_error.OutOfMemory = Memory
+csv_fault (csv_error.Io why) = Read
+csv_fault (csv_error.Utf8 place why) = Read
+csv_fault (csv_error.UnequalLengths place expected len) = Read
+csv_fault (csv_error.Serialize why) = Read
+csv_fault (csv_error.Deserialize place why) = Read
+
 -- The reader has read these records of a text, and reads on behind them.
 pub record HasRead (text : List ℕ) (reader : Reader (Bor (List ℕ))) (before : List (List (List ℕ))) : Type 0 where
   pub trim : reader_trim reader ≡ trim.None
   pub ready : Ready reader
+  pub flexible : is_flexible reader ≡ true
   pub config : reader_config reader ≡ default_config
   pub rest : List ℕ
   pub source : source_of (λ (s : Bor (List ℕ)). Some s.now) reader ≡ Some rest
   pub reached : Reached default_config st.StartRecord (strip_bom text) before (reader_state reader) rest
+
+-- The reader stands at the start of this text, which is no longer than a trace may be.
+abbrev pub IsAtStart : List ℕ → Reader (Bor (List ℕ)) → Type 0
+IsAtStart text reader = (length text ≤ 134217728) × HasRead text reader []

@@ -8,6 +8,7 @@
 mod reader;
 mod report;
 mod row;
+mod streams;
 mod trace_run;
 
 pub use reader::{MAX_BYTES, MAX_ROWS, TraceFault, TraceFaultKind, read_trace};

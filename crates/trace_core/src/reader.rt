@@ -1,9 +1,10 @@
-ghost use Rattle.std.specs.Prelude.{◌≡◌, ◌<◌, ◌≤◌, ◌⊎◌, ◌∷◌, [], ℕ, ◌++◌, IfErr, IfOk, IfSome, IsErrOf, List, Ok, Err, false, length, true, vec_len};
-ghost use Rattle.csv.specs.Reading.{default_config, records, strip_bom};
+ghost use Rattle.std.specs.Prelude.{◌≡◌, ◌<◌, ◌≤◌, ◌⊎◌, ◌∷◌, [], ℕ, ◌++◌, IfErr, IfOk, IfSome, IsErrOf, List, Ok, Err, OnErr, false, length, true, vec_len};
+ghost use Rattle.csv.specs.Reading.{default_config, error_kind, has_failed, records, strip_bom};
 ghost use Rattle.csv.specs.Records.{fields_of};
 ghost use Rattle.trace_core.specs.Traces as Traces;
 
 use crate::row::{field, read_row};
+use crate::streams::{Source, Watched};
 use csv::{ByteRecord, ErrorKind, ReaderBuilder};
 use sched_core::Step;
 use std::alloc::Global;
@@ -65,27 +66,39 @@ pub struct TraceFault {
 /// can't be read or are too many, and then the first faulty row.
 pub fn read_trace<R: Read>(alloc: Global, reader: &mut R) -> Result<Vec<Step>, TraceFault>
     ensures steps { IfOk result (λ steps. IfSome (R.remaining reader.old) (λ bytes. Traces.trace_of bytes ≡ Ok steps.items)) }
-    ensures fault { IfErr result (λ fault. (fault.what ≡ TraceFaultKind.Read) ⊎ (fault.what ≡ TraceFaultKind.Memory) ⊎ IfSome (R.remaining reader.old) (λ bytes. Traces.trace_of bytes ≡ Err fault)) }
+    ensures fault { IfErr result (λ fault. IfSome (R.remaining reader.old) (λ bytes. Traces.IsFaultOf bytes fault)) }
 {
-    match read_bytes(alloc, reader) {
+    read_source(alloc, &mut Watched::new(reader))
+}
+
+/// The steps of the trace that a source gives.
+pub(crate) fn read_source<S: Source>(alloc: Global, source: &mut S) -> Result<Vec<Step>, TraceFault>
+    ensures steps { IfOk result (λ steps. IfSome (S.remaining source.old) (λ bytes. Traces.trace_of bytes ≡ Ok steps.items)) }
+    ensures fault { IfErr result (λ fault. IfSome (S.remaining source.old) (λ bytes. Traces.IsFaultOf bytes fault)) }
+
+    // At row 0, Read comes only where the source has failed.
+    ensures read { IfErr result (λ fault. fault.what ≡ TraceFaultKind.Read → fault.row ≡ 0 → S.HasFailed source.new) }
+{
+    match read_bytes(alloc, source) {
         Ok(text) => read_rows(alloc, &text),
         Err(what) => Err(fault(0, what)),
     }
 }
 
-/// All the bytes that a reader gives. It refuses more than `MAX_BYTES`, a read that fails, and a growth
+/// All the bytes that a source gives. It refuses more than `MAX_BYTES`, a read that fails, and a growth
 /// that is refused.
-fn read_bytes<R: Read>(alloc: Global, reader: &mut R) -> Result<Vec<u8>, TraceFaultKind>
-    ensures whole { IfOk result (λ text. IfSome (R.remaining reader.old) (λ bytes. text.items ≡ bytes)) }
+fn read_bytes<S: Source>(alloc: Global, source: &mut S) -> Result<Vec<u8>, TraceFaultKind>
+    ensures whole { IfOk result (λ text. IfSome (S.remaining source.old) (λ bytes. text.items ≡ bytes)) }
     ensures bound { IfOk result (λ text. vec_len text ≤ MAX_BYTES) }
-    ensures too_large { IsErrOf result TraceFaultKind.TooLarge → IfSome (R.remaining reader.old) (λ bytes. MAX_BYTES < length bytes) }
+    ensures too_large { IsErrOf result TraceFaultKind.TooLarge → IfSome (S.remaining source.old) (λ bytes. MAX_BYTES < length bytes) }
     ensures fault { IfErr result (λ fault. (fault ≡ TraceFaultKind.Read) ⊎ (fault ≡ TraceFaultKind.TooLarge) ⊎ (fault ≡ TraceFaultKind.Memory)) }
+    ensures read { IsErrOf result TraceFaultKind.Read → S.HasFailed source.new }
 {
     let mut text = Vec::new(alloc);
     let mut chunk = [0u8; CHUNK];
     // Each turn that isn't the last one takes a byte or more.
     for _turn in 0..=MAX_BYTES {
-        let Ok(count) = reader.read(&mut chunk) else {
+        let Ok(count) = source.read(&mut chunk) else {
             return Err(TraceFaultKind::Read);
         };
         if count == 0 {
@@ -101,23 +114,42 @@ fn read_bytes<R: Read>(alloc: Global, reader: &mut R) -> Result<Vec<u8>, TraceFa
     Err(TraceFaultKind::TooLarge)
 }
 
-/// The steps of a trace's text, one for each row. A row of one empty field stands for no step, and isn't
-/// counted.
+/// The steps of a trace's text, one for each row.
 fn read_rows(alloc: Global, text: &[u8]) -> Result<Vec<Step>, TraceFault>
     requires { length text.now ≤ MAX_BYTES }
     ensures steps { IfOk result (λ steps. Traces.steps_of text.now ≡ Ok steps.items) }
-    ensures fault { IfErr result (λ fault. (fault.what ≡ TraceFaultKind.Read) ⊎ (fault.what ≡ TraceFaultKind.Memory) ⊎ (Traces.steps_of text.now ≡ Err fault)) }
+    ensures fault { IfErr result (λ fault. (Traces.steps_of text.now ≡ Err fault) ⊎ Traces.StopsAtRow text.now fault) }
+    ensures row { IfErr result (λ fault. 1 ≤ fault.row) }
 {
-    let mut rows = ReaderBuilder::new()
+    all_steps(alloc, &mut rows_of(alloc, text))
+}
+
+/// A reader of a text's rows, at the start of the text.
+fn rows_of(alloc: Global, text: &[u8]) -> csv::Reader<&[u8]>
+    ensures { Traces.HasRead text.now result [] }
+{
+    ReaderBuilder::new()
         .has_headers(false)
         .flexible(true)
-        .from_reader(alloc, text);
+        .from_reader(alloc, text)
+}
+
+/// The steps of all rows of a text, from its start on. A row of one empty field stands for no step, and isn't
+/// counted.
+fn all_steps(alloc: Global, rows: &mut csv::Reader<&[u8]>) -> Result<Vec<Step>, TraceFault>
+    ensures steps { IfOk result (λ steps. (text : List ℕ) → Traces.IsAtStart text rows.old → Traces.steps_of text ≡ Ok steps.items) }
+    ensures fault { IfErr result (λ fault. (text : List ℕ) → Traces.IsAtStart text rows.old → (Traces.steps_of text ≡ Err fault) ⊎ Traces.StopsAtRow text fault) }
+    ensures row { IfErr result (λ fault. 1 ≤ fault.row) }
+
+    // Read comes only where `csv` has failed.
+    ensures read { IfErr result (λ fault. fault.what ≡ TraceFaultKind.Read → (text : List ℕ) → Traces.IsAtStart text rows.old → has_failed rows.new ≡ true) }
+{
     let mut row = ByteRecord::new(alloc);
     let mut steps = Vec::new(alloc);
     let mut row_number = 1;
     // A row takes a byte or more, so the text ends before the turns do.
     for _turn in 0..u64::MAX {
-        match next_row(&mut rows, &mut row) {
+        match next_row(rows, &mut row) {
             Ok(true) => {}
             Ok(false) => return Ok(steps),
             Err(what) => return Err(fault(row_number, what)),
@@ -152,13 +184,21 @@ fn next_row(rows: &mut csv::Reader<&[u8]>, row: &mut ByteRecord) -> Result<bool,
     ensures more { IfOk result (λ found. found ≡ true → (text : List ℕ) (before : List (List (List ℕ))) → Traces.HasRead text rows.old before → Traces.HasRead text rows.new (before ++ fields_of row.new ∷ [])) }
     ensures end { IfOk result (λ found. found ≡ false → (text : List ℕ) (before : List (List (List ℕ))) → Traces.HasRead text rows.old before → records default_config (strip_bom text) ≡ before) }
     ensures fault { IfErr result (λ fault. (fault ≡ TraceFaultKind.Read) ⊎ (fault ≡ TraceFaultKind.Memory)) }
+    ensures failed { OnErr result ((text : List ℕ) (before : List (List (List ℕ))) → Traces.HasRead text rows.old before → has_failed rows.new ≡ true) }
 {
     match rows.read_byte_record(row) {
         Ok(found) => Ok(found),
-        Err(error) => match error.kind() {
-            ErrorKind::OutOfMemory => Err(TraceFaultKind::Memory),
-            _ => Err(TraceFaultKind::Read),
-        },
+        Err(error) => Err(fault_of(&error)),
+    }
+}
+
+/// The fault for an error of `csv`.
+fn fault_of(error: &csv::Error) -> TraceFaultKind
+    ensures { result ≡ Traces.csv_fault (error_kind error.now) }
+{
+    match error.kind() {
+        ErrorKind::OutOfMemory => TraceFaultKind::Memory,
+        _ => TraceFaultKind::Read,
     }
 }
 

@@ -1,4 +1,4 @@
-ghost use Rattle.std.specs.Prelude.{◌≡◌, ◌-◌, ◌<◌, ◌^◌, ◌↔◌, min, Contains, IfErr, IfOk, IfSome, IsNone, IsTrue, Ok};
+ghost use Rattle.std.specs.Prelude.{◌≡◌, ◌≢◌, ◌-◌, ◌<◌, ◌^◌, ◌↔◌, min, Contains, IfErr, IfOk, IfSome, IsNone, IsTrue, Ok};
 ghost use Rattle.std.specs.Char.{digit_value};
 ghost use Rattle.std.specs.Option.{SomeIff};
 ghost use Rattle.std.specs.Result.{IsOkUnless, OkIff};
@@ -14,10 +14,7 @@ ghost use Rattle.trace_core.specs.RowGrammar.{HasLeadingZero, IsAddress, IsCutAt
 use crate::reader::TraceFaultKind;
 use csv::ByteRecord;
 use packet_core::{Ecn, FiveTuple, Ip, MAX_LENGTH, Packet};
-use sched_core::Step;
-
-/// A moment of a trace is below this many microseconds.
-const MOMENT_END: u64 = 1 << 60;
+use sched_core::{MAX_MOMENT, Step};
 
 /// Every packet of a trace comes from the one lane.
 const TRACE_LANE: u32 = 0;
@@ -48,7 +45,8 @@ impl RowKind {
 /// The step that a row asks for. It refuses a first field that names no kind, then another number of fields
 /// than the kind has, then the first faulty field from the left.
 pub(crate) fn read_row(row: &ByteRecord) -> Result<Step, TraceFaultKind>
-    ensures { result ≡ row_of (fields_of row.now) }
+    ensures value { result ≡ row_of (fields_of row.now) }
+    ensures fault { IfErr result (λ fault. fault ≢ TraceFaultKind.Read) }
 {
     let kind = read_kind(field(row, 0))?;
     if row.len() != kind.field_count() {
@@ -92,7 +90,8 @@ fn read_kind(name: &[u8]) -> Result<RowKind, TraceFaultKind>
 
 /// The packet of a row that has all its fields, which are read from left to right.
 fn read_packet(row: &ByteRecord) -> Result<Packet, TraceFaultKind>
-    ensures { result ≡ packet_of (fields_of row.now) }
+    ensures value { result ≡ packet_of (fields_of row.now) }
+    ensures fault { IfErr result (λ fault. fault ≢ TraceFaultKind.Read) }
 {
     let proto = read_u8(field(row, 2))?;
     let src = read_address(field(row, 3))?;
@@ -117,7 +116,7 @@ fn read_moment(text: &[u8]) -> Result<u64, TraceFaultKind>
     ensures fault { IsOkUnless result TraceFaultKind.BadNumber }
 {
     match number(text) {
-        Some(moment) if moment < MOMENT_END => Ok(moment),
+        Some(moment) if moment < MAX_MOMENT => Ok(moment),
         _ => Err(TraceFaultKind::BadNumber),
     }
 }

@@ -2,13 +2,14 @@ ghost use Rattle.std.specs.Prelude.{◌≡◌, ◌≢◌, ◌⊎◌, ℕ, List, 
 ghost use Rattle.std.specs.Result.{IsOkUnless};
 ghost use Rattle.std.specs.Io.KnownBytes.{Appends, Keeps};
 ghost use Rattle.trace_core.specs.Report.{IsReportOf};
-ghost use Rattle.trace_core.specs.Traces.{trace_of};
+ghost use Rattle.trace_core.specs.Traces.{IsFaultOf};
 ghost use Rattle.trace_core.specs.declared.reader.TraceFault.{TraceFault};
 ghost use Rattle.trace_core.specs.declared.reader.TraceFaultKind.TheVariants as kind;
 ghost use Rattle.trace_core.specs.declared.trace_run.RunFault.TheVariants.{Memory, Trace};
 
-use crate::reader::{TraceFault, read_trace};
+use crate::reader::{TraceFault, read_source};
 use crate::report::report_of;
+use crate::streams::{Sink, Source, Watched};
 use sched_core::run_steps;
 use std::alloc::{AllocError, Global};
 use std::io::{Read, Write};
@@ -49,20 +50,38 @@ impl From<AllocError> for RunFault {
 pub fn run<R: Read, W: Write>(alloc: Global, reader: &mut R, writer: &mut W) -> Result<(), RunFault>
     ensures report { OnOk result (IfSome (R.remaining reader.old) (λ bytes. (text : List ℕ) × IsReportOf bytes text × Appends (W.contents writer.old) (W.contents writer.new) text)) }
     ensures front { IfErr result (λ fault. fault ≡ RunFault.Write → IfSome (R.remaining reader.old) (λ bytes. (text : List ℕ) × IsReportOf bytes text × (count : ℕ) × Appends (W.contents writer.old) (W.contents writer.new) (take count text))) }
-    ensures trace { IfErr result (λ fault. (why : TraceFault) → fault ≡ RunFault.Trace why → (why.what ≡ kind.Read) ⊎ (why.what ≡ kind.Memory) ⊎ IfSome (R.remaining reader.old) (λ bytes. trace_of bytes ≡ Err why)) }
+    ensures trace { IfErr result (λ fault. (why : TraceFault) → fault ≡ RunFault.Trace why → IfSome (R.remaining reader.old) (λ bytes. IsFaultOf bytes why)) }
     ensures untouched { IfErr result (λ fault. (fault ≢ RunFault.Write) → Keeps (W.contents writer.old) (W.contents writer.new)) }
 {
-    let steps = read_trace(alloc, reader)?;
-    let ran = run_steps(alloc, &steps)?;
-    let text = report_of(alloc, &ran)?;
-    write_text(writer, &text)
+    run_between(alloc, &mut Watched::new(reader), &mut Watched::new(writer))
 }
 
-/// Writes the whole of a text. It refuses a write that fails and one that takes nothing, and the front of the text
-/// is written then.
-fn write_text<W: Write>(writer: &mut W, text: &[u8]) -> Result<(), RunFault>
-    ensures whole { OnOk result (Appends (W.contents writer.old) (W.contents writer.new) text.now) }
-    ensures front { OnErr result ((count : ℕ) × Appends (W.contents writer.old) (W.contents writer.new) (take count text.now)) }
+/// The same from a source to a sink, which tell whether they have failed.
+fn run_between<S: Source, K: Sink>(
+    alloc: Global,
+    source: &mut S,
+    sink: &mut K,
+) -> Result<(), RunFault>
+    ensures report { OnOk result (IfSome (S.remaining source.old) (λ bytes. (text : List ℕ) × IsReportOf bytes text × K.Wrote sink.old text sink.new)) }
+    ensures front { IfErr result (λ fault. fault ≡ RunFault.Write → IfSome (S.remaining source.old) (λ bytes. (text : List ℕ) × IsReportOf bytes text × (count : ℕ) × K.Wrote sink.old (take count text) sink.new)) }
+    ensures trace { IfErr result (λ fault. (why : TraceFault) → fault ≡ RunFault.Trace why → IfSome (S.remaining source.old) (λ bytes. IsFaultOf bytes why)) }
+    ensures untouched { IfErr result (λ fault. (fault ≢ RunFault.Write) → sink.new ≡ sink.old) }
+
+    // At row 0, Read comes only where the source has failed, and Write only where the sink has.
+    ensures read { IfErr result (λ fault. (why : TraceFault) → fault ≡ RunFault.Trace why → why.what ≡ kind.Read → why.row ≡ 0 → S.HasFailed source.new) }
+    ensures write { IfErr result (λ fault. fault ≡ RunFault.Write → K.HasFailed sink.new) }
+{
+    let steps = read_source(alloc, source)?;
+    let ran = run_steps(alloc, &steps)?;
+    let text = report_of(alloc, &ran)?;
+    write_text(sink, &text)
+}
+
+/// Writes the whole of a text. Where the sink fails, the front of the text is written.
+fn write_text<S: Sink>(sink: &mut S, text: &[u8]) -> Result<(), RunFault>
+    ensures whole { OnOk result (S.Wrote sink.old text.now sink.new) }
+    ensures front { OnErr result ((count : ℕ) × S.Wrote sink.old (take count text.now) sink.new) }
+    ensures failed { OnErr result (S.HasFailed sink.new) }
     ensures fault { IsOkUnless result RunFault.Write }
 {
     let mut done = 0;
@@ -71,9 +90,9 @@ fn write_text<W: Write>(writer: &mut W, text: &[u8]) -> Result<(), RunFault>
         if done == text.len() {
             return Ok(());
         }
-        match writer.write(&text[done..]) {
-            Ok(0) | Err(_) => return Err(RunFault::Write),
+        match sink.write(&text[done..]) {
             Ok(count) => done += count,
+            Err(_) => return Err(RunFault::Write),
         }
     }
     Ok(())

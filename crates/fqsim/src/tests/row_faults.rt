@@ -67,10 +67,14 @@ fn wrong_numbers_refused(rt: HostRuntime) -> Result<(), Fail> {
         "x,17,10.0.0.1,10.0.0.2,5000,53,1000,0",
         "0,256,10.0.0.1,10.0.0.2,5000,53,1000,0",
         "0,,10.0.0.1,10.0.0.2,5000,53,1000,0",
+        "0,x,10.0.0.1,10.0.0.2,5000,53,1000,0",
         "0,17,10.0.0.1,10.0.0.2,65536,53,1000,0",
+        "0,17,10.0.0.1,10.0.0.2,x,53,1000,0",
+        "0,17,10.0.0.1,10.0.0.2,,53,1000,0",
         "0,17,10.0.0.1,10.0.0.2,5000,65536,1000,0",
         "0,17,10.0.0.1,10.0.0.2,5000,0x35,1000,0",
         "0,17,10.0.0.1,10.0.0.2,5000,53,,0",
+        "0,17,10.0.0.1,10.0.0.2,5000,53,x,9",
         "0,17,10.0.0.1,10.0.0.2,5000,53,-1,0",
     ] {
         expect_packet_fault(&rt, fields, "BadNumber")?;
@@ -140,6 +144,12 @@ fn the_first_fault_is_told(rt: HostRuntime) -> Result<(), Fail> {
 fn bytes_that_are_no_text_refused(rt: HostRuntime) -> Result<(), Fail> {
     let faults = "fqsim: row 2: BadNumber\n";
     let mut trace: &[u8] = b"deq,0\ndeq,\xff\n";
+    expect_from(&rt, &WORDS, &mut trace, 2, "", faults)?;
+    let faults = "fqsim: row 1: BadKind\n";
+    let mut trace: &[u8] = b"\xffdeq,0\n";
+    expect_from(&rt, &WORDS, &mut trace, 2, "", faults)?;
+    let faults = "fqsim: row 1: BadAddress\n";
+    let mut trace: &[u8] = b"enq,0,17,10.0.0.\xff,10.0.0.2,5000,53,1000,0\n";
     expect_from(&rt, &WORDS, &mut trace, 2, "", faults)
 }
 

@@ -31,11 +31,25 @@ fn greatest_numbers_are_read(rt: HostRuntime) -> Result<(), Fail> {
 }
 
 #[test]
+fn least_numbers_are_read(rt: HostRuntime) -> Result<(), Fail> {
+    expect_report(
+        &rt,
+        "enq,0,0,0.0.0.0,0.0.0.0,0,0,1,0\ndeq,0\n",
+        "accepted,0,0\nsent,0,0\ntotals,1,1,1,1,0,0,0,0,0,0,open\n",
+    )
+}
+
+#[test]
 fn quoted_fields_are_read(rt: HostRuntime) -> Result<(), Fail> {
     expect_report(
         &rt,
         "\"enq\",\"0\",17,\"10.0.0.1\",10.0.0.2,5000,53,\"1000\",\"2\"\n\"deq\",0\n",
         ONE_PACKET,
+    )?;
+    expect_report(
+        &rt,
+        "\"deq\",\"5\"",
+        "idle\ntotals,0,0,0,0,0,0,0,0,0,0,open\n",
     )
 }
 

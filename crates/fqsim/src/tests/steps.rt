@@ -1,6 +1,7 @@
 use packet_core::{Ecn, FiveTuple, Ip, Packet};
 use sched_core::{Answer, Refusal, Step, run_steps};
 use std::test::Fail;
+use trace_core::{TraceFault, TraceFaultKind, read_trace};
 
 /// A packet of 1000 bytes.
 fn packet() -> Result<Packet, Fail> {
@@ -47,5 +48,29 @@ fn run_steps_gives_own_events(rt: HostRuntime) -> Result<(), Fail> {
         assert_eq!(rt; outcome.end_event, end_event);
     }
     assert_eq!(rt; ran.sched.events().len(), 3);
+    Ok(())
+}
+
+#[test]
+fn read_trace_gives_steps(rt: HostRuntime) -> Result<(), Fail> {
+    let mut trace = "enq,4,17,10.0.0.1,10.0.0.2,5000,53,1000,0\n\ndeq,5\nclose,6".as_bytes();
+    let steps = read_trace(rt.alloc(), &mut trace)?;
+    let expected = [
+        enqueue(4)?,
+        Step::Dequeue { moment: 5 },
+        Step::Close { moment: 6 },
+    ];
+    assert_eq!(rt; steps.as_slice(), expected.as_slice());
+    Ok(())
+}
+
+#[test]
+fn read_trace_tells_the_row(rt: HostRuntime) -> Result<(), Fail> {
+    let mut trace = "deq,5\ndeq,x".as_bytes();
+    let fault = TraceFault {
+        row: 2,
+        what: TraceFaultKind::BadNumber,
+    };
+    assert_eq!(rt; read_trace(rt.alloc(), &mut trace).err(), Some(fault));
     Ok(())
 }

@@ -7,14 +7,17 @@ use std::{io, str};
 
 /// A reader that gives its text, and then fails.
 #[derive(Drop)]
-struct CutReader<'a>(&'a [u8]);
+struct CutReader<'a> {
+    text: &'a [u8],
+    failure: ErrorKind,
+}
 
 impl Read for CutReader<'_> {
     fn read(&mut self, buf: &mut [u8]) -> io::Result<usize> {
-        if self.0.is_empty() {
-            return Err(io::Error::from(ErrorKind::BrokenPipe));
+        if self.text.is_empty() {
+            return Err(io::Error::from(self.failure));
         }
-        self.0.read(buf)
+        self.text.read(buf)
     }
 }
 
@@ -91,8 +94,24 @@ fn expect_taken(
 #[test]
 fn failed_reads_refused(rt: HostRuntime) -> Result<(), Fail> {
     let faults = "fqsim: row 0: Read\n";
-    expect_from(&rt, &WORDS, &mut CutReader(b""), 1, "", faults)?;
-    expect_from(&rt, &WORDS, &mut CutReader(b"deq,0\nfoo\n"), 1, "", faults)
+    let trace = b"deq,0\nfoo\n";
+    for count in 0..=trace.len() {
+        let mut reader = CutReader {
+            text: &trace[..count],
+            failure: ErrorKind::BrokenPipe,
+        };
+        expect_from(&rt, &WORDS, &mut reader, 1, "", faults)?;
+    }
+    Ok(())
+}
+
+#[test]
+fn interrupted_reads_refused(rt: HostRuntime) -> Result<(), Fail> {
+    let mut reader = CutReader {
+        text: b"deq,0\n",
+        failure: ErrorKind::Interrupted,
+    };
+    expect_from(&rt, &WORDS, &mut reader, 1, "", "fqsim: row 0: Read\n")
 }
 
 #[test]
@@ -120,12 +139,38 @@ fn failed_writes_refused(rt: HostRuntime) -> Result<(), Fail> {
     let faults = "fqsim: write\n";
     expect_taken(&rt, 1_000, 0, 1, "", faults)?;
     expect_taken(&rt, 1_000, 7, 1, "idle\nto", faults)?;
-    expect_taken(&rt, 1, 7, 1, "idle\nto", faults)
+    expect_taken(&rt, 1, 7, 1, "idle\nto", faults)?;
+
+    // The second write fails, then the third, up to the last.
+    let fronts = [
+        "idle\n",
+        "idle\ntotal",
+        "idle\ntotals,0,0",
+        "idle\ntotals,0,0,0,0,",
+        "idle\ntotals,0,0,0,0,0,0,0",
+        "idle\ntotals,0,0,0,0,0,0,0,0,0,",
+        "idle\ntotals,0,0,0,0,0,0,0,0,0,0,ope",
+    ];
+    for front in fronts {
+        expect_taken(&rt, 5, front.len(), 1, front, faults)?;
+    }
+    Ok(())
 }
 
 #[test]
 fn writes_that_take_nothing_refused(rt: HostRuntime) -> Result<(), Fail> {
-    expect_taken(&rt, 0, 1_000, 1, "", "fqsim: write\n")
+    expect_taken(&rt, 0, 1_000, 1, "", "fqsim: write\n")?;
+
+    // A slice takes what it has room for, and then nothing.
+    let mut taken = [0; 7];
+    let mut told = Vec::new(rt.alloc());
+    let mut trace = "deq,0\n".as_bytes();
+    let mut room = &mut taken[..];
+    let ended = program(rt.alloc(), &WORDS, &mut trace, &mut room, &mut told);
+    assert_eq!(rt; str::from_utf8(&told)?, "fqsim: write\n");
+    assert_eq!(rt; str::from_utf8(&taken)?, "idle\nto");
+    assert_eq!(rt; ended, 1);
+    Ok(())
 }
 
 #[test]

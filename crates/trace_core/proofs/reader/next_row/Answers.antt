@@ -10,7 +10,7 @@ pub returns-in-Ok-clause-more : goal.returns-in-Ok-clause-more
 returns-in-Ok-clause-more c = λ found text before h.
     let read = rw found at (c.in-Ok.ensures.reads h.trim h.ready) in
     let next = rows-more (λ (s : Bor (List ℕ)). Some s.now) c.args.rows.now c.read_byte_record.new.self (fields_of c.read_byte_record.new.row) default_config st.StartRecord (strip_bom text) h.rest before h.config h.source h.reached read in
-    record { trim = read.3 ∙ h.trim; ready = inl (c.in-Ok.ensures.ready h.trim); config = read.2 ∙ h.config; rest = next.0; source = next.1; reached = next.2 }
+    record { trim = read.3 ∙ h.trim; ready = inl (c.in-Ok.ensures.ready h.trim); flexible = c.in-Ok.ensures.flexible ∙ h.flexible; config = read.2 ∙ h.config; rest = next.0; source = next.1; reached = next.2 }
 
 pub returns-in-Ok-clause-end : goal.returns-in-Ok-clause-end
 returns-in-Ok-clause-end c = λ found text before h.

@@ -1,10 +1,9 @@
 use Rattle.std.proofs.Common.{◌≤◌, length, take}
-use Rattle.std.specs.Io.KnownBytes.{Appends}
 use Rattle.trace_core.proofs.trace_run.write_text.Given as goal
 
 abbrev pub invariant-loop-turn : goal.invariant-loop-turn
 invariant-loop-turn g l = record {
   turns : l._turn ≤ l.done;
   within : l.done ≤ length l.text;
-  appended : Appends (g.W.Write.contents l.initial.writer) (g.W.Write.contents l.writer) (take l.done l.text);
+  wrote : g.S.Sink.Wrote l.initial.sink (take l.done l.text) l.sink;
 }
