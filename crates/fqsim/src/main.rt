@@ -3,6 +3,7 @@
 #![tactic(auto)]
 
 mod program;
+mod setup;
 #[cfg(test)]
 mod tests;
 

@@ -2,8 +2,10 @@ ghost use Rattle.std.specs.Prelude.{◌≡◌, ◌≢◌, ◌≤◌, ◌↔◌, 
 ghost use Rattle.std.specs.Io.KnownBytes.{Appends, Keeps};
 ghost use Rattle.trace_core.specs.Report.{IsReportOf};
 ghost use Rattle.trace_core.specs.declared.trace_run.RunFault.TheVariants as run_fault;
+ghost use Rattle.fqsim.specs.Setup.{one_flow};
 ghost use Rattle.fqsim.specs.declared.program.ProgramFault.TheVariants as program_fault;
 
+use crate::setup::{ZERO_SEED, one_flow};
 use std::alloc::{AllocError, AllocFailed, Global};
 use std::io::{self, ErrorKind, Read, Write};
 use thiserror::Error;
@@ -87,8 +89,9 @@ impl From<io::Error> for ProgramFault {
     }
 }
 
-/// The whole program over the words behind its name. It reads a trace, writes the report of the run, and tells a
-/// fault in one line on `faults`. It answers the status that the program ends with.
+/// The whole program over the words behind its name. It reads a trace, writes the report of the run of FQ-CoDel
+/// with the standard parameters and one flow, and tells a fault in one line on `faults`. It answers the status that
+/// the program ends with.
 pub fn program<R: Read, W: Write, F: Write>(
     alloc: Global,
     words: &[&str],
@@ -97,7 +100,7 @@ pub fn program<R: Read, W: Write, F: Write>(
     faults: &mut F,
 ) -> u8
     // With the status 0 the writer holds what it held, and then the report of the input.
-    ensures report { result ≡ 0 → IfSome (R.remaining reader.old) (λ bytes. (text : List ℕ) × IsReportOf bytes text × Appends (W.contents writer.old) (W.contents writer.new) text) }
+    ensures report { result ≡ 0 → IfSome (R.remaining reader.old) (λ bytes. (text : List ℕ) × IsReportOf one_flow ZERO_SEED bytes text × Appends (W.contents writer.old) (W.contents writer.new) text) }
 
     // With the status 2, that of wrong words or a wrong trace, nothing was written.
     ensures input_fault { result ≡ 2 → Keeps (W.contents writer.old) (W.contents writer.new) }
@@ -116,11 +119,17 @@ fn simulate<R: Read, W: Write>(
     reader: &mut R,
     writer: &mut W,
 ) -> Result<(), ProgramFault>
-    ensures report { OnOk result (IfSome (R.remaining reader.old) (λ bytes. (text : List ℕ) × IsReportOf bytes text × Appends (W.contents writer.old) (W.contents writer.new) text)) }
+    ensures report { OnOk result (IfSome (R.remaining reader.old) (λ bytes. (text : List ℕ) × IsReportOf one_flow ZERO_SEED bytes text × Appends (W.contents writer.old) (W.contents writer.new) text)) }
     ensures untouched { IfErr result (λ fault. (fault ≢ program_fault.Run run_fault.Write) → Keeps (W.contents writer.old) (W.contents writer.new)) }
 {
     match words {
-        ["trace", "classify", "dport", "flows", "1"] => Ok(run(alloc, reader, writer)?),
+        ["trace", "classify", "dport", "flows", "1"] => Ok(run(
+            alloc,
+            one_flow(),
+            ZERO_SEED,
+            reader,
+            writer,
+        )?),
         _ => Err(ProgramFault::Words),
     }
 }

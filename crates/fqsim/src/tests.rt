@@ -1,3 +1,4 @@
+mod codel;
 mod reports;
 mod row_faults;
 mod rows;

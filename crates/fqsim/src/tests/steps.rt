@@ -1,3 +1,4 @@
+use crate::setup::{ZERO_SEED, one_flow};
 use packet_core::{Ecn, FiveTuple, Ip, Packet};
 use sched_core::{Answer, Refusal, Step, run_steps};
 use std::test::Fail;
@@ -33,7 +34,7 @@ fn run_steps_gives_own_events(rt: HostRuntime) -> Result<(), Fail> {
         Step::Dequeue { moment: 3 },
         Step::Close { moment: 4 },
     ];
-    let ran = run_steps(rt.alloc(), &steps)?;
+    let ran = run_steps(rt.alloc(), one_flow(), ZERO_SEED, &steps)?;
     let expected = [
         (Answer::Accepted, 0, 1),
         (Answer::Closed, 1, 2),
