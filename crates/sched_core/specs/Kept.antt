@@ -34,6 +34,7 @@ pub record IsBookKept (p : ParamFields) (seed : Seed) (held : Held) (book : Book
   pub space : waiting_in held.queues.lists + closes_left closed + 2 * room ≤ book.room
   pub reserved : room ≤ held.room
   pub long : length book.events + waiting_in held.queues.lists + closes_left closed ≤ 2 * held.arrived + 1
+  pub accepted : book.counts.accepted ≡ held.arrived
   pub few : held.arrived ≤ 2 ^ 40
   pub soon : last < 2 ^ 60
   pub history : IsHistory (fq_codel p seed).flow_of (queue_of held.queues) book.events held.arrived last closed
