@@ -1,14 +1,14 @@
 -- How an acceptance keeps the flows and their journal.
-use Rattle.std.proofs.Common.{◌≡◌, ◌≢◌, ℕ, zero, suc, ◌+◌, ◌-◌, ◌*◌, ◌<◌, ◌≤◌, ◌^◌, Bool, true, false, List, [], ◌∷◌, ◌++◌, drop, take, map, get_or, set, length, sum_by, Option, Some, None, refl, sym, ap, subst, ◌∙◌, inl, inr, arith, append_assoc, append-nil, length-append}
+use Rattle.std.proofs.Common.{◌≡◌, ℕ, suc, ◌+◌, ◌-◌, ◌<◌, false, List, [], ◌∷◌, ◌++◌, drop, take, map, get_or, set, length, sum_by, None, refl, sym, ap, subst, ◌∙◌, arith, append_assoc, append-nil, length-append}
 use Rattle.std.specs.List.{AllByRecursion}
-use Rattle.std.proofs.lemmas.List.{length-map, length-set, length_push, take-append-drop}
+use Rattle.std.proofs.lemmas.List.{length-map, length_push, take-append-drop}
 use Rattle.std.proofs.lemmas.List.Elements.{recursion_from_All}
 use Rattle.std.proofs.lemmas.List.Sums.{sum_by-set}
 use Rattle.packet_core.specs.Packets.{PacketParts}
 use Rattle.packet_core.specs.declared.flow.Seed.{Seed}
 use Rattle.packet_core.specs.declared.packet.Waiting.{Waiting}
 use Rattle.packet_core.specs.declared.params.ParamFields.{ParamFields}
-use Rattle.flow_core.specs.FlowLists.{queue_at, waiting_in}
+use Rattle.flow_core.specs.FlowLists.{queue_at}
 use Rattle.sched_core.specs.declared.event.Cause.TheVariants as cause
 use Rattle.sched_core.specs.declared.event.Event.{Event}
 use Rattle.sched_core.specs.declared.event.Event.TheVariants.{Accepted}
@@ -17,17 +17,16 @@ use Rattle.sched_core.specs.declared.step.Step.TheVariants.{Enqueue}
 use Rattle.sched_core.specs.Backlogs.{DropsOverflow, Held, with_arrival_listed}
 use Rattle.sched_core.specs.Books.{Book, count_accepted, with_event}
 use Rattle.sched_core.specs.Disciplines.{Batch, packets_of, with_arrival}
-use Rattle.sched_core.specs.FairQueueing.{Arrives, is_listed, with_flow_listed}
+use Rattle.sched_core.specs.FairQueueing.{Arrives}
 use Rattle.sched_core.specs.FairQueues.{FairQueues, queue_of}
-use Rattle.sched_core.specs.Fating.{with_drops}
 use Rattle.sched_core.specs.FqCodel.{fq_codel, fq_codel_policy}
 use Rattle.sched_core.specs.Happened.{acceptances, fate_ids}
 use Rattle.sched_core.specs.History.{AreCounts, IsHistory}
 use Rattle.sched_core.specs.Kept.{IsBookKept}
-use Rattle.sched_core.specs.Overflow.{Overflow, batch_of, batch_size}
+use Rattle.sched_core.specs.Overflow.{Overflow, batch_size}
 use Rattle.sched_core.specs.Overflow.Overflow.{fits, exceeds}
-use Rattle.sched_core.specs.Schedulers.{IsAdvanced, Scheduler}
-use Rattle.sched_core.specs.State.{State, arrival, refusal_of}
+use Rattle.sched_core.specs.Schedulers.{IsAdvanced}
+use Rattle.sched_core.specs.State.{refusal_of}
 use Rattle.sched_core.specs.Statistics.{length_named}
 use Rattle.sched_core.specs.Steps.{Admits, drop_event}
 use Rattle.sched_core.proofs.Appending.{all_found}
@@ -40,7 +39,7 @@ use Rattle.sched_core.proofs.Keeping.{keeps_makes}
 use Rattle.sched_core.proofs.KeptSteps.{state_of}
 use Rattle.sched_core.proofs.Known.{waiting_known}
 use Rattle.sched_core.proofs.Lines.{AreFound}
-use Rattle.sched_core.proofs.Lists.{ByRecursion-append, ByRecursion-parts}
+use Rattle.sched_core.proofs.Lists.{ByRecursion-parts}
 use Rattle.sched_core.proofs.Refusals.{enqueue_open}
 
 -- what holds of each packet that waits holds of what overflows
@@ -149,6 +148,7 @@ module _ (p : ParamFields) (seed : Seed) (held mid new : Held) (book book' : Boo
           let arrived_is = new_arrived in
           let room_is : new.room ≡ mid.room = ap (λ (x : Held). x.room) d.rest in
           record {
+            some = h.some;
             flows = arrival_as_many (fq_codel_policy p) (policy_drops p) held.queues flow w (packets_of d.batches) new.queues arrives_of ∙ h.flows;
             space = omega arith;
             reserved = omega arith;
@@ -160,10 +160,10 @@ module _ (p : ParamFields) (seed : Seed) (held mid new : Held) (book book' : Boo
             counts = counts_are;
           }
 
-    pub is_admitted : refusal_of (state_of held last false) (Enqueue moment lane packet) ≡ None → (turns room : ℕ)
-        → IsAdvanced (record { params = p; seed = seed; standing = record { state = state_of held last false; events = book.events }; turns = turns; room = room + 1 }) (Enqueue moment lane packet) answer.Accepted
+    pub is_admitted : refusal_of (state_of held last false) (Enqueue moment lane packet) ≡ None → (turns room0 room : ℕ)
+        → IsAdvanced (record { params = p; seed = seed; standing = record { state = state_of held last false; events = book.events }; turns = turns; room = room0 }) (Enqueue moment lane packet) answer.Accepted
         (record { params = p; seed = seed; standing = record { state = state_of new moment false; events = book'.events }; turns = turns; room = room })
-    is_admitted open' turns room = record {
+    is_admitted open' turns room0 room = record {
       advances = record { fits = open'; made = made d; makes = (refl, admits_of); journal = events_are };
       params = refl;
       seed = refl;
