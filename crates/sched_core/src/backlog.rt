@@ -187,6 +187,7 @@ impl Backlog {
         ensures arrived { self.new.arrived ≡ self.old.arrived }
         ensures room { self.new.room ≡ self.old.room }
         ensures sound { AreSound self.old.queues }
+        ensures quantum { 0 < params.now.quantum }
     {
         // That it is above 0 is seen here: with it, the turns end.
         let _quantum = params.quantum();

@@ -176,7 +176,8 @@ impl Sched {
         self.last_moment = moment;
         let serving = self.backlog.serve(moment, &self.params, &mut self.journal);
         self.turns = serving.turns;
-        let Some(served) = serving.served else {
+        let next = serving.served;
+        let Some(served) = next else {
             return Ok(None);
         };
         let sent = sent_of(&served, moment);
