@@ -1,9 +1,13 @@
 mod codel;
+mod overflows;
 mod reports;
 mod row_faults;
 mod rows;
+mod schedulers;
 mod steps;
 mod streams;
+mod turns;
+mod verdicts;
 mod words;
 
 use crate::program::program;

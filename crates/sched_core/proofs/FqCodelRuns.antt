@@ -49,12 +49,12 @@ module _ (p : Policy) (drops : DropsFromHeads p) where
   turn_as_many now old service new (emptied_old head at from credits empty mark codel verdict none e) = rw e refl
   turn_as_many now old service new (serving head at credits drops mark codel verdict w found some e) = rw e (length-set old.lists.queues head.flow (drop (drops + 1) (queue_at old.lists head.flow)))
 
-  chain_as_many : (turns now : ℕ) (old : FairQueues) (service : Option Service) (new : FairQueues) → Chain p now old turns service new → AsMany old new
+  pub chain_as_many : (turns now : ℕ) (old : FairQueues) (service : Option Service) (new : FairQueues) → Chain p now old turns service new → AsMany old new
   chain_as_many zero now old service new c = rw c.2 refl
   chain_as_many (suc more) now old service new (inl c) = turn_as_many now old (Some c.1) new c.3
   chain_as_many (suc more) now old service new (inr c) = chain_as_many more now c.0 service new c.2 ∙ turn_as_many now old None c.0 c.1
 
-  arrival_as_many : (old : FairQueues) (flow : ℕ) (w : Waiting) (lost : List Waiting) (new : FairQueues) → Arrives p old flow w lost new → AsMany old new
+  pub arrival_as_many : (old : FairQueues) (flow : ℕ) (w : Waiting) (lost : List Waiting) (new : FairQueues) → Arrives p old flow w lost new → AsMany old new
   arrival_as_many old flow w lost new a = drops.flows _ a.batches new.lists.queues a.overflow ∙ length-set old.lists.queues flow _
 
   module _ (flows : ℕ) (flow_of : FiveTuple → ℕ) where

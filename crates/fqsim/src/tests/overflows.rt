@@ -1,0 +1,66 @@
+use super::schedulers::{
+    PORT, accepted, arrive, dropped, expect_events, expect_idle, expect_sent, four_flows, one_flow,
+    scheduler,
+};
+use sched_core::Cause;
+use std::test::Fail;
+
+#[test]
+fn fattest_by_bytes(rt: HostRuntime) -> Result<(), Fail> {
+    let mut fields = four_flows();
+    fields.limit = 4;
+    let mut sched = scheduler(&rt, fields)?;
+    arrive(&mut sched, 1, 3, 1_000)?;
+    arrive(&mut sched, 2, 2, 100)?;
+    let events = [accepted(4, 2, 2, 100)?, dropped(0, 0, Cause::Overflow)];
+    expect_events(&rt, &sched, 4, &events);
+    assert_eq!(rt; sched.totals().dropped_codel, 0);
+    assert_eq!(rt; sched.totals().dropped_overflow, 1);
+    Ok(())
+}
+
+#[test]
+fn the_arrival_is_dropped(rt: HostRuntime) -> Result<(), Fail> {
+    let mut fields = four_flows();
+    fields.limit = 1;
+    let mut sched = scheduler(&rt, fields)?;
+    arrive(&mut sched, 1, 1, 100)?;
+    arrive(&mut sched, 2, 1, 200)?;
+    let events = [accepted(1, 2, 2, 200)?, dropped(1, 0, Cause::Overflow)];
+    expect_events(&rt, &sched, 1, &events);
+    Ok(())
+}
+
+#[test]
+fn batch_of_sixty_four(rt: HostRuntime) -> Result<(), Fail> {
+    let mut fields = one_flow();
+    fields.limit = 200;
+    let mut sched = scheduler(&rt, fields)?;
+    arrive(&mut sched, PORT, 200, 100)?;
+    assert_eq!(rt; sched.queued(), 200);
+    arrive(&mut sched, PORT, 1, 100)?;
+    assert_eq!(rt; sched.queued(), 137);
+    let mut events = Vec::new(rt.alloc());
+    events.push(accepted(200, 0, PORT, 100)?)?;
+    for id in 0..64 {
+        events.push(dropped(id, 0, Cause::Overflow))?;
+    }
+    expect_events(&rt, &sched, 200, &events);
+    Ok(())
+}
+
+#[test]
+fn tie_goes_to_least_flow(rt: HostRuntime) -> Result<(), Fail> {
+    let mut fields = four_flows();
+    fields.limit = 1;
+    let mut sched = scheduler(&rt, fields)?;
+    arrive(&mut sched, 1, 1, 100)?;
+    arrive(&mut sched, 2, 1, 100)?;
+    let events = [accepted(1, 2, 2, 100)?, dropped(0, 0, Cause::Overflow)];
+    expect_events(&rt, &sched, 1, &events);
+    expect_sent(&rt, &mut sched, 0, 1)?;
+    assert_eq!(rt; sched.turns(), 2);
+    expect_idle(&rt, &mut sched, 0)?;
+    assert_eq!(rt; sched.turns(), 3);
+    Ok(())
+}
