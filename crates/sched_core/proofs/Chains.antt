@@ -7,7 +7,6 @@ use Rattle.std.proofs.lemmas.List.Sums.{sum_by-cons, sum_by_push}
 use Rattle.flow_core.specs.FlowLists.{AreDistinct, AreListed}
 use Rattle.sched_core.specs.declared.account.Account.{Account}
 use Rattle.sched_core.specs.FairQueues.{AreSound, FairQueues, Head, account_at, head_of, head_of_lists, new_account, to_old, unlisted}
-use Rattle.sched_core.specs.declared.backlog.FlowList.{FlowList}
 use Rattle.sched_core.specs.declared.backlog.FlowList.TheVariants.{New, Old}
 use Rattle.sched_core.specs.Policies.{IsDecided}
 use Rattle.sched_core.specs.TurnBound.{AreQuantaOwed, quanta_owed, turns_at_most}

@@ -1,15 +1,15 @@
 -- Packets that leave the head of a flow's queue, one after another, into the journal.
-use Rattle.std.proofs.Common.{◌≡◌, ℕ, zero, suc, ◌+◌, ◌<◌, List, [], ◌∷◌, ◌++◌, drop, take, get_or, set, length, Option, Some, None, slice_get, refl, sym, ap, ◌∙◌, arith, append-nil}
+use Rattle.std.proofs.Common.{◌≡◌, ℕ, zero, suc, ◌+◌, ◌<◌, List, [], ◌∷◌, ◌++◌, drop, take, length, Some, None, slice_get, refl, sym, ap, ◌∙◌, arith, append-nil}
 use Rattle.std.proofs.lemmas.List.{drop-drop, get_or-set_same, set-set}
 use Rattle.packet_core.specs.declared.packet.Waiting.{Waiting}
 use Rattle.flow_core.specs.Fattest.{IsFattest}
-use Rattle.flow_core.specs.FlowLists.{Holding, queue_at, waiting_in, with_queue}
+use Rattle.flow_core.specs.FlowLists.{Holding, queue_at, waiting_in}
 use Rattle.sched_core.specs.declared.event.Cause.{Cause}
 use Rattle.sched_core.specs.declared.event.Cause.TheVariants as cause
 use Rattle.sched_core.specs.Backlogs.{DropsOverflow, Held, without_head}
 use Rattle.sched_core.specs.Books.{Book}
-use Rattle.sched_core.specs.Fating.{drops_more, drops_none, with_drops}
-use Rattle.sched_core.specs.Overflow.{Overflow, batch_of, batch_size}
+use Rattle.sched_core.specs.Fating.{drops_more, with_drops}
+use Rattle.sched_core.specs.Overflow.{batch_of, batch_size}
 use Rattle.sched_core.specs.Overflow.Overflow.{exceeds}
 
 -- n packets left, and then one more

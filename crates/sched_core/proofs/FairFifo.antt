@@ -19,7 +19,7 @@ opens flows flow =
       | inr past ↦ get_or_past (replicate flows []) flow [] (rw (length-replicate {A = List Waiting} flows []) past)
     ]
 
-arrives : (queues : List (List Waiting)) (flow : ℕ) (w : Waiting) (f : ℕ) → flow < length queues
+pub arrives : (queues : List (List Waiting)) (flow : ℕ) (w : Waiting) (f : ℕ) → flow < length queues
     → with_arrival (λ g. get_or queues g []) flow w f ≡ get_or (set queues flow (get_or queues flow [] ++ w ∷ [])) f []
 arrives queues flow w f within =
     elim (cases_eq flow f) [

@@ -12,7 +12,6 @@ use Rattle.codel_core.specs.declared.served.Mark.TheVariants.{NoMark}
 use Rattle.sched_core.specs.declared.step.Step.{Step}
 use Rattle.sched_core.specs.declared.step.Step.TheVariants.{Dequeue}
 use Rattle.sched_core.specs.FairQueues.{FairQueues, no_queues}
-use Rattle.sched_core.specs.declared.backlog.FlowList.{FlowList}
 use Rattle.sched_core.specs.declared.backlog.FlowList.TheVariants.{New, Old}
 use Rattle.sched_core.specs.FqCodel.{fq_codel_policy}
 use Rattle.sched_core.specs.State.{State, opening_state}

@@ -1,9 +1,8 @@
 -- How an arrival and a serve keep the numbers of the accounts in range.
-use Rattle.std.proofs.Common.{◌≡◌, ◌≢◌, ℕ, ◌+◌, ◌-◌, ◌<◌, ◌≤◌, ◌^◌, List, [], drop, get_or, set, length, min, max, sum_by, refl, sym, ap, subst, ◌∙◌, inl, inr, arith, ℤ, pos, ◌+ℤ◌, ◌-ℤ◌, ◌≤ℤ◌, Option, Some, None, option_map, slice_get}
+use Rattle.std.proofs.Common.{◌≡◌, ℕ, ◌<◌, ◌^◌, List, [], drop, get_or, set, length, refl, sym, ap, ◌∙◌, inl, inr, arith, ℤ, pos, ◌+ℤ◌, ◌-ℤ◌, ◌≤ℤ◌, Option, Some, None, option_map, slice_get}
 use Rattle.std.proofs.lemmas.Bool.{cases_eq}
-use Rattle.std.proofs.lemmas.Int.{ints}
 use Rattle.std.proofs.lemmas.List.{get_or-set_other, get_or-set_same, length-drop, length-set}
-use Rattle.std.proofs.lemmas.List.Sums.{get_or-le-sum_by, sum_by-set}
+use Rattle.std.proofs.lemmas.List.Sums.{sum_by-set}
 use Rattle.packet_core.specs.declared.params.ParamFields.{ParamFields}
 use Rattle.codel_core.specs.Schedule.{StaysInRange}
 use Rattle.codel_core.specs.Verdict.{served}

@@ -1,11 +1,10 @@
 -- How an acceptance, a dequeue and a close keep the flows and their journal.
-use Rattle.std.proofs.Common.{◌≡◌, ◌≢◌, ℕ, zero, suc, ◌+◌, ◌-◌, ◌*◌, ◌<◌, ◌≤◌, ◌^◌, Bool, true, false, not, List, [], ◌∷◌, ◌++◌, drop, take, map, filter, get_or, set, length, sum_by, eqb, Option, Some, None, option_map, slice_get, refl, sym, ap, subst, ◌∙◌, inl, inr, arith, append_assoc, append-nil, length-append}
+use Rattle.std.proofs.Common.{◌≡◌, ℕ, zero, suc, ◌+◌, ◌-◌, ◌<◌, ◌≤◌, Bool, true, not, List, [], ◌∷◌, ◌++◌, drop, take, map, set, length, sum_by, Option, Some, None, option_map, refl, sym, ap, subst, ◌∙◌, inl, inr, arith, append_assoc, append-nil, length-append}
 use Rattle.std.specs.List.{AllByRecursion}
 use Rattle.std.proofs.lemmas.Bool.{eq-eqb}
-use Rattle.std.proofs.lemmas.List.{length-drop, length-map, length_push}
+use Rattle.std.proofs.lemmas.List.{length-map, length_push}
 use Rattle.std.proofs.lemmas.List.Elements.{filter_map-append, recursion_from_All}
 use Rattle.std.proofs.lemmas.List.Sums.{sum_by-set}
-use Rattle.packet_core.specs.Packets.{PacketParts}
 use Rattle.packet_core.specs.declared.flow.Seed.{Seed}
 use Rattle.packet_core.specs.declared.packet.Waiting.{Waiting}
 use Rattle.packet_core.specs.declared.params.ParamFields.{ParamFields}
@@ -15,36 +14,38 @@ use Rattle.flow_core.specs.FlowLists.{queue_at, waiting_in}
 use Rattle.sched_core.specs.declared.event.Cause.{Cause}
 use Rattle.sched_core.specs.declared.event.Cause.TheVariants as cause
 use Rattle.sched_core.specs.declared.event.Event.{Event}
-use Rattle.sched_core.specs.declared.event.Event.TheVariants.{Accepted, Sent, Closed}
+use Rattle.sched_core.specs.declared.event.Event.TheVariants.{Sent, Closed}
 use Rattle.sched_core.specs.declared.run.Answer.TheVariants as answer
-use Rattle.sched_core.specs.declared.step.Step.TheVariants.{Enqueue, Dequeue, Close}
-use Rattle.sched_core.specs.Backlogs.{DropsOverflow, Held, ServesChain, shown_service, with_arrival_listed}
-use Rattle.sched_core.specs.Books.{Book, count_accepted, count_drops, count_sent, with_event}
-use Rattle.sched_core.specs.Disciplines.{Given, given_packet, heads, packets_of}
-use Rattle.sched_core.specs.FairQueueing.{Arrives, dropped_in, given_in, is_listed, with_flow_listed}
+use Rattle.sched_core.specs.declared.step.Step.TheVariants.{Dequeue, Close}
+use Rattle.sched_core.specs.Backlogs.{Held, ServesChain, shown_service}
+use Rattle.sched_core.specs.Books.{Book, count_drops, count_sent, with_event}
+use Rattle.sched_core.specs.Disciplines.{given_packet, heads}
+use Rattle.sched_core.specs.FairQueueing.{dropped_in, given_in}
 use Rattle.sched_core.specs.FairQueues.{AreSound, FairQueues, queue_of}
 use Rattle.sched_core.specs.Fating.{with_drops}
 use Rattle.sched_core.specs.FqCodel.{fq_codel, fq_codel_policy}
-use Rattle.sched_core.specs.Happened.{acceptance_of, acceptances, fate_ids}
+use Rattle.sched_core.specs.Happened.{acceptance_of, acceptances, fate_ids, is_among, without_fate}
 use Rattle.sched_core.specs.History.{AreCounts, IsHistory}
 use Rattle.sched_core.specs.Kept.{IsBookKept, closes_left}
 use Rattle.sched_core.specs.Calls.{sent_at}
-use Rattle.sched_core.specs.Schedulers.{IsServed, Scheduler}
-use Rattle.sched_core.specs.State.{State, arrival, refusal_of}
+use Rattle.sched_core.specs.Schedulers.{IsServed}
+use Rattle.sched_core.specs.State.{State, refusal_of}
 use Rattle.sched_core.specs.Statistics.{length_named}
-use Rattle.sched_core.specs.Steps.{Admits, Serves, Makes, dequeue_answer, drop_event, sent_events}
-use Rattle.sched_core.specs.Turns.{Chain, Policy, Service, Turn}
+use Rattle.sched_core.specs.Steps.{Serves, dequeue_answer, drop_event, sent_events}
+use Rattle.sched_core.specs.Turns.{Chain, Service, Turn}
 use Rattle.sched_core.specs.Turns.Turn.{used_up, emptied_new, emptied_old, serving}
 use Rattle.sched_core.proofs.FairFifo.{fair_is_fifo, queues_stay, split_at, within_from_packet}
 use Rattle.sched_core.proofs.Chains.{chain_bound}
-use Rattle.sched_core.proofs.Counting.{counts_accept, counts_close, counts_drops, counts_send}
+use Rattle.sched_core.proofs.Counting.{count_drops-accepted, counts_close, counts_drops, counts_send}
 use Rattle.sched_core.proofs.FqCodel.{policy_drops}
-use Rattle.sched_core.proofs.FqCodelRuns.{chain_as_many}
+use Rattle.sched_core.proofs.FqCodelRuns.{chain_as_many, flow_below}
 use Rattle.sched_core.proofs.Known.{waiting_known}
-use Rattle.sched_core.proofs.Lists.{ByRecursion-parts}
+use Rattle.sched_core.proofs.Lists.{ByRecursion-all, ByRecursion-filter, ByRecursion-parts, ByRecursion-weaker, length_as_sum, sum_by_agree_on}
 use Rattle.sched_core.proofs.Keeping.{keeps_makes}
+use Rattle.sched_core.proofs.LawsOfHistory.{waits_of_history}
 use Rattle.sched_core.proofs.NewFirst.{new_flows_first}
-use Rattle.sched_core.proofs.Refusals.{dequeue_next, enqueue_open, close_open}
+use Rattle.sched_core.proofs.Refusals.{close_open, dequeue_next}
+use Rattle.sched_core.proofs.Waiting.{by_queues}
 
 -- the state of flows at that moment
 abbrev pub state_of : Held → ℕ → Bool → State FairQueues
@@ -152,10 +153,12 @@ module _ (p : ParamFields) (seed : Seed) where
       let space = h.space in
       let long = h.long in
       rw sent (record {
+        some = h.some;
         flows = flows_stay turns moment held.queues s.service held'.queues s.chain ∙ h.flows;
         space = omega arith;
         reserved = rw same_room h.reserved;
         long = rw arrived (omega arith);
+        accepted = accepted_of_serve book moment s.service ∙ h.accepted ∙ sym arrived;
         few = rw arrived h.few;
         soon = next.soon;
         history = rw events history;
@@ -169,6 +172,10 @@ module _ (p : ParamFields) (seed : Seed) where
           let drops = length-append book.events (map (drop_event moment cause.Codel) s.dropped) in
           let each = length-map s.dropped (drop_event moment cause.Codel) in
           omega arith
+
+      accepted_of_serve : (book : Book) (moment : ℕ) (service : Option Service) → (with_sent (with_drops book moment cause.Codel (dropped_in service)) moment (option_map shown_service service)).counts.accepted ≡ book.counts.accepted
+      accepted_of_serve book moment None = refl
+      accepted_of_serve book moment (Some s) = count_drops-accepted cause.Codel book.counts s.dropped
 
       room_of_serve : (book : Book) (moment : ℕ) (service : Option Service) → (with_sent (with_drops book moment cause.Codel (dropped_in service)) moment (option_map shown_service service)).room ≡ book.room - (length (dropped_in service) + length (given_packet (given_in service)))
       room_of_serve book moment None = omega arith
@@ -228,3 +235,40 @@ module _ (p : ParamFields) (seed : Seed) where
           let one : length (given_packet (given_in s.service)) ≡ 1 = ap (λ (o : Option Service). length (given_packet (given_in o))) is in
           let space = h.space in
           omega arith
+
+  -- a close
+  pub kept_closes : (held : Held) (book : Book) (last moment room : ℕ) (closed : Bool) → refusal_of (state_of held last closed) (Close moment) ≡ None → IsBookKept p seed held book last closed room
+      → IsBookKept p seed held (with_event book (Closed moment) book.counts) moment true room
+  kept_closes held book last moment room closed fits h =
+      let known = close_open (state_of held last closed) moment fits in
+      let fifo = fair_is_fifo (fq_codel_policy p) (policy_drops p) p.flows (fq_codel p seed).flow_of in
+      let history = keeps_makes (fq_codel p seed) queue_of fifo (state_of held last closed) (state_of held moment true) (Close moment) answer.Closed (Closed moment ∷ []) book.events fits (refl, record { told = refl; state = refl }) h.history in
+      let grown = length_push book.events (Closed moment) in
+      let open' : closes_left closed ≡ 1 = ap closes_left known.open' in
+      let space = h.space in
+      let long = h.long in
+      record {
+        some = h.some;
+        flows = h.flows;
+        space = omega arith;
+        reserved = h.reserved;
+        long = omega arith;
+        accepted = h.accepted;
+        few = h.few;
+        soon = known.next.soon;
+        history = history;
+        counts = counts_close book.counts book.events moment h.counts;
+      }
+
+  -- as many wait as have no fate
+  pub kept_queued : (held : Held) (book : Book) (last room : ℕ) (closed : Bool) → IsBookKept p seed held book last closed room → waiting_in held.queues.lists ≡ length (without_fate book.events)
+  kept_queued held book last room closed h =
+      let waits = waits_of_history (fq_codel p seed).flow_of (queue_of held.queues) book.events held.arrived last closed h.history in
+      let below = flow_below p.classify p.flows seed in
+      sym (sum_by_agree_on (λ q. sum_by (λ _. 1) q) length held.queues.lists.queues (ByRecursion-all (λ q. sum_by (λ _. 1) q ≡ length q) held.queues.lists.queues (λ q. sym (length_as_sum q))))
+      ∙ by_queues (λ _. 1) 0 held.queues.lists.queues (without_fate book.events) (λ i under. rw (let e : 0 + i ≡ i = omega arith in e) (waits i))
+      (ByRecursion-filter (λ a. (0 ≤ a.flow) × (a.flow < 0 + length held.queues.lists.queues)) (λ a. not (is_among (fate_ids book.events) a.id)) (acceptances book.events)
+      (ByRecursion-weaker (λ a. a.flow ≡ (fq_codel p seed).flow_of a.packet.tuple) (λ a. (0 ≤ a.flow) × (a.flow < 0 + length held.queues.lists.queues)) (acceptances book.events)
+      (λ a e. let low = below a.packet.tuple h.some in let many = h.flows in omega arith)
+      (recursion_from_All (λ a. a.flow ≡ (fq_codel p seed).flow_of a.packet.tuple) (acceptances book.events) h.history.flows)))
+      ∙ sym (length_as_sum (without_fate book.events))

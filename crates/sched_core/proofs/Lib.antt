@@ -10,6 +10,7 @@ pub mod Keeping
 pub mod Counting
 pub mod Known
 pub mod KeptSteps
+pub mod KeptAdmits
 pub mod FairFifo
 pub mod Quanta
 pub mod Turns

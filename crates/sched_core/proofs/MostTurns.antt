@@ -1,11 +1,9 @@
 -- No chain of a scheduler has more turns than a number of 64 bits can count.
-use Rattle.std.proofs.Common.{◌≡◌, ℕ, zero, suc, ◌+◌, ◌*◌, ◌/◌, ◌<◌, ◌≤◌, ◌^◌, List, ◌++◌, All, get_or, length, sum_by, ℤ, pos, negsuc, ◌+ℤ◌, ◌≤ℤ◌, arith, length-append}
+use Rattle.std.proofs.Common.{ℕ, zero, suc, ◌+◌, ◌*◌, ◌/◌, ◌<◌, ◌≤◌, ◌^◌, List, length, sum_by, ℤ, pos, negsuc, ◌+ℤ◌, ◌≤ℤ◌, arith}
 use Rattle.std.proofs.lemmas.Int.{ints}
 use Rattle.std.proofs.lemmas.List.Elements.{All-from_recursion}
 use Rattle.std.proofs.lemmas.List.Sums.{sum_by-le}
 use Rattle.std.proofs.lemmas.Nat.{div-add-mod'}
-use Rattle.flow_core.specs.FlowLists.{AreListed, FlowLists}
-use Rattle.sched_core.specs.declared.account.Account.{Account}
 use Rattle.sched_core.specs.Backlogs.{AreHeld}
 use Rattle.sched_core.specs.FairQueues.{FairQueues, account_at}
 use Rattle.sched_core.specs.TurnBound.{quanta_owed, turns_at_most}

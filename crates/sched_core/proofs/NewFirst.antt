@@ -7,7 +7,6 @@ use Rattle.std.proofs.lemmas.List.Elements.{recursion_from_All}
 use Rattle.flow_core.specs.FlowLists.{AreDistinct, queue_at}
 use Rattle.sched_core.specs.declared.account.Account.{Account}
 use Rattle.sched_core.specs.FairQueues.{AreSound, FairQueues, Head, account_at, head_of, head_of_lists, new_account, to_old}
-use Rattle.sched_core.specs.declared.backlog.FlowList.{FlowList}
 use Rattle.sched_core.specs.declared.backlog.FlowList.TheVariants.{New, Old}
 use Rattle.sched_core.specs.NewFlows.{IsFirstReady, IsReady, SendsFrom}
 use Rattle.sched_core.specs.Turns.{Chain, Policy, Service, Turn}

@@ -1,5 +1,5 @@
 -- The turns of a dequeue, one after another.
-use Rattle.std.proofs.Common.{◌≡◌, ℕ, zero, suc, ◌+◌, ◌<◌, ◌≤◌, ◌^◌, length, List, [], Option, Some, None, IsNone, IsSome, option_map, refl, sym, ap, subst, ◌∙◌, inl, inr, arith}
+use Rattle.std.proofs.Common.{◌≡◌, ℕ, suc, ◌+◌, ◌<◌, ◌≤◌, ◌^◌, Option, Some, None, IsNone, IsSome, option_map, refl, sym, ap, subst, ◌∙◌, inl, inr, arith}
 use Rattle.std.proofs.lemmas.Bool.{false≢true}
 use Rattle.packet_core.specs.declared.params.ParamFields.{ParamFields}
 use Rattle.codel_core.specs.declared.served.Served.{Served}
@@ -60,8 +60,7 @@ module _ (p : ParamFields) (now : ℕ) (old : Held) (book : Book) where
       let turn : Turn (fq_codel_policy p) now cur.queues None new.queues = subst (λ s. Turn (fq_codel_policy p) now cur.queues s new.queues) none t.turn in
       let lower = turn_lowers (fq_codel_policy p) some now cur.queues new.queues on.sound turn in
       let less = lower.1 in
-      let bound = on.bound in
-      (
+      let bound = on.bound in (
         record {
           goes_on = λ more service last c. let e : turns + 1 + more ≡ turns + suc more = omega arith in rw e (on.goes_on (suc more) service last (inr (new.queues, turn, c)));
           journal = t.journal ∙ ap (λ s. with_drops book' now cause.Codel (dropped_in s)) none ∙ sym (drops_none book' now cause.Codel) ∙ on.journal;

@@ -1,5 +1,5 @@
 -- What the code does in a turn is a turn of the definition.
-use Rattle.std.proofs.Common.{◌≡◌, ◌≢◌, ℕ, zero, suc, ◌+◌, ◌<◌, ◌≤◌, false, true, List, [], ◌∷◌, drop, take, get_or, set, Option, Some, None, IfSome, IsNone, option_map, slice_get, ℤ, pos, ◌+ℤ◌, ◌-ℤ◌, ◌≤ℤ◌, ◌<ℤ◌, refl, sym, ap, subst, ◌∙◌, arith}
+use Rattle.std.proofs.Common.{◌≡◌, ℕ, ◌+◌, [], drop, take, set, Option, Some, None, IfSome, IsNone, option_map, slice_get, ℤ, pos, ◌-ℤ◌, ◌≤ℤ◌, ◌<ℤ◌, refl, sym, ap, subst, ◌∙◌}
 use Rattle.std.proofs.lemmas.List.{set-get_or}
 use Rattle.packet_core.specs.declared.packet.Waiting.{Waiting}
 use Rattle.packet_core.specs.declared.params.ParamFields.{ParamFields}
@@ -9,7 +9,6 @@ use Rattle.codel_core.specs.declared.served.Mark.{Mark}
 use Rattle.codel_core.specs.declared.served.Served.{Served}
 use Rattle.codel_core.specs.declared.state.CodelState.{CodelState}
 use Rattle.flow_core.specs.FlowLists.{queue_at, with_queue}
-use Rattle.sched_core.specs.declared.account.Account.{Account}
 use Rattle.sched_core.specs.declared.backlog.FlowList.{FlowList}
 use Rattle.sched_core.specs.declared.backlog.FlowList.TheVariants.{New, Old}
 use Rattle.sched_core.specs.declared.backlog.Head.{Head as ShownHead}
@@ -106,7 +105,7 @@ module _ (p : ParamFields) (now : ℕ) (old : Held) (shown : ShownHead) (at : op
           record {
             service = Some (service shown.flow);
             turn = serving h at' (subst (λ f. pos 0 <ℤ (account_at old.queues f).credits) flow credits) s.drops s.mark s.codel (subst (λ f. Decides p now (queue_at old.queues.lists f) (account_at old.queues f).codel s.drops s.mark s.codel) flow s.decides)
-            w (subst (λ f. slice_get (queue_at old.queues.lists f) s.drops ≡ Some w) flow is) (ap (λ f. Some (service f)) flow) new_is;
+                w (subst (λ f. slice_get (queue_at old.queues.lists f) s.drops ≡ Some w) flow is) (ap (λ f. Some (service f)) flow) new_is;
             given = s.given ∙ ap (option_map (served s.mark)) is;
             journal = s.journal;
             arrived = ap (λ (n : Held). n.arrived) s.rest;

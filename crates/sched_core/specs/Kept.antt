@@ -30,10 +30,12 @@ closes_left closed = if closed then 0 else 1
 -- What holds of the flows, the journal, the last moment, the close and the room that is reserved: there is room for each waiting packet's
 -- fate, for the close, and for the acceptances reserved with their fates; and the journal is a history of the flows.
 pub record IsBookKept (p : ParamFields) (seed : Seed) (held : Held) (book : Book) (last : ℕ) (closed : Bool) (room : ℕ) : Type 0 where
+  pub some : 0 < p.flows
   pub flows : length held.queues.lists.queues ≡ p.flows
   pub space : waiting_in held.queues.lists + closes_left closed + 2 * room ≤ book.room
   pub reserved : room ≤ held.room
   pub long : length book.events + waiting_in held.queues.lists + closes_left closed ≤ 2 * held.arrived + 1
+  pub accepted : book.counts.accepted ≡ held.arrived
   pub few : held.arrived ≤ 2 ^ 40
   pub soon : last < 2 ^ 60
   pub history : IsHistory (fq_codel p seed).flow_of (queue_of held.queues) book.events held.arrived last closed

@@ -208,7 +208,13 @@ impl Backlog {
     }
 
     /// One turn of the flow at the head (RFC 8290, section 4.2).
-    fn turn(&mut self, head: Head, now: u64, params: &Params, journal: &mut Journal) -> Option<Served>
+    fn turn(
+        &mut self,
+        head: Head,
+        now: u64,
+        params: &Params,
+        journal: &mut Journal,
+    ) -> Option<Served>
         requires head { option_map shown_head (head_of self.old.queues) ≡ Some head }
         requires flow { head.flow < length self.old.queues.lists.queues }
         requires moment { now < 2 ^ 60 }
@@ -267,7 +273,13 @@ impl Backlog {
     }
 
     /// CoDel serves a flow, which has credits above 0. The length of the packet that is given is taken from them.
-    fn serve_flow(&mut self, flow: u32, now: u64, params: &Params, journal: &mut Journal) -> Option<Served>
+    fn serve_flow(
+        &mut self,
+        flow: u32,
+        now: u64,
+        params: &Params,
+        journal: &mut Journal,
+    ) -> Option<Served>
         requires flow { flow < length self.old.queues.lists.queues }
         requires moment { now < 2 ^ 60 }
         requires credits { pos 0 <ℤ (account_at self.old.queues flow).credits }
@@ -275,7 +287,14 @@ impl Backlog {
         ensures { ServesFlow params.now now flow self.old journal.old result self.new journal.new }
     {
         let account = &mut self.accounts[flow as usize];
-        let served = serve_queue(&mut self.flows, flow, &mut account.codel, now, params, journal)?;
+        let served = serve_queue(
+            &mut self.flows,
+            flow,
+            &mut account.codel,
+            now,
+            params,
+            journal,
+        )?;
         account.credits -= i64::from(served.waiting.packet.len());
         Some(served)
     }

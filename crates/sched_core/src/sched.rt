@@ -1,4 +1,4 @@
-ghost use Rattle.std.specs.Prelude.{◌≡◌, ◌≢◌, ◌+◌, ◌-◌, ◌<◌, ◌≤◌, Some, None, IfOk, IfErr, MatchResult, OnOk, OnErr};
+ghost use Rattle.std.specs.Prelude.{◌≡◌, ◌≢◌, ◌+◌, ◌-◌, ◌<◌, ◌≤◌, max, Some, None, IfOk, IfErr, MatchResult, OnOk, OnErr};
 ghost use Rattle.sched_core.specs.State.{moment_fault_of, Tests};
 
 use crate::backlog::Backlog;
@@ -101,8 +101,7 @@ impl Sched {
     /// Takes memory for so many enqueues, at most 2^40: the next ones take none.
     pub fn reserve(&mut self, enqueues: u64) -> Result<(), Memory>
         requires { enqueues ≤ MAX_ACCEPTED }
-        ensures ok { OnOk result (enqueues ≤ self.new.room) }
-        ensures room { self.old.room ≤ self.new.room }
+        ensures ok { OnOk result (self.new.room ≡ max self.old.room enqueues) }
         ensures rest { self.new ≡ record self.old { room = self.new.room } }
         ensures err { OnErr result (self.new ≡ self.old) }
     {
@@ -154,7 +153,8 @@ impl Sched {
         let flow = flow_of(&self.params, &self.seed, &packet.tuple());
         self.backlog.arrive(flow, waiting, &self.params);
         self.journal.accept(&waiting, lane, flow);
-        self.backlog.overflow(self.params.limit(), moment, &mut self.journal);
+        self.backlog
+            .overflow(self.params.limit(), moment, &mut self.journal);
         self.last_moment = moment;
         self.room -= 1;
         Admitted {

@@ -17,8 +17,10 @@ use Rattle.sched_core.specs.declared.step.MomentFault.TheVariants as moment_faul
 use Rattle.sched_core.specs.declared.step.Refusal.{Refusal}
 use Rattle.sched_core.specs.declared.step.Refusal.TheVariants as refusal
 use Rattle.sched_core.specs.declared.totals.Totals.{Totals}
-use Rattle.packet_core.specs.declared.packet.Waiting.{Waiting}
-use Rattle.sched_core.specs.OneQueue.{one_queue}
+use Rattle.packet_core.specs.declared.flow.Seed.{Seed}
+use Rattle.packet_core.specs.declared.params.ParamFields.{ParamFields}
+use Rattle.sched_core.specs.FairQueues.{FairQueues, no_queues}
+use Rattle.sched_core.specs.FqCodel.{fq_codel}
 use Rattle.sched_core.specs.State.{State, opening_state}
 use Rattle.sched_core.specs.declared.step.Step.{Step}
 use Rattle.trace_core.specs.Traces.{trace_of}
@@ -90,13 +92,14 @@ lines_of rows = flat_map line_of rows
 abbrev pub report_of : List Made → List ℕ
 report_of made = lines_of (flat_map made_rows made) ++ line_of (totals_row (statistics (journal_of made)))
 
--- The text is the report of a trace with these bytes: that of the run of its steps with a new scheduler.
-pub record IsReportOf (bytes text : List ℕ) : Type 0 where
+-- The text is the report of a trace with these bytes: that of the run of its steps with a new scheduler of those
+-- parameters and that seed.
+pub record IsReportOf (p : ParamFields) (seed : Seed) (bytes text : List ℕ) : Type 0 where
   pub steps : List Step
   pub made : List Made
-  pub last : State (List Waiting)
+  pub last : State FairQueues
   pub read : trace_of bytes ≡ Ok steps
-  pub runs : Runs one_queue (opening_state []) steps made last
+  pub runs : Runs (fq_codel p seed) (opening_state (no_queues p.flows)) steps made last
   pub told : text ≡ report_of made
 
 -- The rows that were written are this text, and the next row starts at its end.

@@ -10,6 +10,7 @@ ghost use Rattle.trace_core.specs.declared.trace_run.RunFault.TheVariants.{Memor
 use crate::reader::{TraceFault, read_source};
 use crate::report::report_of;
 use crate::streams::{Sink, Source, Watched};
+use packet_core::{Params, Seed};
 use sched_core::run_steps;
 use std::alloc::{AllocError, Global};
 use std::io::{Read, Write};
@@ -45,25 +46,39 @@ impl From<AllocError> for RunFault {
     }
 }
 
-/// Reads a trace, makes its steps with a new scheduler, and writes the report. The whole report is made before
-/// the first byte of it is written. The writer isn't flushed.
-pub fn run<R: Read, W: Write>(alloc: Global, reader: &mut R, writer: &mut W) -> Result<(), RunFault>
-    ensures report { OnOk result (IfSome (R.remaining reader.old) (λ bytes. (text : List ℕ) × IsReportOf bytes text × Appends (W.contents writer.old) (W.contents writer.new) text)) }
-    ensures front { IfErr result (λ fault. fault ≡ RunFault.Write → IfSome (R.remaining reader.old) (λ bytes. (text : List ℕ) × IsReportOf bytes text × (count : ℕ) × Appends (W.contents writer.old) (W.contents writer.new) (take count text))) }
+/// Reads a trace, makes its steps with a new scheduler of those parameters and that seed, and writes the report.
+/// The whole report is made before the first byte of it is written. The writer isn't flushed.
+pub fn run<R: Read, W: Write>(
+    alloc: Global,
+    params: Params,
+    seed: Seed,
+    reader: &mut R,
+    writer: &mut W,
+) -> Result<(), RunFault>
+    ensures report { OnOk result (IfSome (R.remaining reader.old) (λ bytes. (text : List ℕ) × IsReportOf params seed bytes text × Appends (W.contents writer.old) (W.contents writer.new) text)) }
+    ensures front { IfErr result (λ fault. fault ≡ RunFault.Write → IfSome (R.remaining reader.old) (λ bytes. (text : List ℕ) × IsReportOf params seed bytes text × (count : ℕ) × Appends (W.contents writer.old) (W.contents writer.new) (take count text))) }
     ensures trace { IfErr result (λ fault. (why : TraceFault) → fault ≡ RunFault.Trace why → IfSome (R.remaining reader.old) (λ bytes. IsFaultOf bytes why)) }
     ensures untouched { IfErr result (λ fault. (fault ≢ RunFault.Write) → Keeps (W.contents writer.old) (W.contents writer.new)) }
 {
-    run_between(alloc, &mut Watched::new(reader), &mut Watched::new(writer))
+    run_between(
+        alloc,
+        params,
+        seed,
+        &mut Watched::new(reader),
+        &mut Watched::new(writer),
+    )
 }
 
 /// The same from a source to a sink, which tell whether they have failed.
 fn run_between<S: Source, K: Sink>(
     alloc: Global,
+    params: Params,
+    seed: Seed,
     source: &mut S,
     sink: &mut K,
 ) -> Result<(), RunFault>
-    ensures report { OnOk result (IfSome (S.remaining source.old) (λ bytes. (text : List ℕ) × IsReportOf bytes text × K.Wrote sink.old text sink.new)) }
-    ensures front { IfErr result (λ fault. fault ≡ RunFault.Write → IfSome (S.remaining source.old) (λ bytes. (text : List ℕ) × IsReportOf bytes text × (count : ℕ) × K.Wrote sink.old (take count text) sink.new)) }
+    ensures report { OnOk result (IfSome (S.remaining source.old) (λ bytes. (text : List ℕ) × IsReportOf params seed bytes text × K.Wrote sink.old text sink.new)) }
+    ensures front { IfErr result (λ fault. fault ≡ RunFault.Write → IfSome (S.remaining source.old) (λ bytes. (text : List ℕ) × IsReportOf params seed bytes text × (count : ℕ) × K.Wrote sink.old (take count text) sink.new)) }
     ensures trace { IfErr result (λ fault. (why : TraceFault) → fault ≡ RunFault.Trace why → IfSome (S.remaining source.old) (λ bytes. IsFaultOf bytes why)) }
     ensures untouched { IfErr result (λ fault. (fault ≢ RunFault.Write) → sink.new ≡ sink.old) }
 
@@ -72,7 +87,7 @@ fn run_between<S: Source, K: Sink>(
     ensures write { IfErr result (λ fault. fault ≡ RunFault.Write → K.HasFailed sink.new) }
 {
     let steps = read_source(alloc, source)?;
-    let ran = run_steps(alloc, &steps)?;
+    let ran = run_steps(alloc, params, seed, &steps)?;
     let text = report_of(alloc, &ran)?;
     write_text(sink, &text)
 }

@@ -1,4 +1,4 @@
-use Rattle.std.proofs.Common.{List, ◌≡◌, ◌+◌, take, drop, slice_get, ap, sym, ◌∙◌, refl, [], get_or}
+use Rattle.std.proofs.Common.{List, ◌≡◌, ◌+◌, drop, slice_get, ap, sym, ◌∙◌, []}
 use Rattle.std.proofs.lemmas.List.{get_or-set_same}
 use Rattle.flow_core.specs.FlowLists.{Holding, queue_at}
 use Rattle.packet_core.specs.declared.packet.Waiting.{Waiting}

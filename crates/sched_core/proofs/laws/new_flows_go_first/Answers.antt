@@ -1,5 +1,4 @@
 use Rattle.sched_core.specs.FqCodel.{fq_codel_policy}
-use Rattle.sched_core.proofs.FqCodel.{policy_decided}
 use Rattle.sched_core.proofs.NewFirst.{new_flows_first}
 use Rattle.sched_core.proofs.laws.new_flows_go_first.Goals as goal
 

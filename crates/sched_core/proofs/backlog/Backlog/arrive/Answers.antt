@@ -1,4 +1,4 @@
-use Rattle.std.proofs.Common.{◌≡◌, ◌+◌, ◌<◌, ◌++◌, Contains, get_or, length, arith, pos, ap, sym, Bool, true, false, IsTrue, ◌↔◌, ◌∙◌, refl, subst, of_z, to_z, w64}
+use Rattle.std.proofs.Common.{◌≡◌, ◌<◌, ◌++◌, Contains, get_or, length, arith, pos, sym, Bool, true, false, IsTrue, ◌↔◌, ◌∙◌, refl, subst, of_z, to_z, w64}
 use Rattle.std.proofs.lemmas.Int.{ints}
 use Rattle.std.proofs.lemmas.List.{get_or_read}
 use Rattle.sched_core.specs.Backlogs.{Held, held_of}

@@ -1,4 +1,4 @@
-use Rattle.std.proofs.Common.{◌<◌, arith, sym, ap}
+use Rattle.std.proofs.Common.{arith}
 use Rattle.sched_core.specs.Backlogs.{held_of}
 use Rattle.sched_core.proofs.MostTurns.{few_turns}
 use Rattle.sched_core.proofs.backlog.Backlog.head.Goals as goal

@@ -1,4 +1,4 @@
-use Rattle.std.proofs.Common.{◌≡◌, ◌<◌, ◌+◌, arith, length}
+use Rattle.std.proofs.Common.{◌≡◌, ◌<◌, arith, length}
 use Rattle.flow_core.specs.FlowLists.{queue_at, waiting_in}
 use Rattle.sched_core.specs.Backlogs.{held_of}
 use Rattle.sched_core.specs.Overflow.{batch_size}

@@ -1,4 +1,4 @@
-use Rattle.std.proofs.Common.{◌≡◌, ◌+◌, ◌<◌, ◌+ℤ◌, ◌≤ℤ◌, get_or, length, arith, pos, ap, sym, subst, of_z, to_z, w64}
+use Rattle.std.proofs.Common.{◌≡◌, ◌<◌, ◌+ℤ◌, ◌≤ℤ◌, get_or, length, arith, pos, ap, sym, subst, of_z, to_z, w64}
 use Rattle.std.proofs.lemmas.Int.{ints}
 use Rattle.std.proofs.lemmas.List.{get_or_read}
 use Rattle.sched_core.specs.declared.account.Account.{Account}

@@ -1,4 +1,4 @@
-use Rattle.std.proofs.Common.{◌≡◌, ◌<◌, arith, Some, None, sym, ap, refl}
+use Rattle.std.proofs.Common.{sym}
 use Rattle.sched_core.proofs.Serving.{at_start, chain_idle, chain_served, one_turn_more}
 use Rattle.sched_core.proofs.backlog.Backlog.serve.Goals as goal
 

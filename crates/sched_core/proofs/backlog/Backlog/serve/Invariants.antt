@@ -1,9 +1,4 @@
-use Rattle.std.proofs.Common.{◌≡◌, ℕ, ◌+◌, ◌≤◌, Option, IfSome, option_map}
-use Rattle.sched_core.specs.Backlogs.{Held, shown_head}
-use Rattle.sched_core.specs.FairQueues.{AreSound, FairQueues, head_of}
-use Rattle.sched_core.specs.FqCodel.{fq_codel_policy}
 use Rattle.sched_core.specs.TurnBound.{turns_at_most}
-use Rattle.sched_core.specs.Turns.{Chain, Service}
 use Rattle.sched_core.proofs.Serving.{IsOnChain}
 use Rattle.sched_core.proofs.backlog.Backlog.serve.Given as goal
 

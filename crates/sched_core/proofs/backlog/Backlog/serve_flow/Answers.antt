@@ -1,9 +1,8 @@
-use Rattle.std.proofs.Common.{Some, ◌-ℤ◌, of_z, to_z, w64, ◌≡◌, ◌+◌, ◌<◌, get_or, arith, length, pos, ◌<ℤ◌, ap, sym, ◌∙◌, refl, subst, rules}
+use Rattle.std.proofs.Common.{◌-ℤ◌, of_z, to_z, w64, ◌≡◌, ◌+◌, ◌<◌, get_or, arith, length, pos, ◌<ℤ◌, ap, sym, subst}
 use Rattle.std.proofs.lemmas.Int.{ints}
 use Rattle.std.proofs.lemmas.List.{get_or_read}
-use Rattle.flow_core.specs.FlowLists.{queue_at, waiting_in}
 use Rattle.sched_core.specs.declared.account.Account.{Account}
-use Rattle.sched_core.specs.Backlogs.{AreHeld, Held, ServesFlow, held_of}
+use Rattle.sched_core.specs.Backlogs.{Held, held_of}
 use Rattle.sched_core.specs.FairQueues.{account_at, new_account}
 use Rattle.sched_core.proofs.Held.{flow_from_queue, held_serves}
 use Rattle.sched_core.proofs.backlog.Backlog.serve_flow.Goals as goal

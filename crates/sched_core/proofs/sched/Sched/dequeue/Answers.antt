@@ -1,4 +1,4 @@
-use Rattle.std.proofs.Common.{◌≡◌, None, Some, option_map, ap, subst, sym, ◌∙◌, refl, arith}
+use Rattle.std.proofs.Common.{◌≡◌, None, Some, option_map, ap}
 use Rattle.sched_core.specs.declared.step.Refusal.TheVariants.{Moment}
 use Rattle.sched_core.specs.declared.step.Step.TheVariants.{Dequeue}
 use Rattle.sched_core.specs.State.{refusal_of}
