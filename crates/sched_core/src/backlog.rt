@@ -129,6 +129,7 @@ impl Backlog {
         ensures sound { AreSound self.now.queues }
         ensures bound { (quantum : ℕ) → 0 < quantum → turns_at_most quantum self.now.queues ≤ 2 ^ 40 }
     {
+        // How many flows there are and that each is listed once is seen here: with it, the turns can be counted.
         let _flows = self.flows.flows();
         if let Some(flow) = self.flows.head_new() {
             return Some(Head {

@@ -98,11 +98,13 @@ impl Sched {
         })
     }
 
-    /// Takes memory for so many enqueues, at most 2^40: the next ones take none.
+    /// Takes memory for so many enqueues, at most 2^40: the next ones take none. It is refused only where fewer are
+    /// reserved already, and then nothing changes.
     pub fn reserve(&mut self, enqueues: u64) -> Result<(), Memory>
         requires { enqueues ≤ MAX_ACCEPTED }
         ensures ok { OnOk result (self.new.room ≡ max self.old.room enqueues) }
         ensures rest { self.new ≡ record self.old { room = self.new.room } }
+        ensures missing { OnErr result (self.old.room < enqueues) }
         ensures err { OnErr result (self.new ≡ self.old) }
     {
         if enqueues <= self.room {
