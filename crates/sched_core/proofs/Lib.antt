@@ -39,3 +39,4 @@ pub mod GiantExamples
 pub mod ShortPackets
 pub mod OneRun
 pub mod Refused
+pub mod Storing

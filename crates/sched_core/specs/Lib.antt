@@ -23,3 +23,5 @@ pub mod History
 pub mod Schedulers
 pub mod Shown
 pub mod Kept
+pub mod Engines
+pub mod Stored

@@ -3,6 +3,7 @@
 
 mod account;
 mod backlog;
+mod engine;
 mod event;
 mod fates;
 mod flow_view;
@@ -14,6 +15,7 @@ mod step;
 mod totals;
 
 pub use codel_core::Mark;
+pub use engine::Engine;
 pub use event::{Cause, Event};
 pub use flow_view::FlowView;
 pub use run::{Answer, Outcome, Ran, run_steps};

@@ -19,7 +19,7 @@ pub const MAX_MOMENT: u64 = 1 << 60;
 pub const MAX_ACCEPTED: u64 = 1 << 40;
 
 /// Whether a step may be made at that moment, the last one being `last`.
-fn test_moment(moment: u64, last: u64) -> Result<(), MomentFault>
+pub(crate) fn test_moment(moment: u64, last: u64) -> Result<(), MomentFault>
     ensures { Tests (moment_fault_of moment last) result }
 {
     if moment >= MAX_MOMENT {
@@ -287,7 +287,7 @@ impl Sched {
     }
 
     /// Why an enqueue at that moment is refused, if it is, apart from want of memory.
-    fn test_enqueue(&self, moment: u64) -> Result<(), Refusal>
+    pub(crate) fn test_enqueue(&self, moment: u64) -> Result<(), Refusal>
         ensures { Tests (enqueue_refusal_of self.now.standing.state moment) result }
     {
         test_moment(moment, self.last_moment)?;
@@ -301,7 +301,7 @@ impl Sched {
     }
 
     /// Why a close at that moment is refused, if it is.
-    fn test_close(&self, moment: u64) -> Result<(), CloseFault>
+    pub(crate) fn test_close(&self, moment: u64) -> Result<(), CloseFault>
         ensures { MatchResult result (λ _. refusal_of self.now.standing.state (Close moment) ≡ None) (λ fault. refusal_of self.now.standing.state (Close moment) ≡ Some (close_refusal fault)) }
     {
         test_moment(moment, self.last_moment)?;
