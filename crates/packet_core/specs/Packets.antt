@@ -1,4 +1,4 @@
-use Rattle.std.specs.Prelude.{ℕ, ◌≤◌, Bool, ◌==◌, ◌&&◌}
+use Rattle.std.specs.Prelude.{ℕ, List, ◌≤◌, Bool, ◌==◌, ◌&&◌}
 use Rattle.std.specs.Str.{bytes_eq}
 use Rattle.packet_core.specs.declared.packet.Ip.{Ip}
 use Rattle.packet_core.specs.declared.packet.Ip.TheVariants.{V4}
@@ -14,6 +14,10 @@ pub record PacketParts : Type 0 where
 -- what the length field of an IPv4 header can say of a packet (RFC 791, section 3.1)
 abbrev pub IsLengthInRange : ℕ → Type 0
 IsLengthInRange len = (1 ≤ len) × (len ≤ 65535)
+
+-- the bytes of an address, the first one first
+abbrev pub ip_bytes : Ip → List ℕ
+ip_bytes (V4 bytes) = bytes
 
 -- whether two addresses are the same
 abbrev pub same_ip : Ip → Ip → Bool

@@ -1,7 +1,7 @@
 use Rattle.std.specs.Prelude.{ℕ, ◌≤◌}
 use Rattle.packet_core.specs.declared.params.ParamFields.{ParamFields}
 use Rattle.packet_core.specs.declared.params.EcnUse.TheVariants.{Mark}
-use Rattle.packet_core.specs.declared.params.Classify.TheVariants.{Dport}
+use Rattle.packet_core.specs.declared.params.Classify.TheVariants.{Hash}
 use Rattle.packet_core.specs.declared.params.ParamName.{ParamName}
 use Rattle.packet_core.specs.declared.params.ParamName.TheVariants.{Limit, Flows, Quantum, Mtu, Target, Interval}
 
@@ -16,7 +16,7 @@ standard_fields =
       target = 5000;
       interval = 100000;
       ecn = Mark;
-      classify = Dport;
+      classify = Hash;
     }
 
 -- packets

@@ -1,8 +1,9 @@
 ghost use Rattle.std.specs.Prelude.{◌≡◌, ◌<◌};
-ghost use Rattle.packet_core.specs.FlowNumber.{flow_number};
+ghost use Rattle.packet_core.specs.FlowNumber.{flow_number, hash_value, hashed_message};
 
 use crate::packet::FiveTuple;
 use crate::params::{Classify, Params};
+use sha2::{Digest, Sha256};
 
 /// What the choice of flows is seeded with, so that nobody outside can tell which five-tuples share a flow
 /// (RFC 8290, section 4.1).
@@ -15,6 +16,23 @@ pub fn flow_of(params: &Params, seed: &Seed, tuple: &FiveTuple) -> u32
     ensures below { result < params.now.flows }
 {
     match params.classify() {
+        Classify::Hash => (hash_of(seed, tuple) % u64::from(params.flows())) as u32,
         Classify::Dport => u32::from(tuple.dport) % params.flows(),
     }
+}
+
+/// The first eight bytes of a digest under SHA-256 (FIPS 180-4), as a number. What is hashed is the seed and then the
+/// five-tuple, each number with its high byte first.
+fn hash_of(seed: &Seed, tuple: &FiveTuple) -> u64
+    ensures { result ≡ hash_value (hashed_message seed.now tuple.now) }
+{
+    let mut hasher = Sha256::new();
+    hasher.update(seed.0);
+    hasher.update([tuple.proto]);
+    hasher.update(tuple.src.octets());
+    hasher.update(tuple.dst.octets());
+    hasher.update(tuple.sport.to_be_bytes());
+    hasher.update(tuple.dport.to_be_bytes());
+    let [a, b, c, d, e, f, g, h, ..] = hasher.finalize();
+    u64::from_be_bytes([a, b, c, d, e, f, g, h])
 }

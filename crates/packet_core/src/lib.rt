@@ -7,7 +7,9 @@ mod packet;
 mod params;
 #[cfg(test)]
 mod tests;
+mod words;
 
 pub use flow::{Seed, flow_of};
 pub use packet::{Ecn, FiveTuple, Ip, LengthOutOfRange, MAX_LENGTH, Packet, Waiting};
 pub use params::{Classify, EcnUse, ParamFields, ParamName, Params};
+pub use words::ParamFault;

@@ -14,6 +14,18 @@ pub enum Ip {
     V4([u8; 4]),
 }
 
+impl Ip {
+    ghost use Rattle.packet_core.specs.Packets.{ip_bytes};
+
+    /// The address's bytes, the first one first.
+    pub(crate) fn octets(self) -> [u8; 4]
+        ensures { result ≡ ip_bytes self }
+    {
+        let Ip::V4(octets) = self;
+        octets
+    }
+}
+
 /// What tells the packets of one conversation from those of another (RFC 8290, section 4.1).
 #[derive(Clone, Copy, Debug, PartialEq, Eq, Hash)]
 pub struct FiveTuple {

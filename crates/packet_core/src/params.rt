@@ -16,6 +16,8 @@ pub enum EcnUse {
 /// How the flow of a packet is found from its five-tuple.
 #[derive(Clone, Copy, Debug, PartialEq, Eq, Hash)]
 pub enum Classify {
+    /// By a hash of the whole five-tuple, seeded (RFC 8290, section 4.1).
+    Hash,
     /// By the destination port alone.
     Dport,
 }
@@ -80,7 +82,7 @@ impl ParamFields {
             target: 5_000,
             interval: 100_000,
             ecn: EcnUse::Mark,
-            classify: Classify::Dport,
+            classify: Classify::Hash,
         }
     }
 }

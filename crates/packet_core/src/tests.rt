@@ -1,4 +1,6 @@
-use crate::{Classify, EcnUse, FiveTuple, Ip, ParamFields, ParamName, Params, Seed, flow_of};
+mod flows;
+
+use crate::{Classify, EcnUse, ParamFields, ParamName, Params};
 
 #[test]
 fn standard_parameters(rt: HostRuntime) {
@@ -10,7 +12,7 @@ fn standard_parameters(rt: HostRuntime) {
     assert_eq!(rt; fields.target, 5000);
     assert_eq!(rt; fields.interval, 100000);
     assert_eq!(rt; fields.ecn, EcnUse::Mark);
-    assert_eq!(rt; fields.classify, Classify::Dport);
+    assert_eq!(rt; fields.classify, Classify::Hash);
     assert_eq!(rt; refused(fields), None);
 }
 
@@ -118,21 +120,4 @@ fn the_first_fault_is_named(rt: HostRuntime) {
     assert_eq!(rt; refused(fields), Some(ParamName::Interval));
     fields.interval = 1;
     assert_eq!(rt; refused(fields), None);
-}
-
-#[test]
-fn flow_by_destination_port(rt: HostRuntime) -> Result<(), ParamName> {
-    let mut fields = ParamFields::standard();
-    let tuple = FiveTuple {
-        proto: 17,
-        src: Ip::V4([10, 0, 0, 1]),
-        dst: Ip::V4([10, 0, 0, 2]),
-        sport: 5000,
-        dport: 1077,
-    };
-    let seed = Seed([0; 16]);
-    assert_eq!(rt; flow_of(&Params::try_new(fields)?, &seed, &tuple), 53);
-    fields.flows = 1;
-    assert_eq!(rt; flow_of(&Params::try_new(fields)?, &seed, &tuple), 0);
-    Ok(())
 }
