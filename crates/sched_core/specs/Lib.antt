@@ -16,6 +16,7 @@ pub mod Runs
 pub mod Happened
 pub mod JournalLaws
 pub mod Statistics
+pub mod TupleRows
 pub mod Books
 pub mod Fating
 pub mod Calls

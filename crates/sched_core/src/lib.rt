@@ -12,6 +12,7 @@ mod run;
 mod sched;
 mod step;
 mod totals;
+mod tuple_rows;
 
 pub use codel_core::Mark;
 pub use event::{Cause, Event};
@@ -20,3 +21,4 @@ pub use run::{Answer, Outcome, Ran, run_steps};
 pub use sched::{MAX_ACCEPTED, MAX_MOMENT, Sched};
 pub use step::{Admitted, CloseFault, Memory, MomentFault, Refusal, Sent, Step};
 pub use totals::Totals;
+pub use tuple_rows::TupleRow;
