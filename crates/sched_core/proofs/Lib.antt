@@ -39,3 +39,6 @@ pub mod GiantExamples
 pub mod ShortPackets
 pub mod OneRun
 pub mod Refused
+pub mod FirstOfEach
+pub mod TupleCounts
+pub mod Tallying
