@@ -42,3 +42,4 @@ pub mod Refused
 pub mod FirstOfEach
 pub mod TupleCounts
 pub mod Tallying
+pub mod Beginnings

@@ -3,7 +3,8 @@ use Rattle.std.proofs.Common.{◌≡◌, ◌≢◌, ℕ, zero, suc, ◌+◌, ◌
 use Rattle.std.specs.List.{AllByRecursion, filter_map, list_any, range_with_len}
 use Rattle.std.proofs.lemmas.Bool.{cases_Bool, eq-eqb, ne_eqb, or_parts}
 use Rattle.std.proofs.lemmas.List.{map-append, length-map, length-append, length_push, length-set}
-use Rattle.std.proofs.lemmas.List.Elements.{All-push, All-set}
+use Rattle.std.proofs.lemmas.List.Elements.{All-from_recursion, All-push, All-set}
+use Rattle.std.proofs.lemmas.List.Sums.{count_by-le-length}
 use Rattle.packet_core.specs.Packets.{PacketParts, same_tuple}
 use Rattle.packet_core.specs.declared.packet.Ecn.{Ecn}
 use Rattle.packet_core.specs.declared.packet.FiveTuple.{FiveTuple}
@@ -78,6 +79,21 @@ place_found tuples k (suc n) (suc j) (p ∷ places) (b ∷ accepted) a ids e fou
     let ih = place_found tuples (k + 1) n j places accepted a tail rest (subst (λ i. named accepted i ≡ Some a) next behind) in
     let within = ih.0 in
     (omega arith, ih.1)
+
+-- a row counts no more packets than were accepted
+abbrev IsSmall : List Event → TupleRow → Type 0
+IsSmall events row = row.accepted ≤ length (acceptances events)
+
+row_small : (events : List Event) (firsts : List Acceptance) (rows : List TupleRow) (place : ℕ) (row : TupleRow) → rows ≡ map (row_of events) firsts → place < length rows → row ≡ get_or rows place row → row.accepted ≤ length (acceptances events)
+row_small events firsts rows place row are within is = subst (IsSmall events) (sym is) (subst (All (IsSmall events)) (sym are) (All-from_recursion (IsSmall events) (map (row_of events) firsts) (each firsts)) place row within)
+  where
+    each : (some : List Acceptance) → AllByRecursion (IsSmall events) (map (row_of events) some)
+    each [] = tt
+    each (first ∷ some) = (count_by-le-length (λ b. of_one_tuple b first) (acceptances events), each some)
+
+-- as many packets have a place
+places_all : (tuples : List FiveTuple) (places : List ℕ) (accepted : List Acceptance) → map (slice_get tuples) places ≡ map some_tuple accepted → length accepted ≡ length places
+places_all tuples places accepted e = sym (length-map accepted some_tuple) ∙ ap length (sym e) ∙ length-map places (slice_get tuples)
 
 -- no event is counted
 pub tallied_none : AreTallied [] [] [] []
@@ -157,6 +173,14 @@ module _ (tuples : List FiveTuple) (rows : List TupleRow) (places : List ℕ) (e
           subst (λ (r : TupleRow). 0 < r.queued) (sym row_is)
           (row_waits (acceptances events) (filter_map sent_of events) (filter_map dropped_of events) (fate_ids events) id fate.who found.0 rises fate.found fate.new own)
 
+      -- Its counts are small.
+      pub fate_small : (row.sent ≤ length places) × (row.dropped ≤ length places)
+      fate_small =
+          let small = row_small events (firsts_of (acceptances events)) rows place row h.rows_are fate_within is_row in
+          let all = places_all tuples places (acceptances events) h.places_are in
+          let even : IsBalanced row = subst IsBalanced (sym is_row) (h.balance place row fate_within) in
+          (omega arith, omega arith)
+
       -- It is sent.
       pub tallied_sends : (moment : ℕ) (ecn : Ecn) (mark : Mark) → AreTallied tuples (set rows place (one_sent row)) places (events ++ Sent id moment ecn mark ∷ [])
       tallied_sends moment ecn mark =
@@ -178,3 +202,107 @@ module _ (tuples : List FiveTuple) (rows : List TupleRow) (places : List ℕ) (e
           (λ k. row_by (filter_map_same acceptance_of events e refl k) (filter_map_same sent_of events e refl k) (filter_map_push dropped_of events e id refl k) (filter_map_push fate_of events e id refl k) first)
           ∙ row_drops (acceptances events) (filter_map sent_of events) (filter_map dropped_of events) (fate_ids events) id fate.who first rises fate.found fate.new)
           (λ even. omega arith) h
+
+-- What is known where a packet is accepted: the fates so far are of accepted packets, and none is of its id.
+pub record IsNewId (events : List Event) (id : ℕ) : Type 0 where
+  pub sent : AreFound (acceptances events) (filter_map sent_of events)
+  pub dropped : AreFound (acceptances events) (filter_map dropped_of events)
+  pub apart : AllByRecursion (λ fated. fated ≢ id) (fate_ids events)
+
+module _ (events : List Event) (a : Acceptance) (new : IsNewId events a.id) where
+  -- the first acceptances with this one, which goes last where its five-tuple is new
+  abbrev firsts_with : Bool → List Acceptance
+  firsts_with known = cond known (firsts_of (acceptances events)) (firsts_of (acceptances events) ++ a ∷ [])
+
+  tuples_with : (known : Bool) → cond known (map tuple_of (firsts_of (acceptances events))) (map tuple_of (firsts_of (acceptances events)) ++ tuple_of a ∷ []) ≡ map tuple_of (firsts_with known)
+  tuples_with true = refl
+  tuples_with false = sym (map-append tuple_of (firsts_of (acceptances events)) (a ∷ []))
+
+  -- where it is new, none of its packets was counted
+  row_is_empty : has_tuple (map tuple_of (firsts_of (acceptances events))) (tuple_of a) ≡ false → row_of events a ≡ empty_row (tuple_of a) a.flow
+  row_is_empty unknown =
+      row_none (acceptances events) (filter_map sent_of events) (filter_map dropped_of events) (fate_ids events) a
+      (none_has (tuple_of a) (acceptances events) (sym (firsts_have same_tuple same_tuple-Decides tuple_of (tuple_of a) (acceptances events)) ∙ unknown))
+
+  rows_with : (known : Bool) → has_tuple (map tuple_of (firsts_of (acceptances events))) (tuple_of a) ≡ known
+      → cond known (tuple_rows events) (tuple_rows events ++ empty_row (tuple_of a) a.flow ∷ []) ≡ map (row_of events) (firsts_with known)
+  rows_with true is = refl
+  rows_with false is =
+      ap (λ (r : TupleRow). tuple_rows events ++ r ∷ []) (sym (row_is_empty is)) ∙ sym (map-append (row_of events) (firsts_of (acceptances events)) (a ∷ []))
+
+-- A packet is accepted.
+module _ (tuples : List FiveTuple) (rows : List TupleRow) (places : List ℕ) (events : List Event) (id moment lane flow : ℕ) (packet : PacketParts) (new : IsNewId events id) (h : AreTallied tuples rows places events) where
+  abbrev a : Acceptance
+  a = record { id = id; moment = moment; lane = lane; flow = flow; packet = packet }
+
+  abbrev e : Event
+  e = Accepted id moment lane flow packet
+
+  abbrev tuples' : List FiveTuple
+  tuples' = with_tuple tuples packet.tuple
+
+  abbrev rows' : List TupleRow
+  rows' = with_row tuples rows packet.tuple flow
+
+  firsts_are : firsts_of (acceptances events ++ a ∷ []) ≡ firsts_with events a new (has_tuple (map tuple_of (firsts_of (acceptances events))) packet.tuple)
+  firsts_are = firsts_push same_tuple same_tuple-Decides tuple_of (acceptances events) a
+
+  tuples_are : tuples' ≡ map tuple_of (firsts_of (acceptances events ++ a ∷ []))
+  tuples_are =
+      ap (λ (ts : List FiveTuple). with_tuple ts packet.tuple) h.tuples_are ∙ tuples_with events a new (has_tuple (map tuple_of (firsts_of (acceptances events))) packet.tuple) ∙ ap (map tuple_of) (sym firsts_are)
+
+  rows_are : rows' ≡ map (row_of events) (firsts_of (acceptances events ++ a ∷ []))
+  rows_are =
+      ap (λ (ts : List FiveTuple). with_row ts rows packet.tuple flow) h.tuples_are ∙ ap (λ (rs : List TupleRow). with_row (map tuple_of (firsts_of (acceptances events))) rs packet.tuple flow) h.rows_are
+      ∙ rows_with events a new (has_tuple (map tuple_of (firsts_of (acceptances events))) packet.tuple) refl ∙ ap (map (row_of events)) (sym firsts_are)
+
+  places_are : map (slice_get tuples') places ≡ map some_tuple (acceptances events)
+  places_are = by_case (has_tuple tuples packet.tuple)
+    where
+      by_case : (b : Bool) → map (slice_get (cond b tuples (tuples ++ packet.tuple ∷ []))) places ≡ map some_tuple (acceptances events)
+      by_case true = h.places_are
+      by_case false = places_stay tuples (packet.tuple ∷ []) places (acceptances events) h.places_are
+
+  balance : All IsBalanced rows'
+  balance = by_case (has_tuple tuples packet.tuple)
+    where
+      by_case : (b : Bool) → All IsBalanced (cond b rows (rows ++ empty_row packet.tuple flow ∷ []))
+      by_case true = h.balance
+      by_case false = All-push IsBalanced rows (empty_row packet.tuple flow) h.balance refl
+
+  module _ (place : ℕ) (at : slice_get tuples' place ≡ Some packet.tuple) where
+    stands : slice_get (map tuple_of (firsts_of (acceptances events ++ a ∷ []))) place ≡ Some packet.tuple
+    stands = ap (λ (ts : List FiveTuple). slice_get ts place) (sym tuples_are) ∙ at
+
+    -- its row is stands
+    pub accept_within : place < length rows'
+    accept_within =
+        subst (λ (rs : List TupleRow). place < length rs) (sym rows_are) (element_at same_tuple same_tuple-Decides tuple_of (row_of events) (firsts_of (acceptances events ++ a ∷ [])) place packet.tuple stands).2
+
+    -- has counts that are small
+    pub accept_small : (row : TupleRow) → row ≡ get_or rows' place row → (row.accepted ≤ length places) × (row.queued ≤ length places)
+    accept_small row is_row =
+        let small = row_small events (firsts_of (acceptances events ++ a ∷ [])) rows' place row rows_are accept_within is_row in
+        let all = places_all tuples places (acceptances events) h.places_are in
+        let even : IsBalanced row = subst IsBalanced (sym is_row) (balance place row accept_within) in
+        (omega arith, omega arith)
+
+    -- and counts it
+    pub tallied_accepts : (row : TupleRow) → row ≡ get_or rows' place row → AreTallied tuples' (set rows' place (one_accepted row)) (places ++ place ∷ []) (events ++ e ∷ [])
+    tallied_accepts row row_is =
+        let accepted = filter_map_push acceptance_of events e a refl in
+        let even : IsBalanced row = subst IsBalanced (sym row_is) (balance place row accept_within) in
+        let one = change_at same_tuple same_tuple-Decides tuple_of (row_of events) (row_of (events ++ e ∷ [])) one_accepted packet.tuple (firsts_of (acceptances events ++ a ∷ [])) place row
+        (firsts_apart same_tuple same_tuple-Decides tuple_of (acceptances events ++ a ∷ [])) stands
+        (λ first.
+        (λ k. row_by (accepted k) (filter_map_same sent_of events e refl k) (filter_map_same dropped_of events e refl k) (filter_map_same fate_of events e refl k) first)
+        ∙ row_accepts (acceptances events) (filter_map sent_of events) (filter_map dropped_of events) (fate_ids events) a first new.sent new.dropped new.apart) in
+        record {
+          tuples_are = tuples_are ∙ ap (λ (bs : List Acceptance). map tuple_of (firsts_of bs)) (sym accepted);
+          rows_are =
+              ap (λ (r : TupleRow). set rows' place (one_accepted r)) row_is ∙ ap (λ (rs : List TupleRow). set rs place (one_accepted (get_or rs place row))) rows_are ∙ one
+              ∙ ap (λ (bs : List Acceptance). map (row_of (events ++ e ∷ [])) (firsts_of bs)) (sym accepted);
+          places_are =
+              map-append (slice_get tuples') places (place ∷ []) ∙ (λ k. places_are k ++ at k ∷ []) ∙ sym (map-append some_tuple (acceptances events) (a ∷ [])) ∙ ap (map some_tuple) (sym accepted);
+          balance = All-set IsBalanced rows' place (one_accepted row) (omega arith) balance;
+        }
