@@ -13,6 +13,7 @@ mod run;
 mod sched;
 mod step;
 mod totals;
+mod tuple_rows;
 
 pub use codel_core::Mark;
 pub use engine::Engine;
@@ -22,3 +23,4 @@ pub use run::{Answer, Outcome, Ran, run_steps};
 pub use sched::{MAX_ACCEPTED, MAX_MOMENT, Sched};
 pub use step::{Admitted, CloseFault, Memory, MomentFault, Refusal, Sent, Step};
 pub use totals::Totals;
+pub use tuple_rows::TupleRow;

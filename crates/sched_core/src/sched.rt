@@ -1,4 +1,4 @@
-ghost use Rattle.std.specs.Prelude.{◌≡◌, ◌≢◌, ◌+◌, ◌-◌, ◌<◌, ◌≤◌, max, Some, None, IfOk, IfErr, MatchResult, OnOk, OnErr};
+ghost use Rattle.std.specs.Prelude.{◌≡◌, ◌≢◌, ◌+◌, ◌-◌, ◌<◌, ◌≤◌, max, All, Some, None, IfOk, IfErr, MatchResult, OnOk, OnErr};
 ghost use Rattle.sched_core.specs.State.{moment_fault_of, Tests};
 
 use crate::backlog::Backlog;
@@ -7,6 +7,7 @@ use crate::flow_view::FlowView;
 use crate::journal::Journal;
 use crate::step::{Admitted, CloseFault, Memory, MomentFault, Refusal, Sent};
 use crate::totals::Totals;
+use crate::tuple_rows::{TupleRow, gather_rows};
 use codel_core::Served;
 use packet_core::{Packet, Params, Seed, Waiting, flow_of};
 use std::alloc::Global;
@@ -77,6 +78,7 @@ impl Sched {
     ghost use Rattle.sched_core.specs.Shown.{flow_shown};
     ghost use Rattle.sched_core.specs.State.{enqueue_refusal_of, refusal_of, IsRefusal};
     ghost use Rattle.sched_core.specs.Statistics.{statistics};
+    ghost use Rattle.sched_core.specs.TupleRows.{tuple_rows};
     ghost use Rattle.sched_core.specs.declared.step.Step.TheVariants.{Enqueue, Dequeue, Close};
     ghost use Rattle.sched_core.specs.declared.run.Answer.TheVariants as answer;
     ghost use Rattle.sched_core.specs.declared.step.Refusal.TheVariants as refusal;
@@ -260,6 +262,15 @@ impl Sched {
             queued_bytes: counts.accepted_bytes - (counts.sent_bytes + counts.dropped_bytes),
             closed: self.is_closed,
         }
+    }
+
+    /// What became of the packets of each five-tuple, in order of first acceptance. It goes once through the journal,
+    /// and fails for want of memory alone.
+    pub fn tuple_rows(&self) -> Result<Vec<TupleRow>, Memory>
+        ensures rows { IfOk result (λ rows. rows.items ≡ tuple_rows self.now.standing.events) }
+        ensures balance { IfOk result (λ rows. All (λ row. row.accepted ≡ row.sent + row.dropped + row.queued) rows.items) }
+    {
+        gather_rows(self.journal.allocator(), self.events())
     }
 
     /// How many packets wait.
