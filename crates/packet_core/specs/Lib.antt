@@ -1,3 +1,4 @@
 pub mod FlowNumber
 pub mod Packets
 pub mod Params
+pub mod Words

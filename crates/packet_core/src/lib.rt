@@ -12,4 +12,4 @@ mod words;
 pub use flow::{Seed, flow_of};
 pub use packet::{Ecn, FiveTuple, Ip, LengthOutOfRange, MAX_LENGTH, Packet, Waiting};
 pub use params::{Classify, EcnUse, ParamFields, ParamName, Params};
-pub use words::ParamFault;
+pub use words::{ParamFault, read_params};

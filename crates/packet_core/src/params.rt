@@ -107,7 +107,18 @@ impl Model for Params {
 }
 
 impl Params {
-    ghost use Rattle.packet_core.specs.Params.{AreInRange, IsFirstOutOfRange};
+    ghost use Rattle.std.specs.Prelude.{if◌then◌else◌, None, Some};
+    ghost use Rattle.packet_core.specs.Params.{AreInRange, IsFirstOutOfRange, standard_fields};
+    ghost use Rattle.packet_core.specs.Words.{is_in_range, with_value};
+
+    /// The parameters where nothing else is said (tc-fq_codel(8)).
+    pub fn standard() -> Params
+        ensures { result ≡ standard_fields }
+    {
+        Params {
+            fields: ParamFields::standard(),
+        }
+    }
 
     /// The parameters, where each is in its range. Otherwise it names the first that isn't.
     pub fn try_new(fields: ParamFields) -> Result<Params, ParamName>
@@ -196,5 +207,42 @@ impl Params {
         ensures { result ≡ self.now.classify }
     {
         self.fields.classify
+    }
+
+    /// The same parameters with this use of ECN.
+    pub(crate) fn with_ecn(self, ecn: EcnUse) -> Params
+        ensures { result ≡ record self { ecn = ecn } }
+    {
+        Params {
+            fields: ParamFields { ecn, ..self.fields },
+        }
+    }
+
+    /// The same parameters with flows found in this way.
+    pub(crate) fn with_classify(self, classify: Classify) -> Params
+        ensures { result ≡ record self { classify = classify } }
+    {
+        Params {
+            fields: ParamFields {
+                classify,
+                ..self.fields
+            },
+        }
+    }
+
+    /// The same parameters with one of them at this value, if it is in its range.
+    pub(crate) fn with_value(self, name: ParamName, value: u64) -> Option<Params>
+        ensures { result ≡ (if is_in_range name value then Some (with_value name value self) else None) }
+    {
+        let mut fields = self.fields;
+        match name {
+            ParamName::Limit => fields.limit = u32::try_from(value).ok()?,
+            ParamName::Flows => fields.flows = u32::try_from(value).ok()?,
+            ParamName::Quantum => fields.quantum = u32::try_from(value).ok()?,
+            ParamName::Mtu => fields.mtu = u32::try_from(value).ok()?,
+            ParamName::Target => fields.target = value,
+            ParamName::Interval => fields.interval = value,
+        }
+        Params::try_new(fields).ok()
     }
 }
