@@ -1,10 +1,11 @@
-ghost use Rattle.std.specs.Prelude.{◌≡◌, ◌≢◌, ◌+◌, ◌-◌, ◌<◌, ◌≤◌, ◌++◌, ◌∷◌, [], max, None, IfOk, IfErr, OnOk, OnErr};
+ghost use Rattle.std.specs.Prelude.{◌≡◌, ◌≢◌, ◌+◌, ◌-◌, ◌<◌, ◌≤◌, ◌++◌, ◌∷◌, [], All, max, None, IfOk, IfErr, OnOk, OnErr};
 
 use crate::event::Event;
 use crate::flow_view::FlowView;
 use crate::sched::{MAX_ACCEPTED, MAX_MOMENT, Sched, test_moment};
 use crate::step::{Admitted, Memory, Refusal, Sent, Step};
 use crate::totals::Totals;
+use crate::tuple_rows::TupleRow;
 use packet_core::{Packet, Params, Seed};
 use std::alloc::Global;
 use std::marker::Model;
@@ -41,6 +42,7 @@ impl Engine {
     ghost use Rattle.sched_core.specs.Shown.{flow_shown};
     ghost use Rattle.sched_core.specs.State.{refusal_of, IsRefusal};
     ghost use Rattle.sched_core.specs.Statistics.{statistics};
+    ghost use Rattle.sched_core.specs.TupleRows.{tuple_rows};
     ghost use Rattle.sched_core.specs.declared.step.Step.TheVariants.{Enqueue, Dequeue, Close};
     ghost use Rattle.sched_core.specs.declared.run.Answer.TheVariants as answer;
 
@@ -189,6 +191,15 @@ impl Engine {
         ensures balance { result.accepted ≡ result.sent + result.dropped_codel + result.dropped_overflow + result.queued }
     {
         self.sched.totals()
+    }
+
+    /// What became of the packets of each five-tuple, in order of first acceptance. It goes once through the journal,
+    /// and fails for want of memory alone.
+    pub fn tuple_rows(&self) -> Result<Vec<TupleRow>, Memory>
+        ensures rows { IfOk result (λ rows. rows.items ≡ tuple_rows self.now.sched.standing.events) }
+        ensures balance { IfOk result (λ rows. All (λ row. row.accepted ≡ row.sent + row.dropped + row.queued) rows.items) }
+    {
+        self.sched.tuple_rows()
     }
 
     /// How many packets wait.
