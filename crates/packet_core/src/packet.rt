@@ -18,7 +18,7 @@ impl Ip {
     ghost use Rattle.packet_core.specs.Packets.{ip_bytes};
 
     /// The address's bytes, the first one first.
-    pub(crate) fn octets(self) -> [u8; 4]
+    pub fn octets(self) -> [u8; 4]
         ensures { result ≡ ip_bytes self }
     {
         let Ip::V4(octets) = self;

@@ -1,9 +1,11 @@
 -- A row of plain fields, as `csv` writes it.
-use Rattle.std.proofs.Common.{◌≡◌, ◌≢◌, ◌<◌, ◌^◌, ℕ, Bool, true, false, List, [], ◌∷◌, length, refl, arith, inl, inr}
+use Rattle.std.proofs.Common.{◌≡◌, ◌≢◌, ◌<◌, ◌^◌, ℕ, Bool, true, false, List, [], ◌∷◌, ◌++◌, ◌∙◌, length, refl, arith, codes, inl, inr}
 use Rattle.std.specs.Prelude.{◌==◌}
 use Rattle.std.specs.Fmt.{decimal}
 use Rattle.std.specs.Char.{digit_value}
+use Rattle.std.specs.List.{AllByRecursion}
 use Rattle.std.specs.Str.Parse.{AllDigits}
+use Rattle.std.proofs.lemmas.List.Folds.{list_any-append}
 use Rattle.std.proofs.lemmas.Bool.{cases_Bool}
 use Rattle.std.proofs.lemmas.Bool.Decides.{Decides-eqb}
 use Rattle.std.proofs.lemmas.Fmt.{decimal_is_IsNumeral}
@@ -14,7 +16,7 @@ use Rattle.packet_core.specs.declared.packet.Ecn.{Ecn}
 use Rattle.packet_core.specs.declared.packet.Ecn.TheVariants.{NotEct, Ect1, Ect0, Ce}
 use Rattle.sched_core.specs.declared.event.Cause.{Cause}
 use Rattle.sched_core.specs.declared.event.Cause.TheVariants.{Codel, Overflow}
-use Rattle.trace_core.specs.Report.{ArePlain, IsPlain, IsPlainRow, behind, cause_name, line_of, state_name}
+use Rattle.trace_core.specs.Report.{ArePlain, IsPlain, IsPlainRow, behind, cause_name, dotted, line_of, state_name}
 use Rattle.trace_core.specs.RowGrammar.{ecn_digit}
 
 differs : (a b : ℕ) → a ≢ b → (a == b) ≡ false
@@ -67,3 +69,13 @@ row_plain (field ∷ []) h =
     let filled = differs (length field) 0 (λ e. omega arith) in
     rw (field-plain field h.1, filled) refl
 row_plain (field ∷ next ∷ rest) h = rw (field-plain field h.1, rest-plain (next ∷ rest) h.2) refl
+
+plain-append : (a b : List ℕ) → IsPlain a → IsPlain b → IsPlain (a ++ b)
+plain-append a b p q = list_any-append (needs_byte (with_flexible default_writer true)) a b ∙ rw (p, q) refl
+
+-- so calls none of numbers that are joined by dots
+pub dotted_plain : (ns : List ℕ) → AllByRecursion (λ n. n < 2 ^ 64) ns → IsPlain (dotted ns)
+dotted_plain [] small = refl
+dotted_plain (n ∷ []) small = decimal_plain n small.0
+dotted_plain (n ∷ next ∷ rest) small =
+    plain-append (decimal n) (codes "." ++ dotted (next ∷ rest)) (decimal_plain n small.0) (plain-append (codes ".") (dotted (next ∷ rest)) refl (dotted_plain (next ∷ rest) small.1))

@@ -8,8 +8,9 @@ use Rattle.std.proofs.lemmas.List.{map-append, take_more}
 use Rattle.sched_core.specs.Runs.{Made, journal_of, outcomes_from}
 use Rattle.sched_core.specs.declared.event.Event.{Event}
 use Rattle.sched_core.specs.declared.run.Outcome.{Outcome}
+use Rattle.sched_core.specs.declared.tuple_rows.TupleRow.{TupleRow}
 use Rattle.trace_core.specs.declared.report.Rows.{Rows}
-use Rattle.trace_core.specs.Report.{Adds, answer_rows, event_row, line_of, lines_of, made_rows}
+use Rattle.trace_core.specs.Report.{Adds, HasText, answer_rows, event_row, line_of, lines_of, made_rows, tuple_row}
 
 -- rows more
 pub lines_more : (text : List ℕ) (rows more : List (List (List ℕ))) → text ++ lines_of (rows ++ more) ≡ (text ++ lines_of rows) ++ lines_of more
@@ -32,15 +33,25 @@ pub if_ok : {A E : Type 0} (r : Result A E) (P Q : A → Type 0) → ((x : A) �
 if_ok (Ok x) P Q f p = f x p
 if_ok (Err e) P Q f p = tt
 
+-- a row more of things that have a row each
+row_more : {X : Type 0} (row_of : X → List (List ℕ)) (text : List ℕ) (xs : List X) (i : ℕ) (d : X) → i < length xs
+    → text ++ lines_of (map row_of (take (i + 1) xs)) ≡ (text ++ lines_of (map row_of (take i xs))) ++ line_of (row_of (get_or xs i d))
+row_more {X} row_of text xs i d within =
+    let x = get_or xs i d in
+    ap (λ (l : List X). text ++ lines_of (map row_of l)) (take_more xs i d within)
+    ∙ ap (λ l. text ++ lines_of l) (map-append row_of (take i xs) (x ∷ []))
+    ∙ lines_more text (map row_of (take i xs)) (row_of x ∷ [])
+    ∙ ap (λ l. (text ++ lines_of (map row_of (take i xs))) ++ l) (one_line (row_of x))
+
+-- a five-tuple's row more
+pub tuple_more : (rows : Rows) (text : List ℕ) (tuples : List TupleRow) (i : ℕ) (d : TupleRow) → i < length tuples
+    → HasText rows ((text ++ lines_of (map tuple_row (take i tuples))) ++ line_of (tuple_row (get_or tuples i d))) → HasText rows (text ++ lines_of (map tuple_row (take (i + 1) tuples)))
+tuple_more rows text tuples i d within h = rw (row_more tuple_row text tuples i d within) h
+
 -- an event's row more
 pub event_more : (text : List ℕ) (events : List Event) (i : ℕ) (event : Event) → i < length events → event ≡ get_or events i event
     → text ++ lines_of (map event_row (take (i + 1) events)) ≡ (text ++ lines_of (map event_row (take i events))) ++ line_of (event_row event)
-event_more text events i event within is =
-    let so_far : take (i + 1) events ≡ take i events ++ event ∷ [] = take_more events i event within ∙ ap (λ (x : Event). take i events ++ x ∷ []) (sym is) in
-    ap (λ (l : List Event). text ++ lines_of (map event_row l)) so_far
-    ∙ ap (λ l. text ++ lines_of l) (map-append event_row (take i events) (event ∷ []))
-    ∙ lines_more text (map event_row (take i events)) (event_row event ∷ [])
-    ∙ ap (λ l. (text ++ lines_of (map event_row (take i events))) ++ l) (one_line (event_row event))
+event_more text events i event within is = rw (← is) at (row_more event_row text events i event within)
 
 -- the rows of an outcome, its own events taken from the journal
 abbrev pub outcome_rows : List Event → Outcome → List (List (List ℕ))

@@ -17,6 +17,9 @@ use Rattle.sched_core.specs.declared.step.MomentFault.TheVariants as moment_faul
 use Rattle.sched_core.specs.declared.step.Refusal.{Refusal}
 use Rattle.sched_core.specs.declared.step.Refusal.TheVariants as refusal
 use Rattle.sched_core.specs.declared.totals.Totals.{Totals}
+use Rattle.sched_core.specs.declared.tuple_rows.TupleRow.{TupleRow}
+use Rattle.sched_core.specs.TupleRows.{tuple_rows}
+use Rattle.packet_core.specs.Packets.{ip_bytes}
 use Rattle.packet_core.specs.declared.flow.Seed.{Seed}
 use Rattle.packet_core.specs.declared.params.ParamFields.{ParamFields}
 use Rattle.sched_core.specs.FairQueues.{FairQueues, no_queues}
@@ -74,6 +77,18 @@ totals_row t =
     codes "totals" ∷ decimal t.accepted ∷ decimal t.accepted_bytes ∷ decimal t.sent ∷ decimal t.sent_bytes ∷ decimal t.dropped_codel
     ∷ decimal t.dropped_overflow ∷ decimal t.dropped_bytes ∷ decimal t.marked ∷ decimal t.queued ∷ decimal t.queued_bytes ∷ state_name t.closed ∷ []
 
+-- numbers with a dot between each two
+abbrev pub dotted : List ℕ → List ℕ
+dotted [] = []
+dotted (n ∷ []) = decimal n
+dotted (n ∷ next ∷ rest) = decimal n ++ (codes "." ++ dotted (next ∷ rest))
+
+-- the fields of the row of a five-tuple
+abbrev pub tuple_row : TupleRow → List (List ℕ)
+tuple_row row =
+    codes "tuple" ∷ decimal row.tuple.proto ∷ dotted (ip_bytes row.tuple.src) ∷ dotted (ip_bytes row.tuple.dst) ∷ decimal row.tuple.sport ∷ decimal row.tuple.dport
+    ∷ decimal row.flow ∷ decimal row.accepted ∷ decimal row.sent ∷ decimal row.dropped ∷ decimal row.queued ∷ []
+
 -- the fields behind a row's first one, each with a comma before it
 unfoldable pub behind : List (List ℕ) → List ℕ
 behind [] = []
@@ -88,9 +103,11 @@ line_of (field ∷ rest) = field ++ behind rest ++ 10 ∷ []
 abbrev pub lines_of : List (List (List ℕ)) → List ℕ
 lines_of rows = flat_map line_of rows
 
--- The report of a run: the rows of each step, in order, and the row of the totals of the whole journal.
+-- The report of a run: the rows of each step, in order, the row of the totals of the whole journal, and the row of each five-tuple, in order
+-- of first acceptance.
 abbrev pub report_of : List Made → List ℕ
-report_of made = lines_of (flat_map made_rows made) ++ line_of (totals_row (statistics (journal_of made)))
+report_of made =
+    (lines_of (flat_map made_rows made) ++ line_of (totals_row (statistics (journal_of made)))) ++ lines_of (map tuple_row (tuple_rows (journal_of made)))
 
 -- The text is the report of a trace with these bytes: that of the run of its steps with a new scheduler of those
 -- parameters and that seed.

@@ -1,16 +1,19 @@
 ghost use Rattle.std.specs.Prelude.{◌≡◌, All, ◌++◌, ◌∷◌, [], ℕ, List, IfOk, OnOk, map, slice_range, string_bytes};
 ghost use Rattle.std.specs.Fmt.{decimal};
 ghost use Rattle.sched_core.specs.Runs.{Made, StandsIn, journal_of, outcomes_from};
+ghost use Rattle.packet_core.specs.Packets.{ip_bytes};
 ghost use Rattle.trace_core.specs.Report as Report;
 ghost use Rattle.trace_core.specs.RowGrammar.{ecn_digit};
 
 use csv::{Writer, WriterBuilder};
-use packet_core::Ecn;
-use sched_core::{Answer, Cause, Event, Memory, MomentFault, Outcome, Ran, Refusal, Totals};
+use packet_core::{Ecn, Ip};
+use sched_core::{
+    Answer, Cause, Event, Memory, MomentFault, Outcome, Ran, Refusal, Totals, TupleRow,
+};
 use std::alloc::{AllocError, Global};
 
-/// The report of a run, as text: the rows of each step, in order, and the row of the totals. It answers Err
-/// where a growth is refused.
+/// The report of a run, as text: the rows of each step, in order, the row of the totals, and a row for each
+/// five-tuple. It answers Err where a growth is refused.
 pub(crate) fn report_of(alloc: Global, ran: &Ran) -> Result<Vec<u8>, Memory>
     requires { All (StandsIn ran.now.engine.sched.standing.events) ran.now.outcomes.items }
     ensures { IfOk result (λ text. (made : List Made) → ran.now.engine.sched.standing.events ≡ journal_of made → ran.now.outcomes.items ≡ outcomes_from 0 made → text.items ≡ Report.report_of made) }
@@ -20,6 +23,8 @@ pub(crate) fn report_of(alloc: Global, ran: &Ran) -> Result<Vec<u8>, Memory>
         rows.outcome(outcome, own_events(ran.engine.events(), outcome))?;
     }
     rows.totals(&ran.engine.totals())?;
+    let tuple_rows = ran.engine.tuple_rows()?;
+    rows.tuples(&tuple_rows)?;
     rows.into_text()
 }
 
@@ -169,6 +174,62 @@ impl Rows {
             queued_bytes.as_bytes(),
             state_name(totals.closed),
         ])
+    }
+
+    /// The rows of five-tuples.
+    fn tuples(&mut self, tuples: &[TupleRow]) -> Result<(), Memory>
+        ensures { OnOk result (Report.Adds self.old self.new (Report.lines_of (map Report.tuple_row tuples.now))) }
+    {
+        for row in tuples {
+            self.tuple(row)?;
+        }
+        Ok(())
+    }
+
+    /// The row of a five-tuple.
+    fn tuple(&mut self, row: &TupleRow) -> Result<(), Memory>
+        ensures { OnOk result (Report.Adds self.old self.new (Report.line_of (Report.tuple_row row.now))) }
+    {
+        let proto = self.decimal(u64::from(row.tuple.proto))?;
+        let src = self.address(row.tuple.src)?;
+        let dst = self.address(row.tuple.dst)?;
+        let sport = self.decimal(u64::from(row.tuple.sport))?;
+        let dport = self.decimal(u64::from(row.tuple.dport))?;
+        let flow = self.decimal(u64::from(row.flow))?;
+        let accepted = self.decimal(row.accepted)?;
+        let sent = self.decimal(row.sent)?;
+        let dropped = self.decimal(row.dropped)?;
+        let queued = self.decimal(row.queued)?;
+        self.row(&[
+            b"tuple",
+            proto.as_bytes(),
+            src.as_bytes(),
+            dst.as_bytes(),
+            sport.as_bytes(),
+            dport.as_bytes(),
+            flow.as_bytes(),
+            accepted.as_bytes(),
+            sent.as_bytes(),
+            dropped.as_bytes(),
+            queued.as_bytes(),
+        ])
+    }
+
+    /// An address, as four numbers with a dot between each two.
+    fn address(&self, address: Ip) -> Result<String, Memory>
+        ensures text { IfOk result (λ text. string_bytes text ≡ Report.dotted (ip_bytes address)) }
+        ensures plain { IfOk result (λ text. Report.IsPlain (string_bytes text)) }
+    {
+        let [first, second, third, fourth] = address.octets();
+        self.dotted(first, second, third, fourth)
+    }
+
+    /// Four numbers with a dot between each two.
+    fn dotted(&self, first: u8, second: u8, third: u8, fourth: u8) -> Result<String, Memory>
+        ensures text { IfOk result (λ text. string_bytes text ≡ Report.dotted (first ∷ second ∷ third ∷ fourth ∷ [])) }
+        ensures plain { IfOk result (λ text. Report.IsPlain (string_bytes text)) }
+    {
+        format!(in self.alloc; "{first}.{second}.{third}.{fourth}")
     }
 }
 

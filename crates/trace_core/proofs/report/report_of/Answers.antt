@@ -20,7 +20,7 @@ pub returns : goal.returns
 returns c =
     let items = c.deref-outcome-items.ensures.value in
     let all : take c.loop-outcome.outcome-index c.args.ran.now.outcomes.items ≡ c.args.ran.now.outcomes.items = take_all _ _ (grind (arith, common_steps, items)) in
-    if_ok c.into_text.result (λ text. (written : List ℕ) → HasText c.totals-2.new.self written → text.items ≡ written)
+    if_ok c.into_text.result (λ text. (written : List ℕ) → HasText c.tuples.new.self written → text.items ≡ written)
     (λ text. (made : List Made) → c.args.ran.now.engine.sched.standing.events ≡ journal_of made → c.args.ran.now.outcomes.items ≡ outcomes_from 0 made → text.items ≡ Report.report_of made)
-    (λ text told made journal outcomes. rw (all, c.totals.ensures.value, journal, outcomes, run_rows made) at (told _ (c.in_ok-totals.ensures _ c.loop-outcome.invariant)))
+    (λ text told made journal outcomes. rw (all, c.totals.ensures.value, c.deref.ensures.value, c.in_ok-tuple_rows.ensures.rows, journal, outcomes, run_rows made) at (told _ (c.in_ok-tuples.ensures _ (c.in_ok-totals.ensures _ c.loop-outcome.invariant))))
     c.into_text.ensures
