@@ -33,7 +33,8 @@ fn packets_that_wait_too_long_are_dropped(rt: HostRuntime) -> Result<(), Fail> {
          sent,4,0\n\
          sent,5,0\n\
          idle\n\
-         totals,6,6000,4,4000,2,0,2000,0,0,0,open\n",
+         totals,6,6000,4,4000,2,0,2000,0,0,0,open\n\
+         tuple,17,10.0.0.1,10.0.0.2,5000,53,0,6,4,2,0\n",
     )
 }
 
@@ -69,7 +70,8 @@ fn packets_are_marked_where_the_sender_takes_part(rt: HostRuntime) -> Result<(),
          sent,4,3\n\
          sent,5,2\n\
          sent,6,2\n\
-         totals,7,7000,7,7000,0,0,0,3,0,0,open\n",
+         totals,7,7000,7,7000,0,0,0,3,0,0,open\n\
+         tuple,17,10.0.0.1,10.0.0.2,5000,53,0,7,7,0,0\n",
     )
 }
 
@@ -93,6 +95,7 @@ fn packets_that_wait_just_below_the_target_are_sent(rt: HostRuntime) -> Result<(
          sent,0,0\n\
          sent,1,0\n\
          sent,2,0\n\
-         totals,5,5000,3,3000,0,0,0,0,2,2000,open\n",
+         totals,5,5000,3,3000,0,0,0,0,2,2000,open\n\
+         tuple,17,10.0.0.1,10.0.0.2,5000,53,0,5,3,0,2\n",
     )
 }

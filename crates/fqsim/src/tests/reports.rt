@@ -25,7 +25,8 @@ fn closing_refuses_later_packets(rt: HostRuntime) -> Result<(), Fail> {
          refused,closed\n\
          sent,0,0\n\
          refused,closed\n\
-         totals,1,1000,1,1000,0,0,0,0,0,0,closed\n",
+         totals,1,1000,1,1000,0,0,0,0,0,0,closed\n\
+         tuple,17,10.0.0.1,10.0.0.2,5000,53,0,1,1,0,0\n",
     )
 }
 
@@ -41,7 +42,8 @@ fn backwards_refused(rt: HostRuntime) -> Result<(), Fail> {
          refused,backwards,10\n\
          refused,backwards,10\n\
          sent,0,0\n\
-         totals,1,1000,1,1000,0,0,0,0,0,0,open\n",
+         totals,1,1000,1,1000,0,0,0,0,0,0,open\n\
+         tuple,17,10.0.0.1,10.0.0.2,5000,53,0,1,1,0,0\n",
     )
 }
 
@@ -61,7 +63,9 @@ fn equal_moments_accepted(rt: HostRuntime) -> Result<(), Fail> {
          sent,1,0\n\
          idle\n\
          closed\n\
-         totals,2,300,2,300,0,0,0,0,0,0,closed\n",
+         totals,2,300,2,300,0,0,0,0,0,0,closed\n\
+         tuple,17,10.0.0.1,10.0.0.2,5000,53,0,1,1,0,0\n\
+         tuple,6,10.0.0.3,10.0.0.4,0,0,0,1,1,0,0\n",
     )
 }
 
@@ -79,7 +83,8 @@ fn refused_step_keeps_time(rt: HostRuntime) -> Result<(), Fail> {
          refused,backwards,6\n\
          refused,closed\n\
          sent,0,0\n\
-         totals,1,1000,1,1000,0,0,0,0,0,0,closed\n",
+         totals,1,1000,1,1000,0,0,0,0,0,0,closed\n\
+         tuple,17,10.0.0.1,10.0.0.2,5000,53,0,1,1,0,0\n",
     )
 }
 
@@ -93,7 +98,8 @@ fn waiting_packets_are_counted(rt: HostRuntime) -> Result<(), Fail> {
         "accepted,0,0\n\
          accepted,1,0\n\
          sent,0,0\n\
-         totals,2,65635,1,100,0,0,0,0,1,65535,open\n",
+         totals,2,65635,1,100,0,0,0,0,1,65535,open\n\
+         tuple,17,10.0.0.1,10.0.0.2,5000,53,0,2,1,0,1\n",
     )
 }
 
@@ -117,6 +123,7 @@ fn sent_rows_tell_the_ecn_field(rt: HostRuntime) -> Result<(), Fail> {
          sent,1,1\n\
          sent,2,2\n\
          sent,3,3\n\
-         totals,4,40,4,40,0,0,0,0,0,0,open\n",
+         totals,4,40,4,40,0,0,0,0,0,0,open\n\
+         tuple,17,10.0.0.1,10.0.0.2,5000,53,0,4,4,0,0\n",
     )
 }

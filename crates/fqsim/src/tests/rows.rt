@@ -3,13 +3,14 @@ use std::alloc::{AllocError, Global};
 use std::test::Fail;
 
 /// What a trace of one packet and one dequeue gives.
-const ONE_PACKET: &str = "accepted,0,0\nsent,0,2\ntotals,1,1000,1,1000,0,0,0,0,0,0,open\n";
+const ONE_PACKET: &str = "accepted,0,0\nsent,0,2\ntotals,1,1000,1,1000,0,0,0,0,0,0,open\n\
+    tuple,17,10.0.0.1,10.0.0.2,5000,53,0,1,1,0,0\n";
 
 #[test]
 fn leading_zeros_are_read(rt: HostRuntime) -> Result<(), Fail> {
     expect_report(
         &rt,
-        "enq,000000000000000000000000000000000000000000000000000000000000000000005,0000000000000000000000006,\
+        "enq,000000000000000000000000000000000000000000000000000000000000000000005,00000000000000000000000017,\
          10.0.0.1,10.0.0.2,00000000000000000000000000000005000,0000053,000000000000000000000001000,2\n\
          deq,0005\n",
         ONE_PACKET,
@@ -26,7 +27,8 @@ fn greatest_numbers_are_read(rt: HostRuntime) -> Result<(), Fail> {
         "accepted,0,0\n\
          refused,backwards,1152921504606846975\n\
          sent,0,3\n\
-         totals,1,65535,1,65535,0,0,0,0,0,0,open\n",
+         totals,1,65535,1,65535,0,0,0,0,0,0,open\n\
+         tuple,255,255.255.255.255,0.0.0.0,65535,65535,0,1,1,0,0\n",
     )
 }
 
@@ -35,7 +37,8 @@ fn least_numbers_are_read(rt: HostRuntime) -> Result<(), Fail> {
     expect_report(
         &rt,
         "enq,0,0,0.0.0.0,0.0.0.0,0,0,1,0\ndeq,0\n",
-        "accepted,0,0\nsent,0,0\ntotals,1,1,1,1,0,0,0,0,0,0,open\n",
+        "accepted,0,0\nsent,0,0\ntotals,1,1,1,1,0,0,0,0,0,0,open\n\
+         tuple,0,0.0.0.0,0.0.0.0,0,0,0,1,1,0,0\n",
     )
 }
 
