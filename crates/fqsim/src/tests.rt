@@ -6,6 +6,7 @@ mod rows;
 mod schedulers;
 mod steps;
 mod streams;
+mod tuple_rows;
 mod turns;
 mod verdicts;
 mod words;

@@ -23,14 +23,14 @@ use Rattle.sched_core.proofs.Histories.{bytes_stay}
 use Rattle.sched_core.proofs.Lines.{AreFound}
 
 -- what holds of each fate's id holds of those sent, and of those dropped
-sent_among : (P : ℕ → Type 0) (events : List Event) → AllByRecursion P (fate_ids events) → AllByRecursion P (filter_map sent_of events)
+pub sent_among : (P : ℕ → Type 0) (events : List Event) → AllByRecursion P (fate_ids events) → AllByRecursion P (filter_map sent_of events)
 sent_among P [] h = tt
 sent_among P (Accepted id moment lane flow packet ∷ events) h = sent_among P events h
 sent_among P (Sent id moment ecn mark ∷ events) h = (h.0, sent_among P events h.1)
 sent_among P (Dropped id moment cause ∷ events) h = sent_among P events h.1
 sent_among P (Closed moment ∷ events) h = sent_among P events h
 
-dropped_among : (P : ℕ → Type 0) (events : List Event) → AllByRecursion P (fate_ids events) → AllByRecursion P (filter_map dropped_of events)
+pub dropped_among : (P : ℕ → Type 0) (events : List Event) → AllByRecursion P (fate_ids events) → AllByRecursion P (filter_map dropped_of events)
 dropped_among P [] h = tt
 dropped_among P (Accepted id moment lane flow packet ∷ events) h = dropped_among P events h
 dropped_among P (Sent id moment ecn mark ∷ events) h = dropped_among P events h.1

@@ -4,6 +4,7 @@ use Rattle.std.proofs.Common.{◌≡◌, ℕ, zero, suc, ◌+◌, ◌*◌, ◌<�
 use Rattle.std.proofs.Math.Nat.{mul-le-mul, mul-le-mul_right}
 use Rattle.std.proofs.lemmas.Bool.Decides.{leb_tells}
 use Rattle.packet_core.specs.Params.{standard_fields}
+use Rattle.packet_core.specs.declared.params.Classify.TheVariants.{Dport}
 use Rattle.packet_core.specs.declared.params.EcnUse.{EcnUse}
 use Rattle.packet_core.specs.declared.params.ParamFields.{ParamFields}
 use Rattle.codel_core.specs.Schedule.{greatest_root, spacing_of}
@@ -54,7 +55,7 @@ milliseconds_right (suc (suc (suc (suc n)))) = refl
 
 -- one flow and the standard parameters otherwise
 abbrev pub one_flow : EcnUse → ParamFields
-one_flow ecn = record standard_fields { flows = 1; ecn = ecn }
+one_flow ecn = record standard_fields { flows = 1; ecn = ecn; classify = Dport }
 
 abbrev pub standard_spacings : (ecn : EcnUse) → Spacings (one_flow ecn)
 standard_spacings ecn = record { spacing = spacing_in_milliseconds; right = milliseconds_right }

@@ -1,6 +1,7 @@
 -- Worked examples of the turns, by computation: which flow is looked at, whose credits are used up, and in how many turns.
 use Rattle.std.proofs.Common.{[], ◌∷◌, refl}
 use Rattle.packet_core.specs.Params.{standard_fields}
+use Rattle.packet_core.specs.declared.params.Classify.TheVariants.{Dport}
 use Rattle.packet_core.specs.declared.flow.Seed.{Seed}
 use Rattle.packet_core.specs.declared.params.EcnUse.TheVariants.{Drop}
 use Rattle.packet_core.specs.declared.params.ParamFields.{ParamFields}
@@ -9,7 +10,7 @@ use Rattle.sched_core.proofs.ExamplesRun.{MakesTurns, RunGives, RunLeaves, accep
 
 -- four flows with a quantum of 300 bytes, and no marks
 abbrev small_quantum : ParamFields
-small_quantum = record standard_fields { flows = 4; quantum = 300; ecn = Drop }
+small_quantum = record standard_fields { flows = 4; quantum = 300; ecn = Drop; classify = Dport }
 
 -- The first packet uses up the credits of flow 1, and flow 2 may send twice before flow 1 has credits again.
 small_quantum_two_flows : (seed : Seed)

@@ -3,13 +3,13 @@ use Rattle.std.proofs.Common.{◌≡◌, ℕ, zero, suc, ◌+◌, ◌<◌, ◌�
 use Rattle.std.proofs.lemmas.List.{length-replicate, length-set}
 use Rattle.std.proofs.lemmas.List.Elements.{recursion_from_All}
 use Rattle.std.proofs.lemmas.Nat.{mod_below}
-use Rattle.packet_core.specs.FlowNumber.{flow_number}
+use Rattle.packet_core.specs.FlowNumber.{flow_number, hash_value, hashed_message}
 use Rattle.packet_core.specs.Params.{AreInRange}
 use Rattle.packet_core.specs.declared.flow.Seed.{Seed}
 use Rattle.packet_core.specs.declared.packet.FiveTuple.{FiveTuple}
 use Rattle.packet_core.specs.declared.packet.Waiting.{Waiting}
 use Rattle.packet_core.specs.declared.params.Classify.{Classify}
-use Rattle.packet_core.specs.declared.params.Classify.TheVariants.{Dport}
+use Rattle.packet_core.specs.declared.params.Classify.TheVariants.{Dport, Hash}
 use Rattle.packet_core.specs.declared.params.ParamFields.{ParamFields}
 use Rattle.codel_core.specs.Queue.{bytes_of}
 use Rattle.flow_core.specs.FlowLists.{queue_at, waiting_in}
@@ -77,6 +77,7 @@ module _ (p : Policy) (drops : DropsFromHeads p) where
     runs_as_many old new (step ∷ steps) (m ∷ made) r = runs_as_many r.0 new steps made r.2 ∙ steps_as_many old r.0 step m.answer m.events r.1
 
 pub flow_below : (classify : Classify) (flows : ℕ) (seed : Seed) (tuple : FiveTuple) → 0 < flows → flow_number classify flows seed tuple < flows
+flow_below Hash flows seed tuple some = mod_below (hash_value (hashed_message seed tuple)) flows some
 flow_below Dport flows seed tuple some = mod_below tuple.dport flows some
 
 module _ (p : ParamFields) (seed : Seed) where

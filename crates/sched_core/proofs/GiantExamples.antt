@@ -3,6 +3,7 @@
 use Rattle.std.proofs.Common.{◌≡◌, ℕ, zero, suc, false, List, [], ◌∷◌, Some, ℤ, pos, negsuc, ◌+ℤ◌, ◌≤ℤ◌, refl, ap, subst, inr, arith}
 use Rattle.std.proofs.lemmas.Int.{ints}
 use Rattle.packet_core.specs.Params.{standard_fields}
+use Rattle.packet_core.specs.declared.params.Classify.TheVariants.{Dport}
 use Rattle.packet_core.specs.declared.flow.Seed.{Seed}
 use Rattle.packet_core.specs.declared.packet.Waiting.{Waiting}
 use Rattle.packet_core.specs.declared.params.EcnUse.TheVariants.{Drop}
@@ -22,7 +23,7 @@ use Rattle.sched_core.proofs.ExamplesComputed.{walk_is}
 use Rattle.sched_core.proofs.ExamplesRun.{MakesTurns, RunGives, RunLeaves, accepts, arrives, as_defined, packet_to, run_is, run_leaves, run_turns, runs_then, sends}
 
 abbrev one_byte : ParamFields
-one_byte = record standard_fields { flows = 1; quantum = 1; ecn = Drop }
+one_byte = record standard_fields { flows = 1; quantum = 1; ecn = Drop; classify = Dport }
 
 -- the packet that waits when the first is sent
 abbrev second : Waiting

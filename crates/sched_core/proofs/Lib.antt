@@ -39,3 +39,8 @@ pub mod GiantExamples
 pub mod ShortPackets
 pub mod OneRun
 pub mod Refused
+pub mod Storing
+pub mod FirstOfEach
+pub mod TupleCounts
+pub mod Tallying
+pub mod Beginnings

@@ -2,6 +2,7 @@
 use Rattle.std.proofs.Common.{◌≡◌, ℕ, List, [], ◌∷◌, ◌++◌, map, replicate, refl}
 use Rattle.std.specs.List.{range_with_len}
 use Rattle.packet_core.specs.Params.{standard_fields}
+use Rattle.packet_core.specs.declared.params.Classify.TheVariants.{Dport}
 use Rattle.packet_core.specs.declared.flow.Seed.{Seed}
 use Rattle.packet_core.specs.declared.packet.Waiting.{Waiting}
 use Rattle.packet_core.specs.declared.params.EcnUse.TheVariants.{Drop}
@@ -16,7 +17,7 @@ use Rattle.sched_core.proofs.ExamplesRun.{MakesTurns, RunGives, RunLeaves, accep
 
 -- four flows with that limit, and no marks
 abbrev limited : ℕ → ParamFields
-limited limit = record standard_fields { limit = limit; flows = 4; ecn = Drop }
+limited limit = record standard_fields { limit = limit; flows = 4; ecn = Drop; classify = Dport }
 
 -- an acceptance after which those packets are dropped
 abbrev accepts_over : ℕ → ℕ → ℕ → List ℕ → Made
@@ -46,7 +47,7 @@ tie_second_turns seed = run_turns (limited 1) (as_defined (limited 1)) seed _ 0 
 
 -- one flow with a limit of 200 packets, and no marks
 abbrev one_flow : ParamFields
-one_flow = record standard_fields { limit = 200; flows = 1; ecn = Drop }
+one_flow = record standard_fields { limit = 200; flows = 1; ecn = Drop; classify = Dport }
 
 -- The packet past the limit finds 201, half of which are more than a batch: 64 are dropped, and 137 wait.
 batch_of_sixty_four : (seed : Seed)

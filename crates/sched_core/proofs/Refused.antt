@@ -14,7 +14,7 @@ use Rattle.sched_core.specs.Runs.{Made, Runs, is_refused, steps_made, given_by_m
 
 module _ {Q : Type 0} (d : Discipline Q) where
   -- a step that is made isn't answered as refused
-  made_answer : (old new : State Q) (step : Step) (said : Answer) (events : List Event) → Makes d old step said events new → is_refused said ≡ false
+  pub made_answer : (old new : State Q) (step : Step) (said : Answer) (events : List Event) → Makes d old step said events new → is_refused said ≡ false
   made_answer old new (Enqueue moment lane packet) said events m = ap is_refused m.0
   made_answer old new (Dequeue moment) said events m = ap is_refused m.1 ∙ answered m.0
     where

@@ -29,7 +29,7 @@ places made = All-from_recursion (StandsIn (journal_of made)) (outcomes_from 0 m
 
 module _ {Q : Type 0} (d : Discipline Q) where
   -- a run goes on by a step
-  runs_push : (old mid new : State Q) (steps : List Step) (made : List Made) (step : Step) (m : Made) → Runs d old steps made mid → Steps d mid step m.answer m.events new → Runs d old (steps ++ step ∷ []) (made ++ m ∷ []) new
+  pub runs_push : (old mid new : State Q) (steps : List Step) (made : List Made) (step : Step) (m : Made) → Runs d old steps made mid → Steps d mid step m.answer m.events new → Runs d old (steps ++ step ∷ []) (made ++ m ∷ []) new
   runs_push old mid new [] [] step m r s = (new, subst (λ (x : State Q). Steps d x step m.answer m.events new) r s, refl)
   runs_push old mid new [] (x ∷ made) step m r s = absurd r
   runs_push old mid new (x ∷ steps) [] step m r s = absurd r
@@ -43,7 +43,7 @@ module _ {Q : Type 0} (d : Discipline Q) where
       let e : at + length x.events + length (journal_of made) ≡ at + length (x.events ++ journal_of made) = omega (arith, length-append x.events (journal_of made)) in
       ap (λ r. record { answer = x.answer; first_event = at; end_event = at + length x.events } ∷ r) (outcomes_push (at + length x.events) made m ∙ rw e)
 
-  journal_push : (made : List Made) (m : Made) → journal_of (made ++ m ∷ []) ≡ journal_of made ++ m.events
+  pub journal_push : (made : List Made) (m : Made) → journal_of (made ++ m ∷ []) ≡ journal_of made ++ m.events
   journal_push made m = flat_map-append (λ (x : Made). x.events) made (m ∷ []) ∙ ap (λ r. journal_of made ++ r) (append-nil m.events)
 
   -- the run of the steps so far goes on by the next of them

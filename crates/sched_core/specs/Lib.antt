@@ -16,6 +16,8 @@ pub mod Runs
 pub mod Happened
 pub mod JournalLaws
 pub mod Statistics
+pub mod TupleRows
+pub mod Tallies
 pub mod Books
 pub mod Fating
 pub mod Calls
@@ -23,3 +25,5 @@ pub mod History
 pub mod Schedulers
 pub mod Shown
 pub mod Kept
+pub mod Engines
+pub mod Stored

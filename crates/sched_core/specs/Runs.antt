@@ -1,4 +1,4 @@
-use Rattle.std.specs.Prelude.{◌≡◌, ℕ, ◌+◌, ◌≤◌, Bool, true, false, not, List, [], ◌∷◌, ◌++◌, length, filter, if◌then◌else◌}
+use Rattle.std.specs.Prelude.{◌≡◌, ℕ, ◌+◌, ◌≤◌, Bool, true, false, not, List, [], ◌∷◌, ◌++◌, All, length, filter, if◌then◌else◌}
 use Rattle.std.specs.List.{flat_map}
 use Rattle.sched_core.specs.declared.step.Step.{Step}
 use Rattle.sched_core.specs.declared.event.Event.{Event}
@@ -62,6 +62,23 @@ pub record IsRun {Q : Type 0} (d : Discipline Q) (steps : List Step) (sched : St
   pub runs : Runs d (opening_state d.opening) steps made sched.state
   pub journal : sched.events ≡ journal_of made
   pub told : outcomes ≡ outcomes_from 0 made
+
+-- A scheduler is that of the run of the steps, none of which is refused.
+pub record IsRunOf {Q : Type 0} (d : Discipline Q) (steps : List Step) (sched : Standing Q) : Type 0 where
+  pub made : List Made
+  pub runs : Runs d (opening_state d.opening) steps made sched.state
+  pub journal : sched.events ≡ journal_of made
+  pub none_refused : All (λ m. is_refused m.answer ≡ false) made
+
+-- the step alone, or nothing where it was refused
+abbrev pub unless_refused : Answer → Step → List Step
+unless_refused said step = if is_refused said then [] else step ∷ []
+
+-- the steps that weren't refused, in order, by their outcomes
+abbrev pub steps_kept : List Step → List Outcome → List Step
+steps_kept [] outcomes = []
+steps_kept (step ∷ steps) [] = []
+steps_kept (step ∷ steps) (o ∷ outcomes) = unless_refused o.answer step ++ steps_kept steps outcomes
 
 -- The outcome's places lie in the journal, the first not behind the end.
 pub record StandsIn (events : List Event) (o : Outcome) : Type 0 where

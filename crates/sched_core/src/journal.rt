@@ -87,6 +87,11 @@ impl Journal {
         &self.events
     }
 
+    /// Where its memory comes from.
+    pub(crate) fn allocator(&self) -> Global {
+        *self.events.allocator()
+    }
+
     pub(crate) fn counts(&self) -> Counts
         ensures { result ≡ self.now.counts }
     {

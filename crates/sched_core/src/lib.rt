@@ -3,6 +3,7 @@
 
 mod account;
 mod backlog;
+mod engine;
 mod event;
 mod fates;
 mod flow_view;
@@ -12,11 +13,14 @@ mod run;
 mod sched;
 mod step;
 mod totals;
+mod tuple_rows;
 
 pub use codel_core::Mark;
+pub use engine::Engine;
 pub use event::{Cause, Event};
 pub use flow_view::FlowView;
 pub use run::{Answer, Outcome, Ran, run_steps};
 pub use sched::{MAX_ACCEPTED, MAX_MOMENT, Sched};
 pub use step::{Admitted, CloseFault, Memory, MomentFault, Refusal, Sent, Step};
 pub use totals::Totals;
+pub use tuple_rows::TupleRow;

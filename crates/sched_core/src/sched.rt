@@ -1,4 +1,4 @@
-ghost use Rattle.std.specs.Prelude.{◌≡◌, ◌≢◌, ◌+◌, ◌-◌, ◌<◌, ◌≤◌, max, Some, None, IfOk, IfErr, MatchResult, OnOk, OnErr};
+ghost use Rattle.std.specs.Prelude.{◌≡◌, ◌≢◌, ◌+◌, ◌-◌, ◌<◌, ◌≤◌, max, All, Some, None, IfOk, IfErr, MatchResult, OnOk, OnErr};
 ghost use Rattle.sched_core.specs.State.{moment_fault_of, Tests};
 
 use crate::backlog::Backlog;
@@ -7,6 +7,7 @@ use crate::flow_view::FlowView;
 use crate::journal::Journal;
 use crate::step::{Admitted, CloseFault, Memory, MomentFault, Refusal, Sent};
 use crate::totals::Totals;
+use crate::tuple_rows::{TupleRow, gather_rows};
 use codel_core::Served;
 use packet_core::{Packet, Params, Seed, Waiting, flow_of};
 use std::alloc::Global;
@@ -19,7 +20,7 @@ pub const MAX_MOMENT: u64 = 1 << 60;
 pub const MAX_ACCEPTED: u64 = 1 << 40;
 
 /// Whether a step may be made at that moment, the last one being `last`.
-fn test_moment(moment: u64, last: u64) -> Result<(), MomentFault>
+pub(crate) fn test_moment(moment: u64, last: u64) -> Result<(), MomentFault>
     ensures { Tests (moment_fault_of moment last) result }
 {
     if moment >= MAX_MOMENT {
@@ -77,6 +78,7 @@ impl Sched {
     ghost use Rattle.sched_core.specs.Shown.{flow_shown};
     ghost use Rattle.sched_core.specs.State.{enqueue_refusal_of, refusal_of, IsRefusal};
     ghost use Rattle.sched_core.specs.Statistics.{statistics};
+    ghost use Rattle.sched_core.specs.TupleRows.{tuple_rows};
     ghost use Rattle.sched_core.specs.declared.step.Step.TheVariants.{Enqueue, Dequeue, Close};
     ghost use Rattle.sched_core.specs.declared.run.Answer.TheVariants as answer;
     ghost use Rattle.sched_core.specs.declared.step.Refusal.TheVariants as refusal;
@@ -262,6 +264,15 @@ impl Sched {
         }
     }
 
+    /// What became of the packets of each five-tuple, in order of first acceptance. It goes once through the journal,
+    /// and fails for want of memory alone.
+    pub fn tuple_rows(&self) -> Result<Vec<TupleRow>, Memory>
+        ensures rows { IfOk result (λ rows. rows.items ≡ tuple_rows self.now.standing.events) }
+        ensures balance { IfOk result (λ rows. All (λ row. row.accepted ≡ row.sent + row.dropped + row.queued) rows.items) }
+    {
+        gather_rows(self.journal.allocator(), self.events())
+    }
+
     /// How many packets wait.
     pub fn queued(&self) -> u64
         ensures value { result ≡ waiting_in (flows_of self.now).lists }
@@ -287,7 +298,7 @@ impl Sched {
     }
 
     /// Why an enqueue at that moment is refused, if it is, apart from want of memory.
-    fn test_enqueue(&self, moment: u64) -> Result<(), Refusal>
+    pub(crate) fn test_enqueue(&self, moment: u64) -> Result<(), Refusal>
         ensures { Tests (enqueue_refusal_of self.now.standing.state moment) result }
     {
         test_moment(moment, self.last_moment)?;
@@ -301,7 +312,7 @@ impl Sched {
     }
 
     /// Why a close at that moment is refused, if it is.
-    fn test_close(&self, moment: u64) -> Result<(), CloseFault>
+    pub(crate) fn test_close(&self, moment: u64) -> Result<(), CloseFault>
         ensures { MatchResult result (λ _. refusal_of self.now.standing.state (Close moment) ≡ None) (λ fault. refusal_of self.now.standing.state (Close moment) ≡ Some (close_refusal fault)) }
     {
         test_moment(moment, self.last_moment)?;

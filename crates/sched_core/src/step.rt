@@ -1,6 +1,7 @@
 ghost use Rattle.std.specs.Prelude.{◌≡◌};
 ghost use Rattle.sched_core.specs.declared.step.Refusal.TheVariants.{Moment, Memory};
 ghost use Rattle.sched_core.specs.declared.step.CloseFault.TheVariants as close_fault;
+ghost use Rattle.sched_core.specs.Calls.{close_refusal};
 
 use codel_core::Mark;
 use packet_core::Packet;
@@ -112,6 +113,17 @@ impl<T: Drop> From<AllocFailed<T>> for Refusal {
 
     fn from(_: AllocFailed<T>) -> Refusal {
         Refusal::Memory
+    }
+}
+
+impl From<CloseFault> for Refusal {
+    ghost from_gives = { λ fault r. r ≡ close_refusal fault };
+
+    fn from(fault: CloseFault) -> Refusal {
+        match fault {
+            CloseFault::Moment(fault) => Refusal::Moment(fault),
+            CloseFault::ClosedAlready => Refusal::ClosedAlready,
+        }
     }
 }
 

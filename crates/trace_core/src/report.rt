@@ -12,14 +12,14 @@ use std::alloc::{AllocError, Global};
 /// The report of a run, as text: the rows of each step, in order, and the row of the totals. It answers Err
 /// where a growth is refused.
 pub(crate) fn report_of(alloc: Global, ran: &Ran) -> Result<Vec<u8>, Memory>
-    requires { All (StandsIn ran.now.sched.standing.events) ran.now.outcomes.items }
-    ensures { IfOk result (λ text. (made : List Made) → ran.now.sched.standing.events ≡ journal_of made → ran.now.outcomes.items ≡ outcomes_from 0 made → text.items ≡ Report.report_of made) }
+    requires { All (StandsIn ran.now.engine.sched.standing.events) ran.now.outcomes.items }
+    ensures { IfOk result (λ text. (made : List Made) → ran.now.engine.sched.standing.events ≡ journal_of made → ran.now.outcomes.items ≡ outcomes_from 0 made → text.items ≡ Report.report_of made) }
 {
     let mut rows = Rows::new(alloc);
     for outcome in &ran.outcomes {
-        rows.outcome(outcome, own_events(ran.sched.events(), outcome))?;
+        rows.outcome(outcome, own_events(ran.engine.events(), outcome))?;
     }
-    rows.totals(&ran.sched.totals())?;
+    rows.totals(&ran.engine.totals())?;
     rows.into_text()
 }
 

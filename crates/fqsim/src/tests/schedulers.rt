@@ -1,4 +1,4 @@
-use packet_core::{Ecn, EcnUse, FiveTuple, Ip, Packet, ParamFields, Params, Seed};
+use packet_core::{Classify, Ecn, EcnUse, FiveTuple, Ip, Packet, ParamFields, Params, Seed};
 use sched_core::{
     Admitted, Cause, CloseFault, Event, Mark, MomentFault, Refusal, Sched, Sent, Totals,
 };
@@ -8,11 +8,12 @@ use std::test::Fail;
 /// The destination port where there is one flow.
 pub(super) const PORT: u16 = 53;
 
-/// Standard parameters for one flow, without marks.
+/// Standard parameters for one flow, without marks, and flows by the destination port.
 pub(super) fn one_flow() -> ParamFields {
     let mut fields = ParamFields::standard();
     fields.flows = 1;
     fields.ecn = EcnUse::Drop;
+    fields.classify = Classify::Dport;
     fields
 }
 

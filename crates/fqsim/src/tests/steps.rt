@@ -48,7 +48,7 @@ fn run_steps_gives_own_events(rt: HostRuntime) -> Result<(), Fail> {
         assert_eq!(rt; outcome.first_event, first_event);
         assert_eq!(rt; outcome.end_event, end_event);
     }
-    assert_eq!(rt; ran.sched.events().len(), 3);
+    assert_eq!(rt; ran.engine.events().len(), 3);
     Ok(())
 }
 

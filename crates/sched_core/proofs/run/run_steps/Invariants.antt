@@ -1,8 +1,13 @@
-use Rattle.std.proofs.Common.{◌≡◌, take}
+use Rattle.std.proofs.Common.{◌≡◌, length, take}
 use Rattle.sched_core.specs.FqCodel.{fq_codel}
-use Rattle.sched_core.specs.Runs.{IsRun}
+use Rattle.sched_core.specs.Runs.{IsRun, steps_kept}
 use Rattle.sched_core.proofs.run.run_steps.Given as goal
 
--- the outcomes so far are those of the steps so far
+-- the outcomes so far are those of the steps so far, and those of them that weren't refused are stored
 abbrev pub invariant-loop-step : goal.invariant-loop-step
-invariant-loop-step l = (IsRun (fq_codel l.fn.params l.fn.seed) (take l.step-index l.steps) l.sched.standing l.outcomes.items) × (l.sched.params ≡ l.fn.params) × (l.sched.seed ≡ l.fn.seed)
+invariant-loop-step l =
+    (IsRun (fq_codel l.fn.params l.fn.seed) (take l.step-index l.steps) l.engine.sched.standing l.outcomes.items)
+    × (l.engine.sched.params ≡ l.fn.params)
+    × (l.engine.sched.seed ≡ l.fn.seed)
+    × (length l.outcomes.items ≡ l.step-index)
+    × (l.engine.steps ≡ steps_kept (take l.step-index l.steps) l.outcomes.items)

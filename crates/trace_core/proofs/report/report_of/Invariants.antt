@@ -6,4 +6,4 @@ use Rattle.trace_core.proofs.report.report_of.Given as goal
 
 -- the rows of the outcomes so far
 abbrev pub invariant-loop-outcome : goal.invariant-loop-outcome
-invariant-loop-outcome l = HasText l.rows (lines_of (flat_map (outcome_rows l.ran.sched.standing.events) (take l.outcome-index l.ran.outcomes.items)))
+invariant-loop-outcome l = HasText l.rows (lines_of (flat_map (outcome_rows l.ran.engine.sched.standing.events) (take l.outcome-index l.ran.outcomes.items)))

@@ -1,0 +1,50 @@
+//! Times the scheduler: how long a round of enqueues and dequeues takes under a workload.
+#![tactic(auto)]
+
+mod timing;
+mod workload;
+
+use crate::timing::{Fault, least_nanoseconds};
+use crate::workload::{ROUNDS, WORKLOADS, Workload};
+use std::env;
+use std::process::ExitCode;
+
+fn main(rt: HostRuntime) -> ExitCode {
+    match bench(&rt) {
+        Ok(()) => ExitCode::SUCCESS,
+        Err(fault) => {
+            let _ = eprintln!(rt; "bench: {fault}");
+            ExitCode::FAILURE
+        }
+    }
+}
+
+/// Without a word it says what it measures; else it measures the workload that each word names.
+fn bench(rt: &HostRuntime) -> Result<(), Fault> {
+    let names: Vec<String> = env::args(rt)?.skip(1).collect(rt.alloc())?;
+    if names.is_empty() {
+        return tell_workloads(rt);
+    }
+    for name in &names {
+        let workload = named(name).ok_or(Fault::UnknownWorkload)?;
+        let tenths = least_nanoseconds(rt, &workload)?.saturating_mul(10) / u128::from(ROUNDS);
+        println!(rt; "{name},{ROUNDS},{}.{}", tenths / 10, tenths % 10)?;
+    }
+    Ok(())
+}
+
+/// The workload of that name.
+fn named(name: &str) -> Option<Workload> {
+    WORKLOADS.into_iter().find(|workload| workload.name == name)
+}
+
+/// Says what each workload does.
+fn tell_workloads(rt: &HostRuntime) -> Result<(), Fault> {
+    println!(rt;
+        "bench NAME... prints name,rounds,nanoseconds per round: the least of some repetitions"
+    )?;
+    for workload in WORKLOADS {
+        println!(rt; "{}: {}", workload.name, workload.about)?;
+    }
+    Ok(())
+}

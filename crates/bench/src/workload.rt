@@ -1,0 +1,140 @@
+use packet_core::{Classify, Ecn, EcnUse};
+
+/// How many rounds a repetition of a workload has.
+pub const ROUNDS: u32 = 100_000;
+
+/// What a round does.
+#[derive(Clone, Copy, Debug, PartialEq, Eq)]
+pub enum Round {
+    /// One enqueue, one dequeue.
+    EnqueueDequeue,
+    /// Enqueues until one packet more waits than before the rounds, then one dequeue.
+    RefillDequeue,
+    /// One enqueue.
+    Enqueue,
+    /// Two enqueues, one dequeue.
+    TwoEnqueuesDequeue,
+}
+
+/// A workload: packets of 1,000 bytes that come to some flows in turn. Before its rounds as many packets wait in
+/// each flow, and in an overload as many as the limit allows.
+#[derive(Clone, Copy, Debug, PartialEq, Eq)]
+pub struct Workload {
+    /// Its name.
+    pub name: &'static str,
+    /// What it does, in a line.
+    pub about: &'static str,
+    /// What a round does.
+    pub round: Round,
+    /// How many flows packets come to, from 1 to 65,535.
+    pub busy: u16,
+    /// How many packets wait in each of them before the rounds.
+    pub waiting: u16,
+    /// The time between two rounds, in nanoseconds.
+    pub step: u32,
+    /// The most packets that wait.
+    pub limit: u32,
+    /// The ECN field of each packet.
+    pub ecn: Ecn,
+    /// Whether CoDel marks or drops.
+    pub ecn_use: EcnUse,
+    /// How a packet's flow is found.
+    pub classify: Classify,
+}
+
+/// Sixteen flows that share a limit of 1,000 packets.
+const OVERLOAD: Workload = Workload {
+    name: "overflow",
+    about: "16 flows at the limit of 1,000 packets; one enqueue, which overflows where no room is left",
+    round: Round::Enqueue,
+    busy: 16,
+    waiting: 62,
+    step: 100,
+    limit: 1_000,
+    ecn: Ecn::NotEct,
+    ecn_use: EcnUse::Drop,
+    classify: Classify::Dport,
+};
+
+/// One flow in which ten packets wait.
+const ONE: Workload = Workload {
+    name: "one",
+    about: "10 packets wait in one flow; one enqueue, one dequeue",
+    round: Round::EnqueueDequeue,
+    busy: 1,
+    waiting: 10,
+    limit: 10_240,
+    ..OVERLOAD
+};
+
+/// Sixteen flows with 64 packets each.
+const FEW: Workload = Workload {
+    name: "few",
+    about: "64 packets wait in each of 16 flows; one enqueue, one dequeue",
+    busy: 16,
+    waiting: 64,
+    ..ONE
+};
+
+/// As many busy flows as there are, with eight packets each.
+const MANY: Workload = Workload {
+    name: "many",
+    about: "8 packets wait in each of 1,024 flows; one enqueue, one dequeue",
+    busy: 1_024,
+    waiting: 8,
+    ..ONE
+};
+
+/// Packets that wait for ten milliseconds, above the target.
+const CODEL: Workload = Workload {
+    name: "codel",
+    about: "1,024 packets wait for 10 ms; as many enqueues as were sent or dropped, one dequeue",
+    round: Round::RefillDequeue,
+    step: 10_000,
+    ..FEW
+};
+
+/// All workloads.
+pub const WORKLOADS: [Workload; 11] = [
+    ONE,
+    FEW,
+    MANY,
+    OVERLOAD,
+    Workload {
+        name: "overflow_b64",
+        about: "the same as overflow: a batch is always half of the fattest flow, 64 packets at most",
+        ..OVERLOAD
+    },
+    Workload {
+        name: "overflow_2to1",
+        about: "16 flows at the limit of 1,000 packets; two enqueues, one dequeue",
+        round: Round::TwoEnqueuesDequeue,
+        ..OVERLOAD
+    },
+    CODEL,
+    Workload {
+        name: "codel_mark",
+        about: "the same as codel, with marks in place of drops",
+        ecn: Ecn::Ect0,
+        ecn_use: EcnUse::Mark,
+        ..CODEL
+    },
+    Workload {
+        name: "one_hash",
+        about: "as one, with flows chosen by the hash",
+        classify: Classify::Hash,
+        ..ONE
+    },
+    Workload {
+        name: "few_hash",
+        about: "as few, with flows chosen by the hash",
+        classify: Classify::Hash,
+        ..FEW
+    },
+    Workload {
+        name: "many_hash",
+        about: "as many, with flows chosen by the hash",
+        classify: Classify::Hash,
+        ..MANY
+    },
+];

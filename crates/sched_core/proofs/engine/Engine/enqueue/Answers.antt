@@ -1,0 +1,16 @@
+use Rattle.std.proofs.Common.{arith}
+use Rattle.sched_core.specs.declared.run.Answer.TheVariants as answer
+use Rattle.sched_core.specs.declared.step.Step.TheVariants.{Enqueue}
+use Rattle.sched_core.proofs.Storing.{advanced_on}
+use Rattle.sched_core.proofs.engine.Engine.enqueue.Goals as goal
+
+pub invariant_of-self-2 : goal.invariant_of-self-2
+invariant_of-self-2 c =
+    let e = c.self.inside in
+    let reserved = c.in_ok-reserve.ensures {u = tt} in
+    let done = c.in_ok-admitted.ensures {u = tt} in
+    record {
+      run = rw (c.push_reserved.ensures.items, reserved.items) (advanced_on e.steps.items (Enqueue c.args.moment c.args.lane c.args.packet) e.sched c.enqueue.new.self answer.Accepted c.self.invariant.run done.made);
+      room = omega (arith, c.saturating_sub-self-inside.ensures, done.room, c.self.invariant.room);
+      space = omega (arith, c.saturating_sub-self-inside.ensures, c.push_reserved.ensures.len, c.push_reserved.ensures.capacity, reserved.len, reserved.ok, reserved.capacity, c.self.invariant.space);
+    }

@@ -1,0 +1,228 @@
+ghost use Rattle.std.specs.Prelude.{◌≡◌, ◌≢◌, ◌+◌, ◌-◌, ◌<◌, ◌≤◌, ◌++◌, ◌∷◌, [], All, max, None, IfOk, IfErr, OnOk, OnErr};
+
+use crate::event::Event;
+use crate::flow_view::FlowView;
+use crate::sched::{MAX_ACCEPTED, MAX_MOMENT, Sched, test_moment};
+use crate::step::{Admitted, Memory, Refusal, Sent, Step};
+use crate::totals::Totals;
+use crate::tuple_rows::TupleRow;
+use packet_core::{Packet, Params, Seed};
+use std::alloc::Global;
+use std::marker::Model;
+
+/// A scheduler that keeps the list of its steps. At every moment it is the run of those steps with the parameters
+/// and the seed that it was made with: whoever has the three has the whole of it again.
+#[derive(Debug, Drop)]
+pub struct Engine {
+    sched: Sched,
+    steps: Vec<Step>,
+    room: u64,
+}
+
+impl Model for Engine {
+    ghost use Rattle.sched_core.specs.Engines.{Running};
+
+    ghost Value = { Running };
+
+    ghost use Rattle.sched_core.specs.Stored.{running_of, IsStored};
+
+    ghost view = { running_of };
+
+    ghost invariant = { IsStored };
+}
+
+impl Engine {
+    ghost use Rattle.flow_core.specs.FlowLists.{waiting_in};
+    ghost use Rattle.sched_core.specs.Calls.{admitted_at};
+    ghost use Rattle.sched_core.specs.Engines.{new_engine};
+    ghost use Rattle.sched_core.specs.FairQueues.{queue_of};
+    ghost use Rattle.sched_core.specs.JournalLaws.{JournalLaws, WaitWithoutFate};
+    ghost use Rattle.sched_core.specs.Runs.{IsRunOf};
+    ghost use Rattle.sched_core.specs.Schedulers.{IsAdvanced, IsServed, discipline_of, flows_of};
+    ghost use Rattle.sched_core.specs.Shown.{flow_shown};
+    ghost use Rattle.sched_core.specs.State.{refusal_of, IsRefusal};
+    ghost use Rattle.sched_core.specs.Statistics.{statistics};
+    ghost use Rattle.sched_core.specs.TupleRows.{tuple_rows};
+    ghost use Rattle.sched_core.specs.declared.step.Step.TheVariants.{Enqueue, Dequeue, Close};
+    ghost use Rattle.sched_core.specs.declared.run.Answer.TheVariants as answer;
+
+    /// An engine before its first step.
+    pub fn try_new(alloc: Global, params: Params, seed: Seed) -> Result<Engine, Memory>
+        ensures { IfOk result (λ e. e ≡ new_engine params seed) }
+    {
+        Ok(Engine {
+            sched: Sched::try_new(alloc, params, seed)?,
+            steps: Vec::new(alloc),
+            room: 0,
+        })
+    }
+
+    /// Takes memory for so many steps of any kind, at most 2^40: the next ones take none. It is refused only where
+    /// fewer are reserved already, and then nothing changes.
+    pub fn reserve(&mut self, steps: u64) -> Result<(), Memory>
+        requires { steps ≤ MAX_ACCEPTED }
+        ensures ok { OnOk result (self.new.room ≡ max self.old.room steps) }
+        ensures rest { self.new ≡ record self.old { sched = record self.old.sched { room = self.new.sched.room }; room = self.new.room } }
+        ensures missing { OnErr result (self.old.room < steps) }
+        ensures err { OnErr result (self.new ≡ self.old) }
+    {
+        if steps <= self.room {
+            return Ok(());
+        }
+        self.steps.reserve(steps as usize)?;
+        self.sched.reserve(steps)?;
+        self.room = steps;
+        Ok(())
+    }
+
+    /// Accepts a packet from a lane at a moment, in microseconds, as a scheduler does, and stores the step. It
+    /// refuses a moment of 2^60 or more or before the last one, then a packet after the close, then one after 2^40
+    /// others, and last where a growth is refused.
+    pub fn enqueue(&mut self, moment: u64, lane: u32, packet: Packet) -> Result<Admitted, Refusal>
+        ensures admitted { IfOk result (λ a. a ≡ admitted_at (discipline_of self.old.sched) self.old.sched.standing.state moment packet) }
+        ensures made { OnOk result (IsAdvanced self.old.sched (Enqueue moment lane packet) answer.Accepted self.new.sched) }
+        ensures steps { OnOk result (self.new.steps ≡ self.old.steps ++ Enqueue moment lane packet ∷ []) }
+        ensures room { OnOk result (self.new.room ≡ self.old.room - 1) }
+
+        // Each refusal comes in its case, want of memory last, and changes nothing.
+        ensures refused { IfErr result (IsRefusal (refusal_of self.old.sched.standing.state (Enqueue moment lane packet))) }
+        ensures reserved { 0 < self.old.room → OnErr result (refusal_of self.old.sched.standing.state (Enqueue moment lane packet) ≢ None) }
+        ensures unchanged { OnErr result (self.new ≡ self.old) }
+    {
+        self.sched.test_enqueue(moment)?;
+        self.steps.reserve(1)?;
+        let admitted = self.sched.enqueue(moment, lane, packet)?;
+        self.steps.push_reserved(Step::Enqueue {
+            moment,
+            lane,
+            packet,
+        });
+        self.room = self.room.saturating_sub(1);
+        Ok(admitted)
+    }
+
+    /// Gives the packet that is next in turn, or nothing where none waits, at a moment in microseconds, as a
+    /// scheduler does, and stores the step. It refuses a moment of 2^60 or more or before the last one, and last
+    /// where a growth is refused.
+    pub fn dequeue(&mut self, moment: u64) -> Result<Option<Sent>, Refusal>
+        ensures made { IfOk result (λ sent. IsServed self.old.sched moment sent self.new.sched) }
+        ensures steps { OnOk result (self.new.steps ≡ self.old.steps ++ Dequeue moment ∷ []) }
+        ensures room { OnOk result (self.new.room ≡ self.old.room - 1) }
+        ensures refused { IfErr result (IsRefusal (refusal_of self.old.sched.standing.state (Dequeue moment))) }
+        ensures reserved { 0 < self.old.room → OnErr result (refusal_of self.old.sched.standing.state (Dequeue moment) ≢ None) }
+        ensures unchanged { OnErr result (self.new ≡ self.old) }
+    {
+        test_moment(moment, self.sched.last_moment())?;
+        self.steps.reserve(1)?;
+        let sent = self.sched.dequeue(moment)?;
+        self.steps.push_reserved(Step::Dequeue { moment });
+        self.room = self.room.saturating_sub(1);
+        Ok(sent)
+    }
+
+    /// From here on nothing is accepted; dequeues go on. The moment is in microseconds, and the step is stored. It
+    /// refuses a moment of 2^60 or more or before the last one, then a second close, and last where a growth is
+    /// refused.
+    pub fn close(&mut self, moment: u64) -> Result<(), Refusal>
+        ensures made { OnOk result (IsAdvanced self.old.sched (Close moment) answer.Closed self.new.sched) }
+        ensures steps { OnOk result (self.new.steps ≡ self.old.steps ++ Close moment ∷ []) }
+        ensures room { OnOk result (self.new.room ≡ self.old.room - 1) }
+        ensures refused { IfErr result (IsRefusal (refusal_of self.old.sched.standing.state (Close moment))) }
+        ensures reserved { 0 < self.old.room → OnErr result (refusal_of self.old.sched.standing.state (Close moment) ≢ None) }
+        ensures unchanged { OnErr result (self.new ≡ self.old) }
+    {
+        self.sched.test_close(moment)?;
+        self.steps.reserve(1)?;
+        self.sched.close(moment)?;
+        self.steps.push_reserved(Step::Close { moment });
+        self.room = self.room.saturating_sub(1);
+        Ok(())
+    }
+
+    /// The steps that weren't refused, in order. The engine is their run.
+    pub fn steps(&self) -> &[Step]
+        ensures value { result.now ≡ self.now.steps }
+        ensures run { IsRunOf (discipline_of self.now.sched) result.now self.now.sched.standing }
+    {
+        &self.steps
+    }
+
+    /// The parameters that it was made with.
+    pub fn params(&self) -> &Params
+        ensures { result.now ≡ self.now.sched.params }
+    {
+        self.sched.params()
+    }
+
+    /// The seed that it was made with.
+    pub fn seed(&self) -> Seed
+        ensures { result ≡ self.now.sched.seed }
+    {
+        self.sched.seed()
+    }
+
+    /// How many turns the last dequeue took that wasn't refused, and 0 before the first (RFC 8290, section 4.2).
+    pub fn turns(&self) -> u64
+        ensures { result ≡ self.now.sched.turns }
+    {
+        self.sched.turns()
+    }
+
+    /// What is kept of a flow, by its number.
+    pub fn flow_view(&self, flow: u32) -> FlowView
+        requires { flow < self.now.sched.params.flows }
+        ensures { result ≡ flow_shown (flows_of self.now.sched) flow }
+    {
+        self.sched.flow_view(flow)
+    }
+
+    /// The journal: what became of every packet, in order.
+    pub fn events(&self) -> &[Event]
+        ensures value { result.now ≡ self.now.sched.standing.events }
+        ensures laws { JournalLaws (discipline_of self.now.sched).flow_of result.now }
+        ensures waiting { WaitWithoutFate (queue_of (flows_of self.now.sched)) result.now }
+    {
+        self.sched.events()
+    }
+
+    /// The statistics of the journal.
+    pub fn totals(&self) -> Totals
+        ensures value { result ≡ statistics self.now.sched.standing.events }
+        ensures balance { result.accepted ≡ result.sent + result.dropped_codel + result.dropped_overflow + result.queued }
+    {
+        self.sched.totals()
+    }
+
+    /// What became of the packets of each five-tuple, in order of first acceptance. It goes once through the journal,
+    /// and fails for want of memory alone.
+    pub fn tuple_rows(&self) -> Result<Vec<TupleRow>, Memory>
+        ensures rows { IfOk result (λ rows. rows.items ≡ tuple_rows self.now.sched.standing.events) }
+        ensures balance { IfOk result (λ rows. All (λ row. row.accepted ≡ row.sent + row.dropped + row.queued) rows.items) }
+    {
+        self.sched.tuple_rows()
+    }
+
+    /// How many packets wait.
+    pub fn queued(&self) -> u64
+        ensures value { result ≡ waiting_in (flows_of self.now.sched).lists }
+        ensures journal { result ≡ (statistics self.now.sched.standing.events).queued }
+    {
+        self.sched.queued()
+    }
+
+    /// Whether there was a close.
+    pub fn is_closed(&self) -> bool
+        ensures value { result ≡ self.now.sched.standing.state.closed }
+        ensures journal { result ≡ (statistics self.now.sched.standing.events).closed }
+    {
+        self.sched.is_closed()
+    }
+
+    /// The moment of the last step that wasn't refused, in microseconds, and 0 before the first.
+    pub fn last_moment(&self) -> u64
+        ensures value { result ≡ self.now.sched.standing.state.last }
+        ensures range { result < MAX_MOMENT }
+    {
+        self.sched.last_moment()
+    }
+}
