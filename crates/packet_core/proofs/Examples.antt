@@ -1,5 +1,5 @@
 -- The reading of some words, by computing.
-use Rattle.std.proofs.Common.{◌≡◌, List, [], ◌∷◌, Ok, Err, codes, refl}
+use Rattle.std.proofs.Common.{◌≡◌, [], ◌∷◌, Ok, Err, codes, refl}
 use Rattle.packet_core.specs.Params.{standard_fields}
 use Rattle.packet_core.specs.Words.{number_of, param_word_of, params_of_words, read_from, time_of, with_classify}
 use Rattle.packet_core.specs.declared.words.ParamFault.TheVariants.{UnknownWord, MissingValue, NotANumber, OutOfRange}

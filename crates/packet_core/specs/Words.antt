@@ -5,7 +5,6 @@ use Rattle.std.specs.List.{take_while}
 use Rattle.std.specs.Str.{all_ascii_digits, bytes_eq}
 use Rattle.std.specs.Str.Parse.{digits_value}
 use Rattle.packet_core.specs.Params.{standard_fields}
-use Rattle.packet_core.specs.declared.params.Classify.{Classify}
 use Rattle.packet_core.specs.declared.params.Classify.TheVariants.{Dport, Hash}
 use Rattle.packet_core.specs.declared.params.EcnUse.TheVariants as ecn_use
 use Rattle.packet_core.specs.declared.params.ParamFields.{ParamFields}

@@ -1,6 +1,5 @@
 -- A time is the product of its count and its unit, also where the count is cut off at 2^64 - 1.
-use Rattle.std.proofs.Common.{subst, ◌≡◌, ◌-◌, ◌^◌, ◌∙◌, min, option_map, ℕ, ◌*◌, ◌<◌, ◌≤◌, Bool, true, false, Option, Some, None, List, length, take, drop, refl, sym, ap, arith, if◌then◌else◌, inl, inr}
-use Rattle.std.proofs.lemmas.Grind.{common_steps}
+use Rattle.std.proofs.Common.{subst, ◌≡◌, ◌-◌, ◌^◌, ◌∙◌, min, option_map, ℕ, ◌*◌, ◌≤◌, Bool, true, false, Option, Some, None, length, take, drop, refl, ap, arith, if◌then◌else◌, inl, inr}
 use Rattle.std.proofs.Math.Nat.{le-mul_of_pos_right}
 use Rattle.std.proofs.lemmas.Bool.{cases_lt}
 use Rattle.std.proofs.lemmas.Slice.{between_to_end}
