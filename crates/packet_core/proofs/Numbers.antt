@@ -1,5 +1,5 @@
 -- Facts on decimal numbers.
-use Rattle.std.proofs.Common.{◌≡◌, ℕ, zero, suc, ◌+◌, ◌*◌, ◌<◌, min, Bool, true, false, List, [], ◌∷◌, Option, Some, None, length, get_or, refl, inl, inr, arith}
+use Rattle.std.proofs.Common.{◌≡◌, ℕ, zero, suc, ◌+◌, ◌*◌, ◌<◌, min, true, false, List, [], ◌∷◌, Some, None, length, get_or, refl, inl, inr, arith}
 use Rattle.std.specs.Char.{digit_value}
 use Rattle.std.specs.Str.{all_ascii_digits}
 use Rattle.std.specs.Str.Parse.{AllDigits, digits_value}
@@ -29,7 +29,7 @@ unfolding number_of
 no_number [] h = refl
 no_number (b ∷ bs) h =
     let other : all_ascii_digits (b ∷ bs) ≡ false =
-      elim (cases_Bool (all_ascii_digits (b ∷ bs))) [ inl e ↦ absurd (h ((numerals_by_value (λ ds. all_ascii_digits ds ≡ true) tells_all_ascii_digits).to (b ∷ bs) e)) | inr e ↦ e ] in
+    elim (cases_Bool (all_ascii_digits (b ∷ bs))) [ inl e ↦ absurd (h ((numerals_by_value (λ ds. all_ascii_digits ds ≡ true) tells_all_ascii_digits).to (b ∷ bs) e)) | inr e ↦ e ] in
     rw other refl
 
 -- a text of digits is the number that they write

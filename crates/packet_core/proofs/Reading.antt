@@ -1,7 +1,7 @@
 -- The steps of the reading of words.
-use Rattle.std.proofs.Common.{Bor, subst, ◌≡◌, ◌≤◌, ◌<◌, ℕ, suc, ◌+◌, ◌-◌, List, [], ◌∷◌, Some, None, Option, Result, Ok, Err, refl, sym, ap, ◌∙◌, arith, take, drop, length, get_or, map}
+use Rattle.std.proofs.Common.{Bor, subst, ◌≡◌, ◌≤◌, ◌<◌, ℕ, ◌+◌, ◌-◌, List, [], ◌∷◌, Some, None, Ok, Err, refl, arith, take, drop, length, get_or, map}
 use Rattle.std.proofs.lemmas.List.{take_all}
-use Rattle.packet_core.specs.Words.{param_word_of, params_of_words, read_from, with_text}
+use Rattle.packet_core.specs.Words.{param_word_of, read_from, with_text}
 use Rattle.packet_core.specs.declared.params.EcnUse.{EcnUse}
 use Rattle.packet_core.specs.declared.params.ParamFields.{ParamFields}
 use Rattle.packet_core.specs.declared.words.Parameter.{Parameter}

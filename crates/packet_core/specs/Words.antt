@@ -5,7 +5,6 @@ use Rattle.std.specs.List.{take_while}
 use Rattle.std.specs.Str.{all_ascii_digits, bytes_eq}
 use Rattle.std.specs.Str.Parse.{digits_value}
 use Rattle.packet_core.specs.Params.{standard_fields}
-use Rattle.packet_core.specs.declared.params.Classify.{Classify}
 use Rattle.packet_core.specs.declared.params.Classify.TheVariants.{Dport, Hash}
 use Rattle.packet_core.specs.declared.params.EcnUse.TheVariants as ecn_use
 use Rattle.packet_core.specs.declared.params.ParamFields.{ParamFields}
@@ -122,19 +121,19 @@ unfoldable pub read_from : ℕ → ParamFields → List (List ℕ) → Result Pa
 read_from place p [] = Ok p
 read_from place p (word ∷ []) =
     elim (param_word_of word) [
-      None ↦ Err (UnknownWord place)
-    | Some (Ecn ecn) ↦ Ok (record p { ecn = ecn })
-    | Some (Valued parameter) ↦ Err (MissingValue place)
+      | None ↦ Err (UnknownWord place)
+      | Some (Ecn ecn) ↦ Ok (record p { ecn = ecn })
+      | Some (Valued parameter) ↦ Err (MissingValue place)
     ]
 read_from place p (word ∷ next ∷ rest) =
     elim (param_word_of word) [
-      None ↦ Err (UnknownWord place)
-    | Some (Ecn ecn) ↦ read_from (place + 1) (record p { ecn = ecn }) (next ∷ rest)
-    | Some (Valued parameter) ↦
-        elim (with_text (place + 1) parameter next p) [
-          Ok changed ↦ read_from (place + 2) changed rest
-        | Err fault ↦ Err fault
-        ]
+      | None ↦ Err (UnknownWord place)
+      | Some (Ecn ecn) ↦ read_from (place + 1) (record p { ecn = ecn }) (next ∷ rest)
+      | Some (Valued parameter) ↦
+          elim (with_text (place + 1) parameter next p) [
+            | Ok changed ↦ read_from (place + 2) changed rest
+            | Err fault ↦ Err fault
+          ]
     ]
 
 -- the parameters that words say, or the first fault with its place, from 1; what isn't said has its standard value

@@ -1,4 +1,5 @@
 mod flows;
+mod words;
 
 use crate::{Classify, EcnUse, ParamFields, ParamName, Params};
 

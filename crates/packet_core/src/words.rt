@@ -135,9 +135,7 @@ fn time(text: &[u8]) -> Option<u64>
 fn digits_in_front(text: &[u8]) -> usize
     ensures { result ≡ digits_in_front text.now }
 {
-    text.iter()
-        .take_while(|byte| byte.is_ascii_digit())
-        .count()
+    text.iter().take_while(|byte| byte.is_ascii_digit()).count()
 }
 
 /// How many microseconds a unit has.

@@ -1,7 +1,6 @@
 -- The pieces make the message, and the eight bytes are the digest's first ones.
-use Rattle.std.proofs.Common.{◌≡◌, ◌<◌, ◌≤◌, ℕ, List, [], ◌∷◌, ◌++◌, take, length, sym, ap, ◌∙◌, refl, arith, get_or, rules, append_assoc}
+use Rattle.std.proofs.Common.{◌≡◌, ℕ, List, [], ◌∷◌, ◌++◌, take, length, ap, ◌∙◌, refl, rules, append_assoc}
 use Rattle.std.specs.Prelude.{slice_index}
-use Rattle.std.proofs.lemmas.List.{same_lists, places}
 use Rattle.packet_core.specs.FlowNumber.{hash_value, hashed_message}
 use Rattle.sha2.specs.Sha256.{sha256}
 use Rattle.sha2.proofs.Facts256.{length-sha256}

@@ -44,6 +44,14 @@ pub returns-in_default : goal.returns-in_default
 unfolding param_word_of
 returns-in_default c =
     let w = c.args.word.now in
-    rw (differ w (codes "limit") c.in_default.not-limit, differ w (codes "flows") c.in_default.not-flows, differ w (codes "quantum") c.in_default.not-quantum,
-      differ w (codes "mtu") c.in_default.not-mtu, differ w (codes "target") c.in_default.not-target, differ w (codes "interval") c.in_default.not-interval,
-      differ w (codes "classify") c.in_default.not-classify, differ w (codes "ecn") c.in_default.not-ecn, differ w (codes "noecn") c.in_default.not-noecn) refl
+    rw (
+      differ w (codes "limit") c.in_default.not-limit,
+      differ w (codes "flows") c.in_default.not-flows,
+      differ w (codes "quantum") c.in_default.not-quantum,
+      differ w (codes "mtu") c.in_default.not-mtu,
+      differ w (codes "target") c.in_default.not-target,
+      differ w (codes "interval") c.in_default.not-interval,
+      differ w (codes "classify") c.in_default.not-classify,
+      differ w (codes "ecn") c.in_default.not-ecn,
+      differ w (codes "noecn") c.in_default.not-noecn,
+    ) refl

@@ -1,6 +1,5 @@
 -- A time is the product of its count and its unit, also where the count is cut off at 2^64 - 1.
-use Rattle.std.proofs.Common.{subst, ◌≡◌, ◌-◌, ◌^◌, ◌∙◌, min, option_map, ℕ, ◌*◌, ◌<◌, ◌≤◌, Bool, true, false, Option, Some, None, List, length, take, drop, refl, sym, ap, arith, if◌then◌else◌, inl, inr}
-use Rattle.std.proofs.lemmas.Grind.{common_steps}
+use Rattle.std.proofs.Common.{subst, ◌≡◌, ◌-◌, ◌^◌, ◌∙◌, min, option_map, ℕ, ◌*◌, ◌≤◌, Bool, true, false, Option, Some, None, length, take, drop, refl, ap, arith, if◌then◌else◌, inl, inr}
 use Rattle.std.proofs.Math.Nat.{le-mul_of_pos_right}
 use Rattle.std.proofs.lemmas.Bool.{cases_lt}
 use Rattle.std.proofs.lemmas.Slice.{between_to_end}
@@ -22,14 +21,14 @@ no_unit (Some n) (Some u) e = cc e
 product_capped : (n u : ℕ) → 1 ≤ u → min (min n (2 ^ 64 - 1) * u) (2 ^ 64 - 1) ≡ min (n * u) (2 ^ 64 - 1)
 product_capped n u some =
     elim (cases_lt n (2 ^ 64 - 1)) [
-      inl small ↦ let same : min n (2 ^ 64 - 1) ≡ n = omega arith in rw same refl
-    | inr great ↦
-        let cut : min n (2 ^ 64 - 1) ≡ 2 ^ 64 - 1 = omega arith in
-        let all : n ≤ n * u = le-mul_of_pos_right n some in
-        let most : 2 ^ 64 - 1 ≤ (2 ^ 64 - 1) * u = omega (arith, some) in
-        let a : min ((2 ^ 64 - 1) * u) (2 ^ 64 - 1) ≡ 2 ^ 64 - 1 = omega (arith, most) in
-        let b : min (n * u) (2 ^ 64 - 1) ≡ 2 ^ 64 - 1 = omega (arith, all, great) in
-        rw (cut, a, b) refl
+      | inl small ↦ let same : min n (2 ^ 64 - 1) ≡ n = omega arith in rw same refl
+      | inr great ↦
+          let cut : min n (2 ^ 64 - 1) ≡ 2 ^ 64 - 1 = omega arith in
+          let all : n ≤ n * u = le-mul_of_pos_right n some in
+          let most : 2 ^ 64 - 1 ≤ (2 ^ 64 - 1) * u = omega (arith, some) in
+          let a : min ((2 ^ 64 - 1) * u) (2 ^ 64 - 1) ≡ 2 ^ 64 - 1 = omega (arith, most) in
+          let b : min (n * u) (2 ^ 64 - 1) ≡ 2 ^ 64 - 1 = omega (arith, all, great) in
+          rw (cut, a, b) refl
     ]
 
 both : (count unit : Option ℕ) (n u : ℕ) → Some n ≡ capped count → Some u ≡ unit → 1 ≤ u → Some (min (n * u) (2 ^ 64 - 1)) ≡ capped (product_of count unit)
