@@ -1,17 +1,15 @@
 -- What the laws of a journal say of its beginning, and of the event behind it.
-use Rattle.std.proofs.Common.{◌≡◌, ◌≢◌, ℕ, zero, suc, ◌+◌, ◌<◌, ◌≤◌, false, All, List, [], ◌∷◌, ◌++◌, length, map, take, drop, get_or, Some, None, refl, sym, ap, subst, ◌∙◌, arith}
-use Rattle.std.specs.List.{AllByRecursion, Contains, filter_map, range_with_len}
+use Rattle.std.proofs.Common.{◌≡◌, ◌≢◌, ℕ, zero, suc, ◌+◌, ◌<◌, All, List, [], ◌∷◌, ◌++◌, length, map, take, drop, get_or, Some, None, refl, sym, ap, subst, ◌∙◌, arith}
+use Rattle.std.specs.List.{AllByRecursion, Contains, range_with_len}
 use Rattle.std.proofs.lemmas.List.{map-append, length-map, length_push, take-append-drop, take_more, drop_more, get_or_at}
 use Rattle.std.proofs.lemmas.List.Elements.{filter_map-append, recursion_from_All}
 use Rattle.std.proofs.lemmas.List.FromFn.{length-range_with_len, get_or-range_with_len}
 use Rattle.sched_core.specs.declared.event.Event.{Event}
-use Rattle.sched_core.specs.Happened.{Acceptance, acceptance_of, fate_of, acceptances, accepted_ids, fate_ids, is_among}
+use Rattle.sched_core.specs.Happened.{Acceptance, acceptance_of, fate_of, acceptances, accepted_ids, fate_ids}
 use Rattle.sched_core.specs.JournalLaws.{AreDistinct, FatesFollow, IdsInOrder}
-use Rattle.sched_core.specs.Statistics.{sent_of, dropped_of}
 use Rattle.sched_core.proofs.Appending.{all_found, filter_map_same, filter_map_push}
 use Rattle.sched_core.proofs.Counting.{sent_among, dropped_among}
 use Rattle.sched_core.proofs.Ids.{id_of, is_among_none, named_within}
-use Rattle.sched_core.proofs.Lines.{AreFound}
 use Rattle.sched_core.proofs.Lists.{ByRecursion-parts, ByRecursion-weaker}
 use Rattle.sched_core.proofs.Tallying.{HasNoFate, IsNewId}
 

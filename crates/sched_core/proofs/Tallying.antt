@@ -1,8 +1,8 @@
 -- How one event carries a tally on.
-use Rattle.std.proofs.Common.{◌≡◌, ◌≢◌, ℕ, zero, suc, ◌+◌, ◌<◌, ◌≤◌, Bool, true, false, cond, ◌||◌, All, List, [], ◌∷◌, ◌++◌, length, map, get_or, set, eqb, Option, Some, None, slice_get, refl, sym, ap, subst, ◌∙◌, arith, inl, inr}
-use Rattle.std.specs.List.{AllByRecursion, filter_map, list_any, range_with_len}
-use Rattle.std.proofs.lemmas.Bool.{cases_Bool, eq-eqb, ne_eqb, or_parts}
-use Rattle.std.proofs.lemmas.List.{map-append, length-map, length-append, length_push, length-set}
+use Rattle.std.proofs.Common.{◌≡◌, ◌≢◌, ℕ, zero, suc, ◌+◌, ◌<◌, ◌≤◌, Bool, true, false, cond, All, List, [], ◌∷◌, ◌++◌, length, map, get_or, set, Option, Some, None, slice_get, refl, sym, ap, subst, ◌∙◌, arith}
+use Rattle.std.specs.List.{AllByRecursion, filter_map, range_with_len}
+use Rattle.std.proofs.lemmas.Bool.{eq-eqb, ne_eqb, or_parts}
+use Rattle.std.proofs.lemmas.List.{map-append, length-map}
 use Rattle.std.proofs.lemmas.List.Elements.{All-from_recursion, All-push, All-set}
 use Rattle.std.proofs.lemmas.List.Sums.{count_by-le-length}
 use Rattle.packet_core.specs.Packets.{PacketParts, same_tuple}
@@ -11,7 +11,7 @@ use Rattle.packet_core.specs.declared.packet.FiveTuple.{FiveTuple}
 use Rattle.codel_core.specs.declared.served.Mark.{Mark}
 use Rattle.sched_core.specs.declared.event.Cause.{Cause}
 use Rattle.sched_core.specs.declared.event.Event.{Event}
-use Rattle.sched_core.specs.declared.event.Event.TheVariants.{Accepted, Sent, Dropped, Closed}
+use Rattle.sched_core.specs.declared.event.Event.TheVariants.{Accepted, Sent, Dropped}
 use Rattle.sched_core.specs.declared.tuple_rows.TupleRow.{TupleRow}
 use Rattle.sched_core.specs.Happened.{Acceptance, acceptance_of, fate_of, acceptances, accepted_ids, fate_ids, named, is_among}
 use Rattle.sched_core.specs.Statistics.{sent_of, dropped_of}

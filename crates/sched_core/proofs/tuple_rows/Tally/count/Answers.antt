@@ -1,9 +1,9 @@
-use Rattle.std.proofs.Common.{◌≡◌, ◌<◌, ◌+◌, ◌++◌, ◌∷◌, [], ℕ, List, Some, slice_get, get_or, length, take, refl, ap, subst, sym, ◌∙◌, arith}
+use Rattle.std.proofs.Common.{◌≡◌, ◌++◌, ◌∷◌, [], List, Some, slice_get, get_or, take, refl, ap, sym, ◌∙◌, arith}
 use Rattle.packet_core.specs.declared.packet.FiveTuple.{FiveTuple}
 use Rattle.sched_core.specs.Tallies.{with_row, with_tuple}
 use Rattle.sched_core.specs.declared.tuple_rows.TupleRow.{TupleRow}
 use Rattle.sched_core.proofs.Beginnings.{has_no_fate, is_new_id, one_more}
-use Rattle.sched_core.proofs.Tallying.{accept_small, accept_within, fate_placed, fate_small, fate_waits, fate_within, tallied_accepts, tallied_drops, tallied_same, tallied_sends}
+use Rattle.sched_core.proofs.Tallying.{accept_small, fate_placed, fate_small, fate_waits, fate_within, tallied_accepts, tallied_drops, tallied_same, tallied_sends}
 use Rattle.sched_core.proofs.tuple_rows.Tally.count.Goals as goal
 
 pub accept-requires-clause-accepted : goal.accept-requires-clause-accepted
