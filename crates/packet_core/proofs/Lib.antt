@@ -1,4 +1,5 @@
 mod Examples
 pub mod Numbers
+mod Ranges
 pub mod Reading
 pub mod Texts

@@ -16,9 +16,10 @@ pub enum EcnUse {
 /// How the flow of a packet is found from its five-tuple.
 #[derive(Clone, Copy, Debug, PartialEq, Eq, Hash)]
 pub enum Classify {
-    /// By a hash of the whole five-tuple, seeded (RFC 8290, section 4.1).
+    /// By a hash of the whole five-tuple behind a seed (RFC 8290, section 4.1): the first eight bytes of their digest
+    /// under SHA-256 (FIPS 180-4), as a number with its high byte first, modulo the number of flows.
     Hash,
-    /// By the destination port alone.
+    /// By the destination port alone, modulo the number of flows.
     Dport,
 }
 
