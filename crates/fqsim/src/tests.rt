@@ -1,11 +1,14 @@
 mod codel;
 mod overflows;
+mod queue_runs;
 mod reports;
 mod row_faults;
 mod rows;
+mod runs;
 mod schedulers;
 mod steps;
 mod streams;
+mod turn_runs;
 mod turns;
 mod verdicts;
 mod words;
