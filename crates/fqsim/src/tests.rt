@@ -1,4 +1,5 @@
 mod codel;
+mod many_flows;
 mod overflows;
 mod queue_runs;
 mod reports;
