@@ -55,6 +55,13 @@ fn report_of_flows(alloc: Global) -> Result<String, AllocError> {
         report,
         "totals,{PACKETS},{BYTES},{PACKETS},{BYTES},0,0,0,0,0,0,open"
     )?;
+    for id in 0..PACKETS {
+        let flow = id * APART + (APART - 1);
+        writeln!(
+            report,
+            "tuple,17,10.0.0.1,10.0.0.2,5000,{flow},{flow},1,1,0,0"
+        )?;
+    }
     Ok(report)
 }
 

@@ -48,7 +48,8 @@ fn ten_packets_drop_and_send(rt: HostRuntime) -> Result<(), Fail> {
                   sent,8,0\n\
                   sent,9,0\n\
                   idle\n\
-                  totals,10,10000,6,6000,4,0,4000,0,0,0,open\n";
+                  totals,10,10000,6,6000,4,0,4000,0,0,0,open\n\
+                  tuple,17,10.0.0.1,10.0.0.2,5000,53,0,10,6,4,0\n";
     let ran = expect_run(&rt, one_flow(), trace, report)?;
     let outcomes = [
         outcome(Answer::Sent, 10, 11),
@@ -130,7 +131,8 @@ fn marks_in_place_of_drops(rt: HostRuntime) -> Result<(), Fail> {
          sent,0,2\n\
          sent,1,3\n\
          sent,2,3\n\
-         totals,10,10000,3,3000,0,0,0,2,7,7000,open\n",
+         totals,10,10000,3,3000,0,0,0,2,7,7000,open\n\
+         tuple,17,10.0.0.1,10.0.0.2,5000,53,0,10,3,0,7\n",
     )?;
     let outcomes = [
         outcome(Answer::Sent, 10, 11),
@@ -182,7 +184,8 @@ fn little_behind_no_drop(rt: HostRuntime) -> Result<(), Fail> {
          sent,0,0\n\
          sent,1,0\n\
          sent,2,0\n\
-         totals,3,3000,3,3000,0,0,0,0,0,0,open\n",
+         totals,3,3000,3,3000,0,0,0,0,0,0,open\n\
+         tuple,17,10.0.0.1,10.0.0.2,5000,53,0,3,3,0,0\n",
     )?;
     // With 1,000 bytes behind it, the second packet is in time again.
     expect_flow(&rt, &ran, 0, in_time(0, 0, 28));
@@ -222,7 +225,8 @@ fn drop_burst(rt: HostRuntime) -> Result<(), Fail> {
          dropped,4,codel\n\
          dropped,5,codel\n\
          sent,6,0\n\
-         totals,7,700,3,300,4,0,400,0,0,0,open\n",
+         totals,7,700,3,300,4,0,400,0,0,0,open\n\
+         tuple,17,10.0.0.1,10.0.0.2,5000,53,0,7,3,4,0\n",
     )?;
     let outcomes = [
         outcome(Answer::Sent, 7, 8),
@@ -267,7 +271,9 @@ fn fattest_by_bytes(rt: HostRuntime) -> Result<(), Fail> {
          accepted,3,2\n\
          accepted,4,2\n\
          dropped,0,overflow\n\
-         totals,5,3200,0,0,0,1,1000,0,4,2200,open\n",
+         totals,5,3200,0,0,0,1,1000,0,4,2200,open\n\
+         tuple,17,10.0.0.1,10.0.0.2,5000,1,1,3,0,1,2\n\
+         tuple,17,10.0.0.1,10.0.0.2,5000,2,2,2,0,0,2\n",
     )?;
     expect_outcomes(&rt, &ran, 4, &[outcome(Answer::Accepted, 4, 6)]);
     assert_eq!(rt; ran.engine.totals().dropped_codel, 0);
@@ -290,7 +296,9 @@ fn the_arrival_is_dropped(rt: HostRuntime) -> Result<(), Fail> {
         "accepted,0,1\n\
          accepted,1,2\n\
          dropped,1,overflow\n\
-         totals,2,300,0,0,0,1,200,0,1,100,open\n",
+         totals,2,300,0,0,0,1,200,0,1,100,open\n\
+         tuple,17,10.0.0.1,10.0.0.2,5000,1,1,1,0,0,1\n\
+         tuple,17,10.0.0.1,10.0.0.2,5000,2,2,1,0,1,0\n",
     )?;
     expect_outcomes(&rt, &ran, 1, &[outcome(Answer::Accepted, 1, 3)]);
     expect_flow(&rt, &ran, 1, in_time(1, 100, 1_514));
@@ -313,6 +321,7 @@ fn batch_of_sixty_four(rt: HostRuntime) -> Result<(), Fail> {
         events.push(dropped(id, 0, Cause::Overflow))?;
     }
     report.push_str("totals,201,20100,0,0,0,64,6400,0,137,13700,open\n")?;
+    report.push_str("tuple,17,10.0.0.1,10.0.0.2,5000,53,0,201,0,64,137\n")?;
     let mut fields = one_flow();
     fields.limit = 200;
     let ran = expect_run(&rt, fields, &trace, &report)?;
@@ -336,7 +345,9 @@ fn tie_goes_to_least_flow(rt: HostRuntime) -> Result<(), Fail> {
                   dropped,0,overflow\n\
                   sent,1,0\n\
                   idle\n\
-                  totals,2,200,1,100,0,1,100,0,0,0,open\n";
+                  totals,2,200,1,100,0,1,100,0,0,0,open\n\
+                  tuple,17,10.0.0.1,10.0.0.2,5000,1,1,1,0,1,0\n\
+                  tuple,17,10.0.0.1,10.0.0.2,5000,2,2,1,1,0,0\n";
     let ran = expect_run(&rt, fields, trace, report)?;
     let outcomes = [
         outcome(Answer::Accepted, 0, 1),

@@ -141,7 +141,8 @@ fn closing_refuses_later_packets(rt: HostRuntime) -> Result<(), Fail> {
          refused,closed\n\
          sent,0,0\n\
          refused,closed\n\
-         totals,1,1000,1,1000,0,0,0,0,0,0,closed\n",
+         totals,1,1000,1,1000,0,0,0,0,0,0,closed\n\
+         tuple,17,10.0.0.1,10.0.0.2,5000,53,0,1,1,0,0\n",
     )?;
     let outcomes = [
         outcome(Answer::Accepted, 0, 1),
@@ -182,7 +183,8 @@ fn backwards_refused(rt: HostRuntime) -> Result<(), Fail> {
          refused,backwards,10\n\
          refused,backwards,10\n\
          sent,0,0\n\
-         totals,1,1000,1,1000,0,0,0,0,0,0,open\n",
+         totals,1,1000,1,1000,0,0,0,0,0,0,open\n\
+         tuple,17,10.0.0.1,10.0.0.2,5000,53,0,1,1,0,0\n",
     )?;
     let outcomes = [
         outcome(Answer::Accepted, 0, 1),
@@ -213,7 +215,8 @@ fn refused_step_keeps_time(rt: HostRuntime) -> Result<(), Fail> {
          refused,backwards,6\n\
          refused,closed\n\
          sent,0,0\n\
-         totals,1,1000,1,1000,0,0,0,0,0,0,closed\n",
+         totals,1,1000,1,1000,0,0,0,0,0,0,closed\n\
+         tuple,17,10.0.0.1,10.0.0.2,5000,53,0,1,1,0,0\n",
     )?;
     let outcomes = [
         outcome(Answer::Accepted, 0, 1),

@@ -34,7 +34,9 @@ fn small_quantum_two_flows(rt: HostRuntime) -> Result<(), Fail> {
          sent,3,0\n\
          sent,1,0\n\
          idle\n\
-         totals,4,1400,4,1400,0,0,0,0,0,0,open\n",
+         totals,4,1400,4,1400,0,0,0,0,0,0,open\n\
+         tuple,17,10.0.0.1,10.0.0.2,5000,1,1,2,2,0,0\n\
+         tuple,17,10.0.0.1,10.0.0.2,5000,2,2,2,2,0,0\n",
     )?;
     let outcomes = [
         outcome(Answer::Sent, 4, 5),
@@ -69,7 +71,9 @@ fn exact_credits_use_up(rt: HostRuntime) -> Result<(), Fail> {
          sent,0,0\n\
          sent,2,0\n\
          sent,1,0\n\
-         totals,3,900,3,900,0,0,0,0,0,0,open\n",
+         totals,3,900,3,900,0,0,0,0,0,0,open\n\
+         tuple,17,10.0.0.1,10.0.0.2,5000,1,1,2,2,0,0\n\
+         tuple,17,10.0.0.1,10.0.0.2,5000,2,2,1,1,0,0\n",
     )?;
     // Credits of 0 are used up: each flow got a quantum more and became old, and the first has sent from there.
     assert_eq!(rt; ran.engine.turns(), 2);
@@ -99,7 +103,10 @@ fn old_flow_waits_for_new(rt: HostRuntime) -> Result<(), Fail> {
          accepted,3,3\n\
          sent,3,0\n\
          sent,2,0\n\
-         totals,4,400,4,400,0,0,0,0,0,0,open\n",
+         totals,4,400,4,400,0,0,0,0,0,0,open\n\
+         tuple,17,10.0.0.1,10.0.0.2,5000,1,1,2,2,0,0\n\
+         tuple,17,10.0.0.1,10.0.0.2,5000,2,2,1,1,0,0\n\
+         tuple,17,10.0.0.1,10.0.0.2,5000,3,3,1,1,0,0\n",
     )?;
     let outcomes = [
         outcome(Answer::Accepted, 4, 5),
@@ -129,7 +136,8 @@ fn giant_packets_small_quantum(rt: HostRuntime) -> Result<(), Fail> {
                   accepted,1,0\n\
                   sent,0,0\n\
                   sent,1,0\n\
-                  totals,2,131070,2,131070,0,0,0,0,0,0,open\n";
+                  totals,2,131070,2,131070,0,0,0,0,0,0,open\n\
+                  tuple,17,10.0.0.1,10.0.0.2,5000,53,0,2,2,0,0\n";
     let ran = expect_run(&rt, fields, trace, report)?;
 
     // It owes 65,534 bytes after the first packet, and gets one byte a turn.
