@@ -1,12 +1,16 @@
 mod codel;
+mod many_flows;
 mod overflows;
+mod queue_runs;
 mod reports;
 mod row_faults;
 mod rows;
+mod runs;
 mod schedulers;
 mod steps;
 mod streams;
 mod tuple_rows;
+mod turn_runs;
 mod turns;
 mod verdicts;
 mod words;
