@@ -5,6 +5,9 @@
 #![tactic(auto)]
 
 mod arrivals;
+#[cfg(test)]
+mod chain_tests;
+mod chains;
 mod flows;
 mod line;
 #[cfg(test)]
