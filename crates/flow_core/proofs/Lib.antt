@@ -1,3 +1,5 @@
+pub mod Chained
+pub mod Chaining
 pub mod Keeping
 pub mod Listing
 pub mod Queueing
