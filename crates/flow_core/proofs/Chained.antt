@@ -11,9 +11,9 @@ use Rattle.slab.proofs.SlabLemmas.{ContainsKey-within}
 use Rattle.flow_core.specs.declared.chains.Chain.{Chain}
 use Rattle.flow_core.specs.declared.chains.Chains.TheInside.{Inside}
 use Rattle.flow_core.specs.declared.chains.Link.{Link}
-use Rattle.flow_core.specs.Chains.{AreApart, AreChained, AreChainsOf, AreLinked, HasKey, Placed, ends_of, packets_of, queues_of}
+use Rattle.flow_core.specs.Chains.{AreApart, AreChained, AreChainsOf, AreLinked, HasKey, Placed, ends_of, first_key, packets_of, queues_of}
 use Rattle.flow_core.specs.Queues.{Queues}
-use Rattle.flow_core.proofs.Chaining.{Extends, Replaces, apart_push, comes_behind, comes_first, empty_slot, ends_empty, has_push, linked_stays, queues_seen, replaced, replaced_seen, waitings}
+use Rattle.flow_core.proofs.Chaining.{Extends, IsSplit, Replaces, apart_push, comes_behind, comes_first, empty_slot, ends_empty, has_push, linked_stays, queues_seen, replaced, replaced_seen, waitings}
 
 sum_waitings : (placed : List (List Placed)) → sum_by length (map waitings placed) ≡ sum_by length placed
 sum_waitings [] = refl
@@ -158,6 +158,13 @@ first_replaces f h kept new flow added seen below ends empty updates counted =
 pub ends_first : (f : Inside) (kept : AreChained f) (flow : ℕ) (added : Placed) → ends_of (held f kept flow) ≡ None → ends_of (held f kept flow ++ added ∷ []) ≡ Some (record { first = added.key; last = added.key; len = 1 })
 ends_first f kept flow added ends = rw (ends_empty (held f kept flow) ends) refl
 
+-- the first packet of a flow stands in its slot, with the key of the next one
+pub head_linked : (f : Inside) (kept : AreChained f) (flow : ℕ) (chain : Chain) (split : IsSplit (held f kept flow) chain)
+    → get f.slots chain.first ≡ Some (record { waiting = split.head.waiting; next = first_key split.rest })
+head_linked f kept flow chain split =
+    let linked : AreLinked f.slots (split.head ∷ split.rest) = subst (λ (ps : List Placed). AreLinked f.slots ps) split.is (linked_at f.slots f.chains.items kept.chains flow) in
+    ap (get f.slots) split.first ∙ linked.0
+
 -- the packets after a push
 pub push_seen : (f : Inside) (h : Queues) (kept : AreChained f) (new : Slab Link) (flow : ℕ) (added : Placed) → queues_of f ≡ h
     → Replaces f.slots new kept.chains.placed flow (held f kept flow ++ added ∷ [])
@@ -177,3 +184,7 @@ pop_seen f h kept new flow first rest seen is_cons are =
     replaced_seen f.slots new f.chains.items kept.chains flow rest are
     ∙ ap (λ (x : Queues). set x.queues flow (waitings rest)) seen
     ∙ ap (λ (ws : List Waiting). set h.queues flow (drop 1 ws)) (sym (at_seen f h kept flow seen ∙ ap waitings is_cons))
+
+pub pop_head_seen : (f : Inside) (h : Queues) (kept : AreChained f) (flow : ℕ) (chain : Chain) → queues_of f ≡ h → (split : IsSplit (held f kept flow) chain) → slice_get (get_or h.queues flow []) 0 ≡ Some split.head.waiting
+pop_head_seen f h kept flow chain seen split =
+    ap (λ (ws : List Waiting). slice_get ws 0) (at_seen f h kept flow seen ∙ ap waitings split.is)

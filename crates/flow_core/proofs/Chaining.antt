@@ -1,5 +1,5 @@
 -- Packets that stand in slots of their own, each with the key of the one behind it.
-use Rattle.std.proofs.Common.{◌≡◌, ◌≢◌, ◌⊎◌, ℕ, zero, suc, ◌+◌, ◌<◌, ◌≤◌, Option, None, Some, List, [], ◌∷◌, ◌++◌, All, length, map, get_or, set, drop, slice_get, sum_by, refl, sym, ap, subst, ◌∙◌, inl, inr, arith}
+use Rattle.std.proofs.Common.{◌≡◌, ◌≢◌, ◌⊎◌, ℕ, zero, suc, ◌+◌, ◌-◌, ◌<◌, ◌≤◌, Option, None, Some, List, [], ◌∷◌, ◌++◌, All, length, map, get_or, set, drop, option_map, sum_by, refl, sym, ap, subst, ◌∙◌, inl, inr, arith}
 use Rattle.std.proofs.lemmas.Bool.{cases_eq}
 use Rattle.std.proofs.lemmas.List.{get_or-set_other, get_or-set_same, get_or_past, length-map, length-set, map-append, map-set}
 use Rattle.std.proofs.lemmas.List.Elements.{All-from_get_or, All-get_or, All-head, All-set, All-tail}
@@ -66,13 +66,41 @@ ends_push (p ∷ rest) new chain ends =
     let len : suc (length (rest ++ new ∷ [])) ≡ length (p ∷ rest) + 1 = omega (arith, length-push rest new) in
     rw (← same, last_key-push p rest new, len) refl
 
+-- A queue that isn't empty, and its ends.
+pub record IsSplit (ps : List Placed) (chain : Chain) : Type 0 where
+  pub head : Placed
+  pub rest : List Placed
+  pub is : ps ≡ head ∷ rest
+  pub first : chain.first ≡ head.key
+  pub last : chain.last ≡ last_key head rest
+  pub len : chain.len ≡ length ps
+
 -- a queue with these ends isn't empty
-ends_split : (ps : List Placed) (chain : Chain) → ends_of ps ≡ Some chain
-    → (p : Placed) × (rest : List Placed) × (ps ≡ p ∷ rest) × (chain.first ≡ p.key) × (chain.last ≡ last_key p rest) × (chain.len ≡ length ps)
+pub ends_split : (ps : List Placed) (chain : Chain) → ends_of ps ≡ Some chain → IsSplit ps chain
 ends_split [] chain ends = absurd (cc)
 ends_split (p ∷ rest) chain ends =
     let same : record { first = p.key; last = last_key p rest; len = length (p ∷ rest) } ≡ chain = cc in
-    (p, rest, refl, ap (λ (c : Chain). c.first) (sym same), ap (λ (c : Chain). c.last) (sym same), ap (λ (c : Chain). c.len) (sym same))
+    record {
+      head = p;
+      rest = rest;
+      is = refl;
+      first = ap (λ (c : Chain). c.first) (sym same);
+      last = ap (λ (c : Chain). c.last) (sym same);
+      len = ap (λ (c : Chain). c.len) (sym same);
+    }
+
+-- the ends of what its first one leaves
+pub ends_rest : (ps : List Placed) (chain : Chain) (split : IsSplit ps chain) → ends_of split.rest ≡ option_map (λ (key : ℕ). let c : Chain = record { first = key; last = chain.last; len = chain.len - 1 } in c) (first_key split.rest)
+ends_rest ps chain split = rest_by split.rest refl
+  where
+    rest_by : (rest : List Placed) → split.rest ≡ rest → ends_of rest ≡ option_map (λ (key : ℕ). let c : Chain = record { first = key; last = chain.last; len = chain.len - 1 } in c) (first_key rest)
+    rest_by [] is = refl
+    rest_by (q ∷ rest) is =
+        let last : chain.last ≡ last_key q rest = split.last ∙ ap (λ (l : List Placed). last_key split.head l) is in
+        let lengths = ap length split.is in
+        let left = ap length is in
+        let len : chain.len - 1 ≡ length (q ∷ rest) = omega (arith, split.len, lengths, left) in
+        rw (last, len) refl
 
 pub ends_empty : (ps : List Placed) → ends_of ps ≡ None → ps ≡ []
 ends_empty [] ends = refl
@@ -80,7 +108,7 @@ ends_empty (p ∷ rest) ends = absurd (cc)
 
 -- how many packets a queue with these ends has
 pub ends_len : (ps : List Placed) (chain : Chain) → ends_of ps ≡ Some chain → chain.len ≡ length ps
-ends_len ps chain ends = (ends_split ps chain ends).5
+ends_len ps chain ends = (ends_split ps chain ends).len
 
 -- the last one has none behind it
 linked_last : (slots : Slab Link) (p : Placed) (rest : List Placed) → AreLinked slots (p ∷ rest)
@@ -117,10 +145,10 @@ pub last_within : (old mid : Slab Link) (ps : List Placed) (chain : Chain) (adde
     → Updates old mid added.key (Some (record { waiting = added.waiting; next = None })) → (w : Waiting) × (get old chain.last ≡ Some (record { waiting = w; next = None })) × (get mid chain.last ≡ Some (record { waiting = w; next = None })) × (chain.last ≢ added.key)
 last_within old mid ps chain added ends linked empty updates =
     let split = ends_split ps chain ends in
-    let p = split.0 in
-    let rest = split.1 in
-    let is_cons : ps ≡ p ∷ rest = split.2 in
-    let last : chain.last ≡ last_key p rest = split.4 in
+    let p = split.head in
+    let rest = split.rest in
+    let is_cons : ps ≡ p ∷ rest = split.is in
+    let last : chain.last ≡ last_key p rest = split.last in
     let here = linked_last old p rest (subst (λ (xs : List Placed). AreLinked old xs) is_cons linked) in
     let found : get old chain.last ≡ Some (record { waiting = here.0; next = None }) = ap (get old) last ∙ here.1 in
     let other : chain.last ≢ added.key = λ (same : chain.last ≡ added.key). let there = ap (get old) same in cc in
@@ -132,10 +160,10 @@ pub comes_behind : (old mid : Slab Link) (ps : List Placed) (chain : Chain) (add
     → Extends old (with_value mid chain.last (record { waiting = link.waiting; next = Some added.key })) ps added
 comes_behind old mid ps chain added link ends linked apart empty updates found =
     let split = ends_split ps chain ends in
-    let p = split.0 in
-    let rest = split.1 in
-    let is_cons : ps ≡ p ∷ rest = split.2 in
-    let last : chain.last ≡ last_key p rest = split.4 in
+    let p = split.head in
+    let rest = split.rest in
+    let is_cons : ps ≡ p ∷ rest = split.is in
+    let last : chain.last ≡ last_key p rest = split.last in
     let within = last_within old mid ps chain added ends linked empty updates in
     let other : chain.last ≢ added.key = within.3 in
     let joined : Link = record { waiting = link.waiting; next = Some added.key } in

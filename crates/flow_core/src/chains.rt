@@ -1,6 +1,6 @@
 //! The waiting packets of all flows in one slab, chained flow by flow.
 
-ghost use Rattle.std.specs.Prelude.{◌≡◌, ◌+◌, ◌^◌, ◌<◌, ◌≤◌, [], ◌∷◌, ◌++◌, IfOk, OnErr, OnOk, drop, get_or, length, replicate, set, slice_get, sum_by};
+ghost use Rattle.std.specs.Prelude.{◌≡◌, ◌+◌, ◌-◌, ◌^◌, ◌<◌, ◌≤◌, [], ◌∷◌, ◌++◌, IfOk, OnErr, OnOk, drop, get_or, length, option_map, replicate, set, slice_get, sum_by};
 
 use crate::arrivals::MAX_WAITING;
 use crate::flows::{MAX_FLOWS, Memory};
@@ -22,6 +22,23 @@ pub(crate) struct Chain {
     pub(crate) first: usize,
     pub(crate) last: usize,
     pub(crate) len: u64,
+}
+
+impl Chain {
+    /// What is left once the first one goes, where that one had the key of the next. None where it was the last.
+    fn without_first(self, next: Option<usize>) -> Option<Chain>
+        requires { 1 ≤ self.len }
+        ensures { result ≡ option_map (λ first. record { first = first; last = self.last; len = self.len - 1 }) next }
+    {
+        match next {
+            Some(first) => Some(Chain {
+                first,
+                last: self.last,
+                len: self.len - 1,
+            }),
+            None => None,
+        }
+    }
 }
 
 /// The queues of all flows. A flow is called by its number, from 0. All packets stand in one slab, and each has
@@ -117,14 +134,7 @@ impl Chains {
     {
         let chain = self.chains[flow as usize]?;
         let first = self.slots.remove(chain.first);
-        self.chains[flow as usize] = match first.next {
-            Some(next) => Some(Chain {
-                first: next,
-                last: chain.last,
-                len: chain.len - 1,
-            }),
-            None => None,
-        };
+        self.chains[flow as usize] = chain.without_first(first.next);
         Some(first.waiting)
     }
 
