@@ -1,9 +1,10 @@
 -- What a push and a pop leave of the chains, and what callers see of it.
-use Rattle.std.proofs.Common.{◌≡◌, ◌≢◌, ◌⊎◌, ℕ, zero, suc, ◌+◌, ◌-◌, ◌<◌, ◌≤◌, Option, None, Some, is_some, cond, List, [], ◌∷◌, ◌++◌, All, length, map, get_or, set, drop, slice_get, sum_by, refl, sym, ap, subst, ◌∙◌, inl, inr, arith, length-append}
+use Rattle.std.proofs.Common.{◌≡◌, ◌≢◌, ◌⊎◌, ℕ, zero, suc, ◌+◌, ◌-◌, ◌<◌, ◌≤◌, Option, None, Some, is_some, cond, List, [], ◌∷◌, ◌++◌, All, length, map, get_or, set, replicate, drop, slice_get, sum_by, refl, sym, ap, subst, ◌∙◌, inl, inr, arith, length-append}
 use Rattle.std.proofs.Math.ListN.{get_or-map}
 use Rattle.std.proofs.lemmas.Bool.{cases_lt}
 use Rattle.std.proofs.lemmas.List.{get_or_default, get_or_past, length-map, length-set, map-append}
-use Rattle.std.proofs.lemmas.List.Elements.{All-get_or}
+use Rattle.std.proofs.lemmas.List.Elements.{All-get_or, All-replicate}
+use Rattle.std.proofs.lemmas.List.Folds.{sum_by-replicate}
 use Rattle.std.proofs.lemmas.List.Sums.{get_or-le-sum_by, sum_by-cons, sum_by-set}
 use Rattle.packet_core.specs.declared.packet.Waiting.{Waiting}
 use Rattle.slab.specs.Slab.{ContainsKey, Slab, Updates, get, slab_len, with_value}
@@ -188,3 +189,30 @@ pop_seen f h kept new flow first rest seen is_cons are =
 pub pop_head_seen : (f : Inside) (h : Queues) (kept : AreChained f) (flow : ℕ) (chain : Chain) → queues_of f ≡ h → (split : IsSplit (held f kept flow) chain) → slice_get (get_or h.queues flow []) 0 ≡ Some split.head.waiting
 pop_head_seen f h kept flow chain seen split =
     ap (λ (ws : List Waiting). slice_get ws 0) (at_seen f h kept flow seen ∙ ap waitings split.is)
+
+-- more memory changes no chain
+pub grown : (slots : Slab Link) (capacity : ℕ) (chains : List (Option Chain)) → AreChainsOf slots chains → AreChainsOf (record slots { capacity = capacity }) chains
+grown slots capacity chains c = record { placed = c.placed; ends = c.ends; linked = c.linked; once = c.once; apart = c.apart; counted = c.counted }
+
+map-replicate : {X Y : Type 0} (f : X → Y) (n : ℕ) (x : X) → map f (replicate n x) ≡ replicate n (f x)
+map-replicate f zero x = refl
+map-replicate f (suc n) x = ap (λ ys. f x ∷ ys) (map-replicate f n x)
+
+get_or-none : (n flow : ℕ) → ◌≡◌ {A = List Placed} (get_or (replicate n []) flow []) []
+get_or-none zero flow = refl
+get_or-none (suc n) zero = refl
+get_or-none (suc n) (suc flow) = get_or-none n flow
+
+-- no packet waits in any of so many flows
+pub opened : (slots : Slab Link) (n : ℕ) → slots.slots ≡ [] → AreChainsOf slots (replicate n None)
+opened slots n empty = record {
+  placed = replicate n [];
+  ends = sym (map-replicate ends_of n []);
+  linked = All-replicate (AreLinked slots) n [] tt;
+  once = All-replicate AreApart n [] tt;
+  apart = λ flow other key has _. absurd (subst (λ (ps : List Placed). HasKey ps key) (get_or-none n flow) has);
+  counted = rw empty (omega (arith, sum_by-replicate (length {A = Placed}) n []));
+}
+
+pub opened_seen : (slots : Slab Link) (n : ℕ) → map (packets_of slots) (replicate n None) ≡ replicate n []
+opened_seen slots n = map-replicate (packets_of slots) n None

@@ -69,9 +69,10 @@ impl Chains {
         requires { flows ≤ MAX_FLOWS }
         ensures { IfOk result (λ c. c.queues ≡ replicate flows []) }
     {
+        let chains = vec![in alloc; None; flows as usize]?;
         Ok(Chains {
             slots: Slab::new(alloc),
-            chains: vec![in alloc; None; flows as usize]?,
+            chains,
             room: 0,
         })
     }
