@@ -1,4 +1,5 @@
 pub mod Keeping
+pub mod Linking
 pub mod Listing
 pub mod Queueing
 pub mod Scanning

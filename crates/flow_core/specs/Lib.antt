@@ -2,5 +2,8 @@ pub mod Arrivals
 pub mod Fattest
 pub mod FlowLists
 pub mod Kept
+pub mod Links
 pub mod Listed
+pub mod ListedFlows
+pub mod NewAndOld
 pub mod Pulling

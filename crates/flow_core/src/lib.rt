@@ -7,6 +7,9 @@
 mod arrivals;
 mod flows;
 mod line;
+mod listed_flows;
+#[cfg(test)]
+mod listed_tests;
 #[cfg(test)]
 mod serving;
 #[cfg(test)]
