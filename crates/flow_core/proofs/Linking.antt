@@ -1,5 +1,5 @@
 -- Two lists of flows as chains of links in one table.
-use Rattle.std.proofs.Common.{◌≡◌, ◌≢◌, ◌⊎◌, ℕ, ◌<◌, ◌≤◌, suc, zero, Option, Some, None, List, [], ◌∷◌, ◌++◌, All, length, get_or, set, drop, take, Contains, refl, sym, ap, subst, ◌∙◌, ⊎_elim, inl, inr, length-append, arith}
+use Rattle.std.proofs.Common.{◌≡◌, ◌≢◌, ◌⊎◌, ℕ, ◌<◌, ◌≤◌, suc, zero, Option, Some, None, IfSome, List, [], ◌∷◌, ◌++◌, All, length, get_or, set, drop, take, Contains, refl, sym, ap, subst, ◌∙◌, ⊎_elim, inl, inr, length-append, arith}
 use Rattle.std.proofs.lemmas.Bool.{cases_eq}
 use Rattle.std.proofs.lemmas.List.{get_or-set_same, get_or-set_other, length-set}
 use Rattle.std.proofs.lemmas.List.Elements.{All-contains, All-head, All-tail, Contains-append_cases, Contains-append_left, Contains-append_right, Contains-get_or, Contains-push_cases}
@@ -8,6 +8,7 @@ use Rattle.flow_core.specs.declared.listed_flows.Link.{Link}
 use Rattle.flow_core.specs.declared.listed_flows.Link.TheVariants.{Unlisted, Last, Next}
 use Rattle.flow_core.specs.FlowLists.{AreDistinct}
 use Rattle.flow_core.specs.Listed.{AreFlows}
+use Rattle.flow_core.specs.NewAndOld.{NewAndOld}
 use Rattle.flow_core.specs.Links.{link_of, flows_after, flows_of, Leads, IsChain, AreChains, rest_of, links_with, ends_with}
 use Rattle.flow_core.proofs.Listing.{add_new, new_to_old, rotate_old, leave_old, length-le_flows}
 
@@ -261,3 +262,76 @@ ends_within n links ends [] are h = absurd h
 ends_within n links ends (flow ∷ rest) are h =
     let first = All-head (λ (f : ℕ). f < n) flow rest are.within in
     (omega (arith, h.0), All-contains (λ (f : ℕ). f < n) (flow ∷ rest) ends.last are.within (leads_last links flow rest ends.last h.1))
+
+-- the last flow of each list
+pub new_last_within : (links : List Link) (new_ends old_ends : Option Ends) (new old : List ℕ) → AreChains links new_ends old_ends new old → IfSome new_ends (λ ends. ends.last < length links)
+new_last_within links None old_ends new old are = tt
+new_last_within links (Some ends) old_ends new old are = (ends_within (length links) links ends new (flows_left (length links) new old are.listed) are.new_chain).1
+
+pub old_last_within : (links : List Link) (new_ends old_ends : Option Ends) (new old : List ℕ) → AreChains links new_ends old_ends new old → IfSome old_ends (λ ends. ends.last < length links)
+old_last_within links new_ends None new old are = tt
+old_last_within links new_ends (Some ends) new old are = (ends_within (length links) links ends old (flows_right (length links) new old are.listed) are.old_chain).1
+
+-- the first flow of each list
+pub new_first_within : (links : List Link) (ends : Ends) (old_ends : Option Ends) (new old : List ℕ) → AreChains links (Some ends) old_ends new old → ends.first < length links
+new_first_within links ends old_ends new old are = (ends_within (length links) links ends new (flows_left (length links) new old are.listed) are.new_chain).0
+
+pub old_first_within : (links : List Link) (new_ends : Option Ends) (ends : Ends) (new old : List ℕ) → AreChains links new_ends (Some ends) new old → ends.first < length links
+old_first_within links new_ends ends new old are = (ends_within (length links) links ends old (flows_right (length links) new old are.listed) are.old_chain).0
+
+-- the last of the old ones without their first
+pub rest_last_within : (links : List Link) (new_ends : Option Ends) (ends : Ends) (new old : List ℕ) → AreChains links new_ends (Some ends) new old
+    → IfSome (rest_of links ends) (λ left. left.last < length links)
+rest_last_within links new_ends ends new [] are = absurd are.old_chain
+rest_last_within links new_ends ends new (flow ∷ rest) are =
+    last_of (rest_of links ends) rest (flows_rest (length links) flow rest (flows_right (length links) new (flow ∷ rest) are.listed)) (chain_rest links ends flow rest are.old_chain)
+  where
+    last_of : (list : Option Ends) (flows : List ℕ) → AreFlows (length links) flows → IsChain links list flows → IfSome list (λ left. left.last < length links)
+    last_of None flows are_flows chain = tt
+    last_of (Some left) flows are_flows chain = (ends_within (length links) links left flows are_flows chain).1
+
+-- what callers see of the chains
+pub lists_seen : (n : ℕ) (links : List Link) (new_ends old_ends : Option Ends) (new old : List ℕ) → length links ≡ n → AreChains links new_ends old_ends new old
+    → (let seen : NewAndOld = record { flows = length links; new_flows = flows_of links new_ends; old_flows = flows_of links old_ends } in seen) ≡ record { flows = n; new_flows = new; old_flows = old }
+lists_seen n links new_ends old_ends new old e are = rw (e, new_seen links new_ends old_ends new old are, old_seen links new_ends old_ends new old are) refl
+
+contains_or_not : (xs : List ℕ) (k : ℕ) → Contains xs k ⊎ (¬ Contains xs k)
+contains_or_not [] k = inr (λ (h : Contains [] k). absurd (let below = h.1 in omega arith))
+contains_or_not (x ∷ xs) k =
+    ⊎_elim
+    (λ (e : k ≡ x). inl (0, omega arith, sym e))
+    (λ (ne : k ≢ x). ⊎_elim
+        (λ (h : Contains xs k). inl (has_later x xs k h))
+        (λ (none : ¬ Contains xs k). inr (λ (h : Contains (x ∷ xs) k). ⊎_elim ne none (has_cases x xs k h)))
+        (contains_or_not xs k))
+    (cases_eq k x)
+
+-- the link of a flow that is listed
+leads_listed : (links : List Link) (flow : ℕ) (rest : List ℕ) (last k : ℕ) → Leads links flow rest last → Contains (flow ∷ rest) k → link_of links k ≢ Unlisted
+leads_listed links flow [] last k h has =
+    ⊎_elim
+    (λ (e : k ≡ flow). rw e (λ (t : link_of links flow ≡ Unlisted). let l = h.1 in absurd cc))
+    (λ (none : Contains [] k). absurd (let below = none.1 in omega arith))
+    (has_cases flow [] k has)
+leads_listed links flow (next ∷ rest) last k h has =
+    ⊎_elim
+    (λ (e : k ≡ flow). rw e (λ (t : link_of links flow ≡ Unlisted). let l = h.0 in absurd cc))
+    (λ (later : Contains (next ∷ rest) k). leads_listed links next rest last k h.1 later)
+    (has_cases flow (next ∷ rest) k has)
+
+chain_listed : (links : List Link) (list : Option Ends) (flows : List ℕ) (k : ℕ) → IsChain links list flows → Contains flows k → link_of links k ≢ Unlisted
+chain_listed links None flows k h has = absurd (let none = rw h at has in let below = none.1 in omega arith)
+chain_listed links (Some ends) [] k h has = absurd h
+chain_listed links (Some ends) (flow ∷ rest) k h has = leads_listed links flow rest ends.last k h.1 has
+
+-- a flow is in one of the lists where its link says so
+pub listed_by_link : (links : List Link) (new_ends old_ends : Option Ends) (new old : List ℕ) (k : ℕ) → AreChains links new_ends old_ends new old → link_of links k ≢ Unlisted → Contains (new ++ old) k
+listed_by_link links new_ends old_ends new old k are ne =
+    ⊎_elim (λ (h : Contains (new ++ old) k). h) (λ (none : ¬ Contains (new ++ old) k). absurd (ne (are.unlisted k none))) (contains_or_not (new ++ old) k)
+
+pub unlisted_by_link : (links : List Link) (new_ends old_ends : Option Ends) (new old : List ℕ) (k : ℕ) → AreChains links new_ends old_ends new old → link_of links k ≡ Unlisted → ¬ Contains (new ++ old) k
+unlisted_by_link links new_ends old_ends new old k are e =
+    λ (h : Contains (new ++ old) k). ⊎_elim
+    (λ (in_new : Contains new k). chain_listed links new_ends new k are.new_chain in_new e)
+    (λ (in_old : Contains old k). chain_listed links old_ends old k are.old_chain in_old e)
+    (Contains-append_cases new old k h)

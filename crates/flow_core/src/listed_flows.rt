@@ -1,4 +1,5 @@
-ghost use Rattle.std.specs.Prelude.{◌≡◌, ℕ, ◌+◌, ◌<◌, ◌≤◌, ◌↔◌, [], ◌∷◌, ◌++◌, Contains, IfOk, IfSome, IsTrue, drop, length, slice_get, take};
+ghost use Rattle.std.specs.Prelude.{◌≡◌, ◌≢◌, ℕ, ◌+◌, ◌<◌, ◌≤◌, ◌↔◌, [], ◌∷◌, ◌++◌, Contains, IfOk, IfSome, IsTrue, drop, length, slice_get, take};
+ghost use Rattle.flow_core.specs.declared.listed_flows.Link.TheVariants.{Unlisted};
 ghost use Rattle.flow_core.specs.Listed.{AreFlows};
 ghost use Rattle.flow_core.specs.Links.{ends_with, links_with, rest_of};
 
@@ -15,6 +16,15 @@ enum Link {
     Last,
     /// The flow of that number comes next in the list.
     Next(u32),
+}
+
+impl Link {
+    /// Whether the flow is in one of the lists.
+    fn is_listed(self) -> bool
+        ensures { IsTrue result ↔ (self ≢ Unlisted) }
+    {
+        !matches!(self, Link::Unlisted)
+    }
 }
 
 /// The first and the last flow of a list that isn't empty.
@@ -89,7 +99,10 @@ impl ListedFlows {
         ensures value { IsTrue result ↔ Contains (self.now.new_flows ++ self.now.old_flows) flow }
         ensures listed { AreFlows self.now.flows (self.now.new_flows ++ self.now.old_flows) }
     {
-        matches!(self.links.get(flow as usize), Some(Link::Last | Link::Next(_)))
+        let Some(link) = self.links.get(flow as usize) else {
+            return false;
+        };
+        link.is_listed()
     }
 
     /// A flow that is in no list comes to the end of the list of new flows (RFC 8290, section 4.1).
