@@ -70,9 +70,10 @@ leads_more : (links other : List Link) (flow : ℕ) (rest : List ℕ) (last adde
     → ((k : ℕ) → Contains (flow ∷ rest) k → k ≢ last → link_of other k ≡ link_of links k) → Leads links flow rest last → Leads other flow (rest ++ added ∷ []) added
 leads_more links other flow [] last added distinct at_last at_added same h = (ap (link_of other) h.0 ∙ at_last, (refl, at_added))
 leads_more links other flow (next ∷ rest) last added distinct at_last at_added same h =
-    let later = leads_last links next rest last h.1 in
-    (same flow (has_head flow (next ∷ rest)) (λ (e : flow ≡ last). head_apart flow (next ∷ rest) last distinct later (sym e)) ∙ h.0,
-    leads_more links other next rest last added distinct.1 at_last at_added (λ k c ne. same k (has_later flow (next ∷ rest) k c) ne) h.1)
+    let later = leads_last links next rest last h.1 in (
+      same flow (has_head flow (next ∷ rest)) (λ (e : flow ≡ last). head_apart flow (next ∷ rest) last distinct later (sym e)) ∙ h.0,
+      leads_more links other next rest last added distinct.1 at_last at_added (λ k c ne. same k (has_later flow (next ∷ rest) k c) ne) h.1,
+    )
 
 -- as many links as before
 pub length-links_with : (links : List Link) (list : Option Ends) (flow : ℕ) → length (links_with links list flow) ≡ length links
@@ -95,14 +96,15 @@ chain_with links (Some ends) [] flow within are absent h = absurd h
 chain_with links (Some ends) (first ∷ rest) flow within are absent h =
     let has_last = leads_last links first rest ends.last h.1 in
     let last_within : ends.last < length links = All-contains (λ (f : ℕ). f < length links) (first ∷ rest) ends.last are.within has_last in
-    let ne_last : flow ≢ ends.last = λ (e : flow ≡ ends.last). absent (subst (λ (l : ℕ). Contains (first ∷ rest) l) (sym e) has_last) in
-    (h.0,
-    leads_more links (links_with links (Some ends) flow) first rest ends.last flow are.once
-    (get_or-set_same (set links flow Last) ends.last (Next flow) Unlisted (omega (arith, length-set links flow Last)))
-    (get_or-set_other (set links flow Last) ends.last flow (Next flow) Unlisted ne_last ∙ get_or-set_same links flow Last Unlisted within)
-    (λ k c ne. get_or-set_other (set links flow Last) ends.last k (Next flow) Unlisted ne
-    ∙ get_or-set_other links flow k Last Unlisted (λ (e : k ≡ flow). absent (subst (λ (l : ℕ). Contains (first ∷ rest) l) e c)))
-    h.1)
+    let ne_last : flow ≢ ends.last = λ (e : flow ≡ ends.last). absent (subst (λ (l : ℕ). Contains (first ∷ rest) l) (sym e) has_last) in (
+      h.0,
+      leads_more links (links_with links (Some ends) flow) first rest ends.last flow are.once
+          (get_or-set_same (set links flow Last) ends.last (Next flow) Unlisted (omega (arith, length-set links flow Last)))
+          (get_or-set_other (set links flow Last) ends.last flow (Next flow) Unlisted ne_last ∙ get_or-set_same links flow Last Unlisted within)
+          (λ k c ne. get_or-set_other (set links flow Last) ends.last k (Next flow) Unlisted ne
+          ∙ get_or-set_other links flow k Last Unlisted (λ (e : k ≡ flow). absent (subst (λ (l : ℕ). Contains (first ∷ rest) l) e c)))
+          h.1,
+    )
 
 -- the list without its first flow
 chain_rest : (links : List Link) (ends : Ends) (flow : ℕ) (rest : List ℕ) → IsChain links (Some ends) (flow ∷ rest) → IsChain links (rest_of links ends) rest
@@ -147,7 +149,7 @@ add_new_linked links new_ends old_ends new old flow within absent are =
       unlisted = λ k none. elsewhere k are.new_chain
           (λ (e : k ≡ flow). none (Contains-append_left (new ++ flow ∷ []) old k (Contains-append_right new (flow ∷ []) k (0, omega arith, sym e))))
           (λ (h : Contains new k). none (Contains-append_left (new ++ flow ∷ []) old k (Contains-append_left new (flow ∷ []) k h)))
-      ∙ are.unlisted k (λ (h : Contains (new ++ old) k). ⊎_elim
+          ∙ are.unlisted k (λ (h : Contains (new ++ old) k). ⊎_elim
           (λ (in_new : Contains new k). none (Contains-append_left (new ++ flow ∷ []) old k (Contains-append_left new (flow ∷ []) k in_new)))
           (λ (in_old : Contains old k). none (Contains-append_right (new ++ flow ∷ []) old k in_old))
           (Contains-append_cases new old k h));
@@ -161,12 +163,12 @@ new_to_old_linked links ends old_ends (moved ∷ rest) old are =
     let n = length links in
     let elsewhere = with_elsewhere links old_ends old moved in
     let none_in : (k : ℕ) → ¬ Contains (rest ++ (old ++ moved ∷ [])) k → ¬ Contains (moved ∷ (rest ++ old)) k = λ k none. λ (h : Contains (moved ∷ (rest ++ old)) k). ⊎_elim
-        (λ (e : k ≡ moved). none (Contains-append_right rest (old ++ moved ∷ []) k (Contains-append_right old (moved ∷ []) k (0, omega arith, sym e))))
-        (λ (later : Contains (rest ++ old) k). ⊎_elim
-            (λ (in_rest : Contains rest k). none (Contains-append_left rest (old ++ moved ∷ []) k in_rest))
-            (λ (in_old : Contains old k). none (Contains-append_right rest (old ++ moved ∷ []) k (Contains-append_left old (moved ∷ []) k in_old)))
-            (Contains-append_cases rest old k later))
-        (has_cases moved (rest ++ old) k h)
+    (λ (e : k ≡ moved). none (Contains-append_right rest (old ++ moved ∷ []) k (Contains-append_right old (moved ∷ []) k (0, omega arith, sym e))))
+    (λ (later : Contains (rest ++ old) k). ⊎_elim
+    (λ (in_rest : Contains rest k). none (Contains-append_left rest (old ++ moved ∷ []) k in_rest))
+    (λ (in_old : Contains old k). none (Contains-append_right rest (old ++ moved ∷ []) k (Contains-append_left old (moved ∷ []) k in_old)))
+    (Contains-append_cases rest old k later))
+    (has_cases moved (rest ++ old) k h)
     in
     subst (λ (f : ℕ). AreChains (links_with links old_ends f) (rest_of links ends) (Some (ends_with old_ends f)) rest (old ++ moved ∷ [])) (sym are.new_chain.0) (record {
       new_chain = chain_same links (links_with links old_ends moved) (rest_of links ends) rest
@@ -178,7 +180,7 @@ new_to_old_linked links ends old_ends (moved ∷ rest) old are =
       unlisted = λ k none. elsewhere k are.old_chain
           (λ (e : k ≡ moved). none_in k none (subst (λ (j : ℕ). Contains (j ∷ (rest ++ old)) k) e (has_head k (rest ++ old))))
           (λ (h : Contains old k). none_in k none (has_later moved (rest ++ old) k (Contains-append_right rest old k h)))
-      ∙ are.unlisted k (none_in k none);
+          ∙ are.unlisted k (none_in k none);
     })
 
 -- the first of the old ones becomes the last of them
@@ -192,12 +194,12 @@ rotate_old_linked links new_ends ends new (moved ∷ rest) are =
     let own = flows_right n new (moved ∷ rest) are.listed in
     let elsewhere = with_elsewhere links left rest moved in
     let none_in : (k : ℕ) → ¬ Contains (new ++ (rest ++ moved ∷ [])) k → ¬ Contains (new ++ moved ∷ rest) k = λ k none. λ (h : Contains (new ++ moved ∷ rest) k). ⊎_elim
-        (λ (in_new : Contains new k). none (Contains-append_left new (rest ++ moved ∷ []) k in_new))
-        (λ (in_old : Contains (moved ∷ rest) k). none (Contains-append_right new (rest ++ moved ∷ []) k (⊎_elim
-            (λ (e : k ≡ moved). Contains-append_right rest (moved ∷ []) k (0, omega arith, sym e))
-            (λ (in_rest : Contains rest k). Contains-append_left rest (moved ∷ []) k in_rest)
-            (has_cases moved rest k in_old))))
-        (Contains-append_cases new (moved ∷ rest) k h)
+    (λ (in_new : Contains new k). none (Contains-append_left new (rest ++ moved ∷ []) k in_new))
+    (λ (in_old : Contains (moved ∷ rest) k). none (Contains-append_right new (rest ++ moved ∷ []) k (⊎_elim
+    (λ (e : k ≡ moved). Contains-append_right rest (moved ∷ []) k (0, omega arith, sym e))
+    (λ (in_rest : Contains rest k). Contains-append_left rest (moved ∷ []) k in_rest)
+    (has_cases moved rest k in_old))))
+    (Contains-append_cases new (moved ∷ rest) k h)
     in
     subst (λ (f : ℕ). AreChains (links_with links left f) new_ends (Some (ends_with left f)) new (rest ++ moved ∷ [])) (sym are.old_chain.0) (record {
       new_chain = chain_same links (links_with links left moved) new_ends new
@@ -211,7 +213,7 @@ rotate_old_linked links new_ends ends new (moved ∷ rest) are =
       unlisted = λ k none. elsewhere k rest_chain
           (λ (e : k ≡ moved). none_in k none (Contains-append_right new (moved ∷ rest) k (subst (λ (j : ℕ). Contains (j ∷ rest) k) e (has_head k rest))))
           (λ (h : Contains rest k). none_in k none (Contains-append_right new (moved ∷ rest) k (has_later moved rest k h)))
-      ∙ are.unlisted k (none_in k none);
+          ∙ are.unlisted k (none_in k none);
     })
 
 -- the first of the old ones leaves
@@ -234,9 +236,9 @@ leave_old_linked links new_ends ends new (gone ∷ rest) are =
       unlisted = λ k none. ⊎_elim
           (λ (e : k ≡ gone). rw e (get_or-set_same links gone Unlisted Unlisted within))
           (λ (ne : k ≢ gone). get_or-set_other links gone k Unlisted Unlisted ne ∙ are.unlisted k (λ (h : Contains (new ++ gone ∷ rest) k). ⊎_elim
-              (λ (in_new : Contains new k). none (Contains-append_left new rest k in_new))
-              (λ (in_old : Contains (gone ∷ rest) k). ⊎_elim ne (λ (in_rest : Contains rest k). none (Contains-append_right new rest k in_rest)) (has_cases gone rest k in_old))
-              (Contains-append_cases new (gone ∷ rest) k h)))
+          (λ (in_new : Contains new k). none (Contains-append_left new rest k in_new))
+          (λ (in_old : Contains (gone ∷ rest) k). ⊎_elim ne (λ (in_rest : Contains rest k). none (Contains-append_right new rest k in_rest)) (has_cases gone rest k in_old))
+          (Contains-append_cases new (gone ∷ rest) k h)))
           (cases_eq k gone);
     })
 
@@ -301,9 +303,9 @@ contains_or_not (x ∷ xs) k =
     ⊎_elim
     (λ (e : k ≡ x). inl (0, omega arith, sym e))
     (λ (ne : k ≢ x). ⊎_elim
-        (λ (h : Contains xs k). inl (has_later x xs k h))
-        (λ (none : ¬ Contains xs k). inr (λ (h : Contains (x ∷ xs) k). ⊎_elim ne none (has_cases x xs k h)))
-        (contains_or_not xs k))
+    (λ (h : Contains xs k). inl (has_later x xs k h))
+    (λ (none : ¬ Contains xs k). inr (λ (h : Contains (x ∷ xs) k). ⊎_elim ne none (has_cases x xs k h)))
+    (contains_or_not xs k))
     (cases_eq k x)
 
 -- the link of a flow that is listed

@@ -13,6 +13,6 @@ returns-clause-value c =
     let new = flows_of links f.new_flows in
     let old = flows_of links f.old_flows in
     rw (← c.self.view_is) (
-        λ t. listed_by_link links f.new_flows f.old_flows new old c.args.flow c.self.invariant.chains (λ e. c.is_listed.ensures.0 t (same ∙ e)),
-        λ h. c.is_listed.ensures.1 (λ e. unlisted_by_link links f.new_flows f.old_flows new old c.args.flow c.self.invariant.chains (sym same ∙ e) h),
+      λ t. listed_by_link links f.new_flows f.old_flows new old c.args.flow c.self.invariant.chains (λ e. c.is_listed.ensures.0 t (same ∙ e)),
+      λ h. c.is_listed.ensures.1 (λ e. unlisted_by_link links f.new_flows f.old_flows new old c.args.flow c.self.invariant.chains (sym same ∙ e) h),
     )
