@@ -1,6 +1,7 @@
 pub mod Chained
 pub mod Chaining
 pub mod Keeping
+pub mod Linking
 pub mod Listing
 pub mod Queueing
 pub mod Scanning

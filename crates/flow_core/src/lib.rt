@@ -10,6 +10,9 @@ mod chain_tests;
 mod chains;
 mod flows;
 mod line;
+mod listed_flows;
+#[cfg(test)]
+mod listed_tests;
 #[cfg(test)]
 mod serving;
 #[cfg(test)]
