@@ -4,3 +4,6 @@ pub mod FlowLists
 pub mod Kept
 pub mod Listed
 pub mod Pulling
+pub mod WinnerNodes
+pub mod Winners
+pub mod WinnersKept
