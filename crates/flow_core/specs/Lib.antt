@@ -9,3 +9,6 @@ pub mod ListedFlows
 pub mod NewAndOld
 pub mod Pulling
 pub mod Queues
+pub mod WinnerNodes
+pub mod Winners
+pub mod WinnersKept

@@ -17,6 +17,9 @@ mod listed_tests;
 mod serving;
 #[cfg(test)]
 mod tests;
+#[cfg(test)]
+mod winner_tests;
+mod winner_tree;
 
 pub use arrivals::MAX_WAITING;
 pub use flows::{Flows, MAX_FLOWS, Memory};
