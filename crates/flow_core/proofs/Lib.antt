@@ -3,5 +3,3 @@ pub mod Chaining
 pub mod Keeping
 pub mod Linking
 pub mod Listing
-pub mod Queueing
-pub mod Scanning

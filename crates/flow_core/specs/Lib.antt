@@ -1,4 +1,3 @@
-pub mod Arrivals
 pub mod Chains
 pub mod Fattest
 pub mod FlowLists
