@@ -194,7 +194,7 @@ pop_head_seen f h kept flow chain seen split =
 pub grown : (slots : Slab Link) (capacity : ℕ) (chains : List (Option Chain)) → AreChainsOf slots chains → AreChainsOf (record slots { capacity = capacity }) chains
 grown slots capacity chains c = record { placed = c.placed; ends = c.ends; linked = c.linked; once = c.once; apart = c.apart; counted = c.counted }
 
-map-replicate : {X Y : Type 0} (f : X → Y) (n : ℕ) (x : X) → map f (replicate n x) ≡ replicate n (f x)
+pub map-replicate : {X Y : Type 0} (f : X → Y) (n : ℕ) (x : X) → map f (replicate n x) ≡ replicate n (f x)
 map-replicate f zero x = refl
 map-replicate f (suc n) x = ap (λ ys. f x ∷ ys) (map-replicate f n x)
 
