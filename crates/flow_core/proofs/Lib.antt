@@ -1,4 +1,6 @@
+pub mod Climbing
 pub mod Keeping
 pub mod Listing
 pub mod Queueing
 pub mod Scanning
+pub mod Winning

@@ -1,8 +1,8 @@
 //! The bytes that wait in each flow, and the flow that has the most, in a tree of winners. A change of one flow's
 //! bytes is a walk from its leaf towards the root, and the winner of all flows is read at the root.
-ghost use Rattle.std.specs.Prelude.{◌≡◌, ℕ, ◌+◌, ◌-◌, ◌^◌, ◌<◌, ◌≤◌, ◌↔◌, All, IfOk, IfSome, IsNone, length, min, replicate, slice_index, slice_set};
+ghost use Rattle.std.specs.Prelude.{◌≡◌, ℕ, ◌+◌, ◌-◌, ◌%◌, ◌^◌, ◌<◌, ◌≤◌, ◌↔◌, All, IfOk, IfSome, IsNone, length, min, replicate, slice_index, slice_set};
 ghost use Rattle.flow_core.specs.Winners.{CountsFew, HasMostBytes, IsLevels};
-ghost use Rattle.flow_core.specs.WinnerNodes.{AreWinners, HasFallen, HasGrown};
+ghost use Rattle.flow_core.specs.WinnerNodes.{AreWinners, HasFallen, HasGrown, HasLeaves};
 
 use crate::flows::{MAX_FLOWS, Memory};
 use std::alloc::Global;
@@ -176,7 +176,8 @@ fn bytes_of(bytes: &[u64], flow: u32) -> u64
 fn better(bytes: &[u64], comparisons: &mut u64, left: u32, right: u32) -> u32
     ensures right { slice_index bytes.now left < slice_index bytes.now right → result ≡ right }
     ensures left { slice_index bytes.now right ≤ slice_index bytes.now left → result ≡ left }
-    ensures comparisons { comparisons.new ≡ min (comparisons.old + 1) u64.MAX }
+    ensures counted { comparisons.new ≡ min (comparisons.old + 1) u64.MAX }
+    ensures none_lost { comparisons.old ≤ comparisons.new }
 {
     *comparisons = comparisons.saturating_add(1);
     if bytes_of(bytes, left) < bytes_of(bytes, right) {
@@ -191,7 +192,8 @@ fn better_of_pair(bytes: &[u64], comparisons: &mut u64, flow: u32) -> u32
     requires { flow + 1 < 2 ^ 32 }
     ensures right { let left = flow - flow % 2 in slice_index bytes.now left < slice_index bytes.now (left + 1) → result ≡ left + 1 }
     ensures left { let left = flow - flow % 2 in slice_index bytes.now (left + 1) ≤ slice_index bytes.now left → result ≡ left }
-    ensures comparisons { comparisons.new ≡ min (comparisons.old + 1) u64.MAX }
+    ensures counted { comparisons.new ≡ min (comparisons.old + 1) u64.MAX }
+    ensures none_lost { comparisons.old ≤ comparisons.new }
 {
     let left = flow - flow % 2;
     better(bytes, comparisons, left, left + 1)
@@ -200,8 +202,7 @@ fn better_of_pair(bytes: &[u64], comparisons: &mut u64, flow: u32) -> u32
 // A flow's count grew: it wins at more of the nodes above its leaf, up to the first where it does not.
 fn raise(bytes: &[u64], winners: &mut [u32], comparisons: &mut u64, flow: u32)
     requires flow { flow < length bytes.now }
-    requires leaves { (length bytes.now ≤ length winners.old) × (length winners.old ≤ MAX_FLOWS) }
-    requires doubled { (levels : ℕ) × (length winners.old ≡ 2 ^ levels) }
+    requires leaves { HasLeaves (length bytes.now) (length winners.old) }
     requires grown { HasGrown bytes.now winners.old flow }
     ensures winners { AreWinners bytes.now winners.new }
     ensures none_lost { comparisons.old ≤ comparisons.new }
@@ -234,8 +235,7 @@ fn raise(bytes: &[u64], winners: &mut [u32], comparisons: &mut u64, flow: u32)
 // A flow's count fell: each node where it won gets a new winner, up to the first where it did not.
 fn lower(bytes: &[u64], winners: &mut [u32], comparisons: &mut u64, flow: u32)
     requires flow { flow < length bytes.now }
-    requires leaves { (length bytes.now ≤ length winners.old) × (length winners.old ≤ MAX_FLOWS) }
-    requires doubled { (levels : ℕ) × (length winners.old ≡ 2 ^ levels) }
+    requires leaves { HasLeaves (length bytes.now) (length winners.old) }
     requires fallen { HasFallen bytes.now winners.old flow }
     ensures winners { AreWinners bytes.now winners.new }
     ensures none_lost { comparisons.old ≤ comparisons.new }
