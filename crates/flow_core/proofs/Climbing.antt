@@ -4,6 +4,7 @@ use Rattle.std.proofs.Math.Nat.{suc-add, pow-suc}
 use Rattle.std.proofs.Math.Pow.{pow_mono}
 use Rattle.std.proofs.lemmas.Bool.{cases_lt}
 use Rattle.flow_core.specs.WinnerNodes.{node_above, IsBelow, IsPowerOfTwo}
+use Rattle.flow_core.specs.Winners.{IsLevels}
 
 -- a climb in two parts
 node_above-add : (m h node : ℕ) → node_above (m + h) node ≡ node_above m (node_above h node)
@@ -188,3 +189,23 @@ pair_of_leaves leaves flow doubled within some = even doubled.exponent doubled.p
     even : (e : ℕ) → leaves ≡ 2 ^ e → let left = flow - flow % 2 in (2 * ((leaves + flow) / 2) ≡ leaves + left) × (left + 1 < leaves) × ((leaves + flow) / 2 < leaves)
     even zero power = absurd (omega arith)
     even (suc e) power = let twice = rw (pow-suc 2 e) at power in (omega arith, omega arith, omega arith)
+
+-- few levels give few leaves
+pub levels_small : (levels : ℕ) → 2 ^ levels < 131072 → levels < 17
+levels_small levels few = ⊎_elim
+    (λ (less : levels < 17). less)
+    (λ (most : 17 ≤ levels). absurd (let wide : 2 ^ 17 ≤ 2 ^ levels = pow_mono {i = 17} {j = levels} most in omega arith))
+    (cases_lt levels 17)
+
+-- half of those leaves were too few
+pub levels_least : (flows levels : ℕ) → flows ≤ 2 ^ levels → 2 ^ levels < 2 * flows → IsLevels flows levels
+levels_least flows levels enough few = record {
+  enough = enough;
+  least = λ fewer other. ⊎_elim
+      (λ (less : fewer < levels). absurd (
+          let wide : 2 ^ suc fewer ≤ 2 ^ levels = pow_mono {i = suc fewer} {j = levels} (omega arith) in
+          let twice = rw (pow-suc 2 fewer) at wide in
+          omega arith))
+      (λ (most : levels ≤ fewer). most)
+      (cases_lt fewer levels);
+}

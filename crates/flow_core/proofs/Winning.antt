@@ -1,5 +1,6 @@
 -- The winner among the flows below each node of a tree, and a change of one flow's bytes.
-use Rattle.std.proofs.Common.{◌≡◌, ◌≢◌, ℕ, zero, suc, ◌+◌, ◌*◌, ◌/◌, ◌%◌, ◌-◌, ◌^◌, ◌<◌, ◌≤◌, List, length, get_or, set, min, refl, sym, ap, subst, ◌∙◌, ⊎_elim, arith, get_or-set_other, get_or-set_same, length-set}
+use Rattle.std.proofs.Common.{◌≡◌, ◌≢◌, ℕ, zero, suc, ◌+◌, ◌*◌, ◌/◌, ◌%◌, ◌-◌, ◌^◌, ◌<◌, ◌≤◌, List, [], length, get_or, set, min, refl, sym, ap, subst, ◌∙◌, ⊎_elim, arith, get_or-set_other, get_or-set_same, length-set}
+use Rattle.std.proofs.Math.Nat.{pow-suc}
 use Rattle.std.proofs.lemmas.Bool.{cases_eq, cases_lt}
 use Rattle.flow_core.specs.WinnerNodes.{AreWinners, AreWinnersFrom, HasFallen, HasGrown, IsBelow, IsPowerOfTwo, IsWinner, node_above, WinsOver}
 use Rattle.flow_core.proofs.Climbing.{below_above, below_child, below_leaf, below_parent, below_root, further_up, leaf_has_one, left_before_right, level_within, not_between, pair_of_leaves, pair_within}
@@ -87,6 +88,59 @@ pair_wins bytes leaves flow x doubled within some is_right is_left =
     let at_left = subst (λ (k : ℕ). IsWinner bytes leaves k left) there (winner_at_leaf bytes leaves left (omega arith)) in
     let at_right = subst (λ (k : ℕ). IsWinner bytes leaves k (left + 1)) beside (winner_at_leaf bytes leaves (left + 1) pair.1) in
     better_wins bytes leaves node left (left + 1) x doubled some pair.2 at_left at_right is_right is_left
+
+-- where no flow has bytes the left one wins
+first_wins : (leaves node a b : ℕ) → IsPowerOfTwo leaves → 1 ≤ node → node < leaves
+    → IsWinner [] leaves (2 * node) a → IsWinner [] leaves (2 * node + 1) b → IsWinner [] leaves node a
+first_wins leaves node a b doubled some inner left right = left_wins [] leaves node a b doubled some inner left right (omega arith)
+
+-- the next winner where no flow has bytes
+pub first_next : (winners : List ℕ) (node x : ℕ) → IsPowerOfTwo (length winners) → 1 ≤ node → node < length winners → AreWinnersFrom (node + 1) [] winners
+    → (2 * node < length winners → x ≡ get_or winners (2 * node) 0) → (length winners ≤ 2 * node → x + length winners ≡ 2 * node)
+    → IsWinner [] (length winners) node x
+first_next winners node x doubled some inner right is_inner is_leaf = ⊎_elim
+    (λ (low : 2 * node < length winners).
+      let beside = pair_within (length winners) (2 * node) doubled (omega arith) low in
+      subst (λ (o : ℕ). IsWinner [] (length winners) node o) (sym (is_inner low))
+      (first_wins (length winners) node (get_or winners (2 * node) 0) (get_or winners (2 * node + 1) 0) doubled some inner
+        (right (2 * node) (omega arith) low) (right (2 * node + 1) (omega arith) (omega arith))))
+    (λ (high : length winners ≤ 2 * node).
+      let leaf = is_leaf high in
+      let at_left : length winners + x ≡ 2 * node = omega arith in
+      let at_right : length winners + (x + 1) ≡ 2 * node + 1 = omega arith in
+      first_wins (length winners) node x (x + 1) doubled some inner
+      (subst (λ (k : ℕ). IsWinner [] (length winners) k x) at_left (winner_at_leaf [] (length winners) x (omega arith)))
+      (subst (λ (k : ℕ). IsWinner [] (length winners) k (x + 1)) at_right (winner_at_leaf [] (length winners) (x + 1) (right_leaf doubled.exponent doubled.power leaf))))
+    (cases_lt (2 * node) (length winners))
+  where
+    right_leaf : (e : ℕ) → length winners ≡ 2 ^ e → x + length winners ≡ 2 * node → x + 1 < length winners
+    right_leaf zero power leaf = absurd (omega arith)
+    right_leaf (suc e) power leaf = let twice = rw (pow-suc 2 e) at power in omega arith
+
+-- the winner is written
+pub first_written : (winners : List ℕ) (node x : ℕ) → node < length winners → AreWinnersFrom (node + 1) [] winners → IsWinner [] (length winners) node x
+    → AreWinnersFrom node [] (set winners node x)
+first_written winners node x inner right winner other from within = ⊎_elim
+    (λ (e : other ≡ node). rw (length-set winners node x, e, get_or-set_same winners node x 0 inner) winner)
+    (λ (ne : other ≢ node).
+      let size = length-set winners node x in
+      rw (size, get_or-set_other winners node other x 0 ne) (right other (omega arith) (omega arith)))
+    (cases_eq other node)
+
+-- counts that are the same flow by flow have the same winners
+pub same_winners : (old new winners : List ℕ) → ((flow : ℕ) → get_or new flow 0 ≡ get_or old flow 0) → AreWinners old winners → AreWinners new winners
+same_winners old new winners same were node some within =
+    let held = were node some within in
+    let a = get_or winners node 0 in
+    record {
+      below = held.below;
+      wins = λ other below.
+          let won = held.wins other below in
+          let result : WinsOver new a other = record {
+            greatest = omega (arith, same other, same a, won.greatest);
+            least = λ less. omega (arith, same other, same a, won.least less);
+          } in result;
+    }
 
 -- One flow's count grew.
 pub record OneGrew (old new : List ℕ) (flow : ℕ) : Type 0 where
