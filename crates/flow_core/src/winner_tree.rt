@@ -1,8 +1,8 @@
 //! The bytes that wait in each flow, and the flow that has the most, in a tree of winners. A change of one flow's
 //! bytes is a walk from its leaf towards the root, and the winner of all flows is read at the root.
-ghost use Rattle.std.specs.Prelude.{◌≡◌, ℕ, ◌+◌, ◌-◌, ◌^◌, ◌<◌, ◌≤◌, ◌↔◌, All, IfOk, IfSome, IsNone, length, min, replicate, slice_index, slice_set};
+ghost use Rattle.std.specs.Prelude.{◌≡◌, ℕ, [], ◌+◌, ◌-◌, ◌*◌, ◌%◌, ◌^◌, ◌<◌, ◌≤◌, ◌↔◌, All, IfOk, IfSome, IsNone, length, min, replicate, slice_index, slice_set, vec_len};
 ghost use Rattle.flow_core.specs.Winners.{CountsFew, HasMostBytes, IsLevels};
-ghost use Rattle.flow_core.specs.WinnerNodes.{AreWinners, HasFallen, HasGrown};
+ghost use Rattle.flow_core.specs.WinnerNodes.{AreWinners, HasFallen, HasGrown, HasLeaves, IsPowerOfTwo};
 
 use crate::flows::{MAX_FLOWS, Memory};
 use std::alloc::Global;
@@ -42,7 +42,7 @@ impl WinnerTree {
         let levels = levels_over(flows);
         Ok(WinnerTree {
             bytes: vec![in alloc; 0; flows as usize]?,
-            winners: first_winners(alloc, flows, levels)?,
+            winners: first_winners(alloc, 1 << levels)?,
             levels,
             comparisons: 0,
         })
@@ -141,27 +141,35 @@ fn levels_over(flows: u32) -> u32
     levels
 }
 
-// The winners of flows that have no bytes.
-fn first_winners(alloc: Global, flows: u32, levels: u32) -> Result<Vec<u32>, Memory>
-    requires least { 1 ≤ flows }
-    requires most { flows ≤ MAX_FLOWS }
-    requires levels { IsLevels flows levels }
-    ensures leaves { IfOk result (λ w. length w.items ≡ 2 ^ levels) }
-    ensures winners { IfOk result (λ w. AreWinners (replicate flows 0) w.items) }
+// The winners in a tree of so many leaves, where no flow has bytes.
+fn first_winners(alloc: Global, leaves: usize) -> Result<Vec<u32>, Memory>
+    requires doubled { IsPowerOfTwo leaves }
+    requires most { leaves ≤ MAX_FLOWS }
+    ensures leaves { IfOk result (λ w. vec_len w ≡ leaves) }
+    ensures winners { IfOk result (λ w. AreWinners [] w.items) }
 {
-    let leaves = 1usize << levels;
     let mut winners = vec![in alloc; 0; leaves]?;
     let mut node = leaves;
     while node > 1 {
         node -= 1;
-        let left = 2 * node;
-        winners[node] = if left < leaves {
-            winners[left]
-        } else {
-            (left - leaves) as u32
-        };
+        winners[node] = left_winner(&winners, node);
     }
     Ok(winners)
+}
+
+// The winner at the left one of the nodes below an inner node.
+fn left_winner(winners: &[u32], node: usize) -> u32
+    requires node { node < length winners.now }
+    requires most { length winners.now ≤ MAX_FLOWS }
+    ensures inner { 2 * node < length winners.now → result ≡ slice_index winners.now (2 * node) }
+    ensures leaf { length winners.now ≤ 2 * node → result + length winners.now ≡ 2 * node }
+{
+    let left = 2 * node;
+    if left < winners.len() {
+        winners[left]
+    } else {
+        (left - winners.len()) as u32
+    }
 }
 
 // The bytes of a flow, 0 for a leaf that has none.
@@ -176,7 +184,8 @@ fn bytes_of(bytes: &[u64], flow: u32) -> u64
 fn better(bytes: &[u64], comparisons: &mut u64, left: u32, right: u32) -> u32
     ensures right { slice_index bytes.now left < slice_index bytes.now right → result ≡ right }
     ensures left { slice_index bytes.now right ≤ slice_index bytes.now left → result ≡ left }
-    ensures comparisons { comparisons.new ≡ min (comparisons.old + 1) u64.MAX }
+    ensures counted { comparisons.new ≡ min (comparisons.old + 1) u64.MAX }
+    ensures none_lost { comparisons.old ≤ comparisons.new }
 {
     *comparisons = comparisons.saturating_add(1);
     if bytes_of(bytes, left) < bytes_of(bytes, right) {
@@ -191,7 +200,8 @@ fn better_of_pair(bytes: &[u64], comparisons: &mut u64, flow: u32) -> u32
     requires { flow + 1 < 2 ^ 32 }
     ensures right { let left = flow - flow % 2 in slice_index bytes.now left < slice_index bytes.now (left + 1) → result ≡ left + 1 }
     ensures left { let left = flow - flow % 2 in slice_index bytes.now (left + 1) ≤ slice_index bytes.now left → result ≡ left }
-    ensures comparisons { comparisons.new ≡ min (comparisons.old + 1) u64.MAX }
+    ensures counted { comparisons.new ≡ min (comparisons.old + 1) u64.MAX }
+    ensures none_lost { comparisons.old ≤ comparisons.new }
 {
     let left = flow - flow % 2;
     better(bytes, comparisons, left, left + 1)
@@ -200,8 +210,7 @@ fn better_of_pair(bytes: &[u64], comparisons: &mut u64, flow: u32) -> u32
 // A flow's count grew: it wins at more of the nodes above its leaf, up to the first where it does not.
 fn raise(bytes: &[u64], winners: &mut [u32], comparisons: &mut u64, flow: u32)
     requires flow { flow < length bytes.now }
-    requires leaves { (length bytes.now ≤ length winners.old) × (length winners.old ≤ MAX_FLOWS) }
-    requires doubled { (levels : ℕ) × (length winners.old ≡ 2 ^ levels) }
+    requires leaves { HasLeaves (length bytes.now) (length winners.old) }
     requires grown { HasGrown bytes.now winners.old flow }
     ensures winners { AreWinners bytes.now winners.new }
     ensures none_lost { comparisons.old ≤ comparisons.new }
@@ -234,8 +243,7 @@ fn raise(bytes: &[u64], winners: &mut [u32], comparisons: &mut u64, flow: u32)
 // A flow's count fell: each node where it won gets a new winner, up to the first where it did not.
 fn lower(bytes: &[u64], winners: &mut [u32], comparisons: &mut u64, flow: u32)
     requires flow { flow < length bytes.now }
-    requires leaves { (length bytes.now ≤ length winners.old) × (length winners.old ≤ MAX_FLOWS) }
-    requires doubled { (levels : ℕ) × (length winners.old ≡ 2 ^ levels) }
+    requires leaves { HasLeaves (length bytes.now) (length winners.old) }
     requires fallen { HasFallen bytes.now winners.old flow }
     ensures winners { AreWinners bytes.now winners.new }
     ensures none_lost { comparisons.old ≤ comparisons.new }
