@@ -1,8 +1,8 @@
 -- Two lists of flows as chains of links in one table.
-use Rattle.std.proofs.Common.{◌≡◌, ◌≢◌, ◌⊎◌, ℕ, ◌<◌, ◌≤◌, suc, zero, Option, Some, None, IfSome, List, [], ◌∷◌, ◌++◌, All, length, get_or, set, drop, take, Contains, refl, sym, ap, subst, ◌∙◌, ⊎_elim, inl, inr, append_assoc, length-append, arith}
+use Rattle.std.proofs.Common.{◌≡◌, ◌≢◌, ◌⊎◌, ℕ, ◌<◌, ◌≤◌, suc, zero, Option, Some, None, IfSome, List, [], ◌∷◌, ◌++◌, length, get_or, set, drop, take, Contains, refl, sym, ap, subst, ◌∙◌, ⊎_elim, inl, inr, append_assoc, length-append, arith}
 use Rattle.std.proofs.lemmas.Bool.{cases_eq}
 use Rattle.std.proofs.lemmas.List.{get_or-set_same, get_or-set_other, length-set}
-use Rattle.std.proofs.lemmas.List.Elements.{All-contains, All-head, All-tail, Contains-append_cases, Contains-append_left, Contains-append_right, Contains-get_or, Contains-push_cases}
+use Rattle.std.proofs.lemmas.List.Elements.{All-contains, All-head, All-tail, Contains-append_cases, Contains-append_left, Contains-append_right, Contains-get_or}
 use Rattle.flow_core.specs.declared.listed_flows.Ends.{Ends}
 use Rattle.flow_core.specs.declared.listed_flows.Link.{Link}
 use Rattle.flow_core.specs.declared.listed_flows.Link.TheVariants.{Unlisted, Last, Next}
@@ -82,17 +82,6 @@ leads_more links other flow (next ∷ rest) last added distinct at_last at_added
       leads_more links other next rest last added distinct.1 at_last at_added (λ k c ne. same k (has_later flow (next ∷ rest) k c) ne) h.1,
     )
 
--- a flow comes to the end of a list of none
-pub appends_none : (links : List Link) (flow : ℕ) → flow < length links → Appends links None flow (set links flow Last) (record { first = flow; last = flow })
-appends_none links flow within = record {
-  len = length-set links flow Last;
-  chain = λ flows are absent chain. chain_of flows chain;
-  others = λ flows k chain absent. get_or-set_other links flow k Last Unlisted (λ (e : k ≡ flow). absent (at_end flows flow k e));
-}
-  where
-    chain_of : (flows : List ℕ) → flows ≡ [] → IsChain (set links flow Last) (Some (record { first = flow; last = flow })) (flows ++ flow ∷ [])
-    chain_of flows e = rw e (refl, (refl, get_or-set_same links flow Last Unlisted within))
-
 -- a flow comes after the last one
 pub appends_some : (links : List Link) (ends : Ends) (flow : ℕ) → flow < length links → ends.last < length links
     → Appends links (Some ends) flow (set (set links flow Last) ends.last (Next flow)) (record { first = ends.first; last = flow })
@@ -106,18 +95,20 @@ appends_some links ends flow within last_within = record {
   where
     elsewhere : (k : ℕ) → k ≢ flow → k ≢ ends.last → link_of (set (set links flow Last) ends.last (Next flow)) k ≡ link_of links k
     elsewhere k ne ne_last = get_or-set_other (set links flow Last) ends.last k (Next flow) Unlisted ne_last ∙ get_or-set_other links flow k Last Unlisted ne
+
     chain_of : (flows : List ℕ) → AreFlows (length links) flows → ¬ Contains flows flow → IsChain links (Some ends) flows
         → IsChain (set (set links flow Last) ends.last (Next flow)) (Some (record { first = ends.first; last = flow })) (flows ++ flow ∷ [])
     chain_of [] are absent chain = absurd chain
     chain_of (first ∷ rest) are absent chain =
         let has_last = leads_last links first rest ends.last chain.1 in
-        let ne_last : flow ≢ ends.last = λ (e : flow ≡ ends.last). absent (subst (λ (l : ℕ). Contains (first ∷ rest) l) (sym e) has_last) in
-        (chain.0,
-        leads_more links (set (set links flow Last) ends.last (Next flow)) first rest ends.last flow are.once
-        (get_or-set_same (set links flow Last) ends.last (Next flow) Unlisted (omega (arith, length-set links flow Last)))
-        (get_or-set_other (set links flow Last) ends.last flow (Next flow) Unlisted ne_last ∙ get_or-set_same links flow Last Unlisted within)
-        (λ k c ne. elsewhere k (λ (e : k ≡ flow). absent (subst (λ (l : ℕ). Contains (first ∷ rest) l) e c)) ne)
-        chain.1)
+        let ne_last : flow ≢ ends.last = λ (e : flow ≡ ends.last). absent (subst (λ (l : ℕ). Contains (first ∷ rest) l) (sym e) has_last) in (
+          chain.0,
+          leads_more links (set (set links flow Last) ends.last (Next flow)) first rest ends.last flow are.once
+              (get_or-set_same (set links flow Last) ends.last (Next flow) Unlisted (omega (arith, length-set links flow Last)))
+              (get_or-set_other (set links flow Last) ends.last flow (Next flow) Unlisted ne_last ∙ get_or-set_same links flow Last Unlisted within)
+              (λ k c ne. elsewhere k (λ (e : k ≡ flow). absent (subst (λ (l : ℕ). Contains (first ∷ rest) l) e c)) ne)
+              chain.1,
+        )
 
 -- what is left of a list, by the link of its first flow
 pub rest_none : (links : List Link) (list : Ends) → ((next : ℕ) → link_of links list.first ≢ Next next) → IsRest links list None
@@ -126,17 +117,6 @@ rest_none links list ne = record { chain = λ flow rest h. none flow rest h }
     none : (flow : ℕ) (rest : List ℕ) → IsChain links (Some list) (flow ∷ rest) → rest ≡ []
     none flow [] h = refl
     none flow (next ∷ rest) h = absurd (ne next (ap (link_of links) h.0 ∙ h.1.0))
-
-pub rest_next : (links : List Link) (list : Ends) (next : ℕ) → link_of links list.first ≡ Next next → IsRest links list (Some (record { first = next; last = list.last }))
-rest_next links list next at = record { chain = λ flow rest h. some flow rest h }
-  where
-    some : (flow : ℕ) (rest : List ℕ) → IsChain links (Some list) (flow ∷ rest) → IsChain links (Some (record { first = next; last = list.last })) rest
-    some flow [] h = let e = ap (link_of links) h.0 in let l = h.1.1 in absurd cc
-    some flow (after ∷ rest) h =
-        let e = ap (link_of links) h.0 in
-        let l = h.1.0 in
-        let same : next ≡ after = cc in
-        (same, h.1.1)
 
 -- the flows that are found one after another
 follows : (links : List Link) (flow : ℕ) (rest : List ℕ) (last most : ℕ) → length rest ≤ most → Leads links flow rest last → flows_after links most (link_of links flow) ≡ rest
@@ -255,7 +235,7 @@ leave_old_linked links new_list old_list new (gone ∷ rest) left is_rest are =
         ⊎_elim
         (λ (in_new : Contains new k). Contains-append_left new rest k in_new)
         (λ (in_old : Contains (gone ∷ rest) k). Contains-append_right new rest k
-            (⊎_elim (λ (e : k ≡ gone). absurd (ne e)) (λ (later : Contains rest k). later) (has_cases gone rest k in_old)))
+        (⊎_elim (λ (e : k ≡ gone). absurd (ne e)) (λ (later : Contains rest k). later) (has_cases gone rest k in_old)))
         (Contains-append_cases new (gone ∷ rest) k h)
 
 -- what callers see

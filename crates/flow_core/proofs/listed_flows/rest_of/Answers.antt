@@ -1,4 +1,4 @@
-use Rattle.std.proofs.Common.{◌≡◌, ℕ, ⊎_elim}
+use Rattle.std.proofs.Common.{◌≡◌, ⊎_elim}
 use Rattle.flow_core.specs.declared.listed_flows.Link.TheVariants.{Unlisted, Last, Next}
 use Rattle.flow_core.specs.Links.{link_of}
 use Rattle.flow_core.proofs.Linking.{rest_none}
