@@ -1,15 +1,15 @@
 -- Two lists of flows as chains of links in one table.
-use Rattle.std.proofs.Common.{◌≡◌, ◌≢◌, ◌⊎◌, ℕ, ◌<◌, ◌≤◌, suc, zero, Option, Some, None, IfSome, List, [], ◌∷◌, ◌++◌, All, length, get_or, set, drop, take, Contains, refl, sym, ap, subst, ◌∙◌, ⊎_elim, inl, inr, length-append, arith}
+use Rattle.std.proofs.Common.{◌≡◌, ◌≢◌, ◌⊎◌, ℕ, ◌<◌, ◌≤◌, suc, zero, Option, Some, None, IfSome, List, [], ◌∷◌, ◌++◌, length, get_or, set, drop, take, Contains, refl, sym, ap, subst, ◌∙◌, ⊎_elim, inl, inr, append_assoc, length-append, arith}
 use Rattle.std.proofs.lemmas.Bool.{cases_eq}
 use Rattle.std.proofs.lemmas.List.{get_or-set_same, get_or-set_other, length-set}
-use Rattle.std.proofs.lemmas.List.Elements.{All-contains, All-head, All-tail, Contains-append_cases, Contains-append_left, Contains-append_right, Contains-get_or, Contains-push_cases}
+use Rattle.std.proofs.lemmas.List.Elements.{All-contains, All-head, All-tail, Contains-append_cases, Contains-append_left, Contains-append_right, Contains-get_or}
 use Rattle.flow_core.specs.declared.listed_flows.Ends.{Ends}
 use Rattle.flow_core.specs.declared.listed_flows.Link.{Link}
 use Rattle.flow_core.specs.declared.listed_flows.Link.TheVariants.{Unlisted, Last, Next}
 use Rattle.flow_core.specs.FlowLists.{AreDistinct}
 use Rattle.flow_core.specs.Listed.{AreFlows}
 use Rattle.flow_core.specs.NewAndOld.{NewAndOld}
-use Rattle.flow_core.specs.Links.{link_of, flows_after, flows_of, Leads, IsChain, AreChains, rest_of, links_with, ends_with}
+use Rattle.flow_core.specs.Links.{link_of, flows_after, flows_of, Leads, IsChain, AreChains, IsRest, Appends}
 use Rattle.flow_core.proofs.Listing.{add_new, new_to_old, rotate_old, leave_old, length-le_flows}
 
 has_head : (flow : ℕ) (rest : List ℕ) → Contains (flow ∷ rest) flow
@@ -65,6 +65,13 @@ leads_last : (links : List Link) (flow : ℕ) (rest : List ℕ) (last : ℕ) →
 leads_last links flow [] last h = subst (λ (l : ℕ). Contains (flow ∷ []) l) h.0 (has_head flow [])
 leads_last links flow (next ∷ rest) last h = has_later flow (next ∷ rest) last (leads_last links next rest last h.1)
 
+chain_last : (links : List Link) (ends : Ends) (flows : List ℕ) → IsChain links (Some ends) flows → Contains flows ends.last
+chain_last links ends [] h = absurd h
+chain_last links ends (flow ∷ rest) h = leads_last links flow rest ends.last h.1
+
+at_end : (flows : List ℕ) (flow k : ℕ) → k ≡ flow → Contains (flows ++ flow ∷ []) k
+at_end flows flow k e = Contains-append_right flows (flow ∷ []) k (0, omega arith, sym e)
+
 -- a flow comes after the last one
 leads_more : (links other : List Link) (flow : ℕ) (rest : List ℕ) (last added : ℕ) → AreDistinct (flow ∷ rest) → link_of other last ≡ Next added → link_of other added ≡ Last
     → ((k : ℕ) → Contains (flow ∷ rest) k → k ≢ last → link_of other k ≡ link_of links k) → Leads links flow rest last → Leads other flow (rest ++ added ∷ []) added
@@ -75,45 +82,41 @@ leads_more links other flow (next ∷ rest) last added distinct at_last at_added
       leads_more links other next rest last added distinct.1 at_last at_added (λ k c ne. same k (has_later flow (next ∷ rest) k c) ne) h.1,
     )
 
--- as many links as before
-pub length-links_with : (links : List Link) (list : Option Ends) (flow : ℕ) → length (links_with links list flow) ≡ length links
-length-links_with links None flow = length-set links flow Last
-length-links_with links (Some ends) flow = length-set (set links flow Last) ends.last (Next flow) ∙ length-set links flow Last
+-- a flow comes after the last one
+pub appends_some : (links : List Link) (ends : Ends) (flow : ℕ) → flow < length links → ends.last < length links
+    → Appends links (Some ends) flow (set (set links flow Last) ends.last (Next flow)) (record { first = ends.first; last = flow })
+appends_some links ends flow within last_within = record {
+  len = length-set (set links flow Last) ends.last (Next flow) ∙ length-set links flow Last;
+  chain = λ flows are absent chain. chain_of flows are absent chain;
+  others = λ flows k chain absent.
+      elsewhere k (λ (e : k ≡ flow). absent (at_end flows flow k e))
+      (λ (e : k ≡ ends.last). absent (Contains-append_left flows (flow ∷ []) k (subst (λ (l : ℕ). Contains flows l) (sym e) (chain_last links ends flows chain))));
+}
+  where
+    elsewhere : (k : ℕ) → k ≢ flow → k ≢ ends.last → link_of (set (set links flow Last) ends.last (Next flow)) k ≡ link_of links k
+    elsewhere k ne ne_last = get_or-set_other (set links flow Last) ends.last k (Next flow) Unlisted ne_last ∙ get_or-set_other links flow k Last Unlisted ne
 
--- the links of flows that are neither in the list nor come to it
-with_elsewhere : (links : List Link) (list : Option Ends) (flows : List ℕ) (flow k : ℕ) → IsChain links list flows → k ≢ flow → ¬ Contains flows k → link_of (links_with links list flow) k ≡ link_of links k
-with_elsewhere links None flows flow k h ne absent = get_or-set_other links flow k Last Unlisted ne
-with_elsewhere links (Some ends) [] flow k h ne absent = absurd h
-with_elsewhere links (Some ends) (first ∷ rest) flow k h ne absent =
-    let ne_last : k ≢ ends.last = λ (e : k ≡ ends.last). absent (subst (λ (l : ℕ). Contains (first ∷ rest) l) (sym e) (leads_last links first rest ends.last h.1)) in
-    get_or-set_other (set links flow Last) ends.last k (Next flow) Unlisted ne_last ∙ get_or-set_other links flow k Last Unlisted ne
+    chain_of : (flows : List ℕ) → AreFlows (length links) flows → ¬ Contains flows flow → IsChain links (Some ends) flows
+        → IsChain (set (set links flow Last) ends.last (Next flow)) (Some (record { first = ends.first; last = flow })) (flows ++ flow ∷ [])
+    chain_of [] are absent chain = absurd chain
+    chain_of (first ∷ rest) are absent chain =
+        let has_last = leads_last links first rest ends.last chain.1 in
+        let ne_last : flow ≢ ends.last = λ (e : flow ≡ ends.last). absent (subst (λ (l : ℕ). Contains (first ∷ rest) l) (sym e) has_last) in (
+          chain.0,
+          leads_more links (set (set links flow Last) ends.last (Next flow)) first rest ends.last flow are.once
+              (get_or-set_same (set links flow Last) ends.last (Next flow) Unlisted (omega (arith, length-set links flow Last)))
+              (get_or-set_other (set links flow Last) ends.last flow (Next flow) Unlisted ne_last ∙ get_or-set_same links flow Last Unlisted within)
+              (λ k c ne. elsewhere k (λ (e : k ≡ flow). absent (subst (λ (l : ℕ). Contains (first ∷ rest) l) e c)) ne)
+              chain.1,
+        )
 
--- the list has that flow at its end
-chain_with : (links : List Link) (list : Option Ends) (flows : List ℕ) (flow : ℕ) → flow < length links → AreFlows (length links) flows → ¬ Contains flows flow
-    → IsChain links list flows → IsChain (links_with links list flow) (Some (ends_with list flow)) (flows ++ flow ∷ [])
-chain_with links None flows flow within are absent h = rw h (refl, (refl, get_or-set_same links flow Last Unlisted within))
-chain_with links (Some ends) [] flow within are absent h = absurd h
-chain_with links (Some ends) (first ∷ rest) flow within are absent h =
-    let has_last = leads_last links first rest ends.last h.1 in
-    let last_within : ends.last < length links = All-contains (λ (f : ℕ). f < length links) (first ∷ rest) ends.last are.within has_last in
-    let ne_last : flow ≢ ends.last = λ (e : flow ≡ ends.last). absent (subst (λ (l : ℕ). Contains (first ∷ rest) l) (sym e) has_last) in (
-      h.0,
-      leads_more links (links_with links (Some ends) flow) first rest ends.last flow are.once
-          (get_or-set_same (set links flow Last) ends.last (Next flow) Unlisted (omega (arith, length-set links flow Last)))
-          (get_or-set_other (set links flow Last) ends.last flow (Next flow) Unlisted ne_last ∙ get_or-set_same links flow Last Unlisted within)
-          (λ k c ne. get_or-set_other (set links flow Last) ends.last k (Next flow) Unlisted ne
-          ∙ get_or-set_other links flow k Last Unlisted (λ (e : k ≡ flow). absent (subst (λ (l : ℕ). Contains (first ∷ rest) l) e c)))
-          h.1,
-    )
-
--- the list without its first flow
-chain_rest : (links : List Link) (ends : Ends) (flow : ℕ) (rest : List ℕ) → IsChain links (Some ends) (flow ∷ rest) → IsChain links (rest_of links ends) rest
-chain_rest links ends flow [] h =
-    let at : link_of links ends.first ≡ Last = ap (link_of links) h.0 ∙ h.1.1 in
-    rw at refl
-chain_rest links ends flow (next ∷ rest) h =
-    let at : link_of links ends.first ≡ Next next = ap (link_of links) h.0 ∙ h.1.0 in
-    rw at (refl, h.1.1)
+-- what is left of a list, by the link of its first flow
+pub rest_none : (links : List Link) (list : Ends) → ((next : ℕ) → link_of links list.first ≢ Next next) → IsRest links list None
+rest_none links list ne = record { chain = λ flow rest h. none flow rest h }
+  where
+    none : (flow : ℕ) (rest : List ℕ) → IsChain links (Some list) (flow ∷ rest) → rest ≡ []
+    none flow [] h = refl
+    none flow (next ∷ rest) h = absurd (ne next (ap (link_of links) h.0 ∙ h.1.0))
 
 -- the flows that are found one after another
 follows : (links : List Link) (flow : ℕ) (rest : List ℕ) (last most : ℕ) → length rest ≤ most → Leads links flow rest last → flows_after links most (link_of links flow) ≡ rest
@@ -133,114 +136,107 @@ flows_rest : (n flow : ℕ) (rest : List ℕ) → AreFlows n (flow ∷ rest) →
 flows_rest n flow rest are = record { within = All-tail (λ (f : ℕ). f < n) flow rest are.within; once = are.once.1 }
 
 -- a flow that is in neither list comes to the end of the new ones
-pub add_new_linked : (links : List Link) (new_ends old_ends : Option Ends) (new old : List ℕ) (flow : ℕ) → flow < length links → ¬ Contains (new ++ old) flow
-    → AreChains links new_ends old_ends new old → AreChains (links_with links new_ends flow) (Some (ends_with new_ends flow)) old_ends (new ++ flow ∷ []) old
-add_new_linked links new_ends old_ends new old flow within absent are =
+pub add_new_linked : (links : List Link) (new_list old_list : Option Ends) (new old : List ℕ) (flow : ℕ) (links' : List Link) (new_list' : Ends)
+    → flow < length links → ¬ Contains (new ++ old) flow → Appends links new_list flow links' new_list' → AreChains links new_list old_list new old
+    → AreChains links' (Some new_list') old_list (new ++ flow ∷ []) old
+add_new_linked links new_list old_list new old flow links' new_list' within absent appends are =
     let n = length links in
-    let elsewhere = with_elsewhere links new_ends new flow in
+    let after = add_new n flow new old within absent are.listed in
     record {
-      new_chain = chain_with links new_ends new flow within (flows_left n new old are.listed) (λ (h : Contains new flow). absent (Contains-append_left new old flow h)) are.new_chain;
-      old_chain = chain_same links (links_with links new_ends flow) old_ends old
-          (λ k has. elsewhere k are.new_chain
-          (λ (e : k ≡ flow). absent (Contains-append_right new old flow (subst (λ (j : ℕ). Contains old j) e has)))
-          (λ (h : Contains new k). apart new old k are.listed.once h has))
-          are.old_chain;
-      listed = rw (length-links_with links new_ends flow) (add_new n flow new old within absent are.listed);
-      unlisted = λ k none. elsewhere k are.new_chain
-          (λ (e : k ≡ flow). none (Contains-append_left (new ++ flow ∷ []) old k (Contains-append_right new (flow ∷ []) k (0, omega arith, sym e))))
-          (λ (h : Contains new k). none (Contains-append_left (new ++ flow ∷ []) old k (Contains-append_left new (flow ∷ []) k h)))
-          ∙ are.unlisted k (λ (h : Contains (new ++ old) k). ⊎_elim
-          (λ (in_new : Contains new k). none (Contains-append_left (new ++ flow ∷ []) old k (Contains-append_left new (flow ∷ []) k in_new)))
-          (λ (in_old : Contains old k). none (Contains-append_right (new ++ flow ∷ []) old k in_old))
-          (Contains-append_cases new old k h));
+      new_chain = appends.chain new (flows_left n new old are.listed) (λ (h : Contains new flow). absent (Contains-append_left new old flow h)) are.new_chain;
+      old_chain = chain_same links links' old_list old
+          (λ k has. appends.others new k are.new_chain (λ (h : Contains (new ++ flow ∷ []) k). apart (new ++ flow ∷ []) old k after.once h has)) are.old_chain;
+      listed = rw appends.len after;
+      unlisted = λ k none. appends.others new k are.new_chain (λ (h : Contains (new ++ flow ∷ []) k). none (Contains-append_left (new ++ flow ∷ []) old k h))
+          ∙ are.unlisted k (λ (h : Contains (new ++ old) k). none (stays k h));
     }
+  where
+    stays : (k : ℕ) → Contains (new ++ old) k → Contains ((new ++ flow ∷ []) ++ old) k
+    stays k h =
+        ⊎_elim
+        (λ (in_new : Contains new k). Contains-append_left (new ++ flow ∷ []) old k (Contains-append_left new (flow ∷ []) k in_new))
+        (λ (in_old : Contains old k). Contains-append_right (new ++ flow ∷ []) old k in_old)
+        (Contains-append_cases new old k h)
+
+-- the first flow goes to the end
+to_end : (moved : ℕ) (rest : List ℕ) (k : ℕ) → Contains (moved ∷ rest) k → Contains (rest ++ moved ∷ []) k
+to_end moved rest k h =
+    ⊎_elim
+    (λ (e : k ≡ moved). at_end rest moved k e)
+    (λ (later : Contains rest k). Contains-append_left rest (moved ∷ []) k later)
+    (has_cases moved rest k h)
 
 -- the first of the new ones becomes the last of the old ones
-pub new_to_old_linked : (links : List Link) (ends : Ends) (old_ends : Option Ends) (new old : List ℕ) → AreChains links (Some ends) old_ends new old
-    → AreChains (links_with links old_ends ends.first) (rest_of links ends) (Some (ends_with old_ends ends.first)) (drop 1 new) (old ++ take 1 new)
-new_to_old_linked links ends old_ends [] old are = absurd are.new_chain
-new_to_old_linked links ends old_ends (moved ∷ rest) old are =
+pub new_to_old_linked : (links : List Link) (new_list : Ends) (old_list : Option Ends) (new old : List ℕ) (left : Option Ends) (links' : List Link) (old_list' : Ends)
+    → IsRest links new_list left → Appends links old_list new_list.first links' old_list' → AreChains links (Some new_list) old_list new old
+    → AreChains links' left (Some old_list') (drop 1 new) (old ++ take 1 new)
+new_to_old_linked links new_list old_list [] old left links' old_list' is_rest appended are = absurd are.new_chain
+new_to_old_linked links new_list old_list (moved ∷ rest) old left links' old_list' is_rest appended are =
     let n = length links in
-    let elsewhere = with_elsewhere links old_ends old moved in
-    let none_in : (k : ℕ) → ¬ Contains (rest ++ (old ++ moved ∷ [])) k → ¬ Contains (moved ∷ (rest ++ old)) k = λ k none. λ (h : Contains (moved ∷ (rest ++ old)) k). ⊎_elim
-    (λ (e : k ≡ moved). none (Contains-append_right rest (old ++ moved ∷ []) k (Contains-append_right old (moved ∷ []) k (0, omega arith, sym e))))
-    (λ (later : Contains (rest ++ old) k). ⊎_elim
-    (λ (in_rest : Contains rest k). none (Contains-append_left rest (old ++ moved ∷ []) k in_rest))
-    (λ (in_old : Contains old k). none (Contains-append_right rest (old ++ moved ∷ []) k (Contains-append_left old (moved ∷ []) k in_old)))
-    (Contains-append_cases rest old k later))
-    (has_cases moved (rest ++ old) k h)
-    in
-    subst (λ (f : ℕ). AreChains (links_with links old_ends f) (rest_of links ends) (Some (ends_with old_ends f)) rest (old ++ moved ∷ [])) (sym are.new_chain.0) (record {
-      new_chain = chain_same links (links_with links old_ends moved) (rest_of links ends) rest
-          (λ k has. elsewhere k are.old_chain (head_apart moved (rest ++ old) k are.listed.once (Contains-append_left rest old k has)) (apart rest old k are.listed.once.1 has))
-          (chain_rest links ends moved rest are.new_chain);
-      old_chain = chain_with links old_ends old moved (All-head (λ (f : ℕ). f < n) moved (rest ++ old) are.listed.within) (flows_right n (moved ∷ rest) old are.listed)
-          (apart (moved ∷ rest) old moved are.listed.once (has_head moved rest)) are.old_chain;
-      listed = rw (length-links_with links old_ends moved) (new_to_old n (moved ∷ rest) old are.listed);
-      unlisted = λ k none. elsewhere k are.old_chain
-          (λ (e : k ≡ moved). none_in k none (subst (λ (j : ℕ). Contains (j ∷ (rest ++ old)) k) e (has_head k (rest ++ old))))
-          (λ (h : Contains old k). none_in k none (has_later moved (rest ++ old) k (Contains-append_right rest old k h)))
-          ∙ are.unlisted k (none_in k none);
-    })
+    let appends = subst (λ (f : ℕ). Appends links old_list f links' old_list') are.new_chain.0 appended in
+    let after = new_to_old n (moved ∷ rest) old are.listed in
+    record {
+      new_chain = chain_same links links' left rest (λ k has. appends.others old k are.old_chain (apart rest (old ++ moved ∷ []) k after.once has)) (is_rest.chain moved rest are.new_chain);
+      old_chain = appends.chain old (flows_right n (moved ∷ rest) old are.listed) (apart (moved ∷ rest) old moved are.listed.once (has_head moved rest)) are.old_chain;
+      listed = rw appends.len after;
+      unlisted = λ k none. appends.others old k are.old_chain (λ (h : Contains (old ++ moved ∷ []) k). none (Contains-append_right rest (old ++ moved ∷ []) k h))
+          ∙ are.unlisted k (λ (h : Contains (moved ∷ (rest ++ old)) k). none (rw (← append_assoc rest old (moved ∷ [])) (to_end moved (rest ++ old) k h)));
+    }
 
 -- the first of the old ones becomes the last of them
-pub rotate_old_linked : (links : List Link) (new_ends : Option Ends) (ends : Ends) (new old : List ℕ) → AreChains links new_ends (Some ends) new old
-    → AreChains (links_with links (rest_of links ends) ends.first) new_ends (Some (ends_with (rest_of links ends) ends.first)) new (drop 1 old ++ take 1 old)
-rotate_old_linked links new_ends ends new [] are = absurd are.old_chain
-rotate_old_linked links new_ends ends new (moved ∷ rest) are =
+pub rotate_old_linked : (links : List Link) (new_list : Option Ends) (old_list : Ends) (new old : List ℕ) (left : Option Ends) (links' : List Link) (old_list' : Ends)
+    → IsRest links old_list left → Appends links left old_list.first links' old_list' → AreChains links new_list (Some old_list) new old
+    → AreChains links' new_list (Some old_list') new (drop 1 old ++ take 1 old)
+rotate_old_linked links new_list old_list new [] left links' old_list' is_rest appended are = absurd are.old_chain
+rotate_old_linked links new_list old_list new (moved ∷ rest) left links' old_list' is_rest appended are =
     let n = length links in
-    let left = rest_of links ends in
-    let rest_chain = chain_rest links ends moved rest are.old_chain in
+    let appends = subst (λ (f : ℕ). Appends links left f links' old_list') are.old_chain.0 appended in
+    let rest_chain = is_rest.chain moved rest are.old_chain in
     let own = flows_right n new (moved ∷ rest) are.listed in
-    let elsewhere = with_elsewhere links left rest moved in
-    let none_in : (k : ℕ) → ¬ Contains (new ++ (rest ++ moved ∷ [])) k → ¬ Contains (new ++ moved ∷ rest) k = λ k none. λ (h : Contains (new ++ moved ∷ rest) k). ⊎_elim
-    (λ (in_new : Contains new k). none (Contains-append_left new (rest ++ moved ∷ []) k in_new))
-    (λ (in_old : Contains (moved ∷ rest) k). none (Contains-append_right new (rest ++ moved ∷ []) k (⊎_elim
-    (λ (e : k ≡ moved). Contains-append_right rest (moved ∷ []) k (0, omega arith, sym e))
-    (λ (in_rest : Contains rest k). Contains-append_left rest (moved ∷ []) k in_rest)
-    (has_cases moved rest k in_old))))
-    (Contains-append_cases new (moved ∷ rest) k h)
-    in
-    subst (λ (f : ℕ). AreChains (links_with links left f) new_ends (Some (ends_with left f)) new (rest ++ moved ∷ [])) (sym are.old_chain.0) (record {
-      new_chain = chain_same links (links_with links left moved) new_ends new
-          (λ k has. elsewhere k rest_chain
-          (λ (e : k ≡ moved). apart new (moved ∷ rest) k are.listed.once has (subst (λ (j : ℕ). Contains (j ∷ rest) k) e (has_head k rest)))
-          (λ (h : Contains rest k). apart new (moved ∷ rest) k are.listed.once has (has_later moved rest k h)))
-          are.new_chain;
-      old_chain = chain_with links left rest moved (All-head (λ (f : ℕ). f < n) moved rest own.within) (flows_rest n moved rest own)
-          (λ (h : Contains rest moved). head_apart moved rest moved own.once h refl) rest_chain;
-      listed = rw (length-links_with links left moved) (rotate_old n new (moved ∷ rest) are.listed);
-      unlisted = λ k none. elsewhere k rest_chain
-          (λ (e : k ≡ moved). none_in k none (Contains-append_right new (moved ∷ rest) k (subst (λ (j : ℕ). Contains (j ∷ rest) k) e (has_head k rest))))
-          (λ (h : Contains rest k). none_in k none (Contains-append_right new (moved ∷ rest) k (has_later moved rest k h)))
-          ∙ are.unlisted k (none_in k none);
-    })
+    let after = rotate_old n new (moved ∷ rest) are.listed in
+    record {
+      new_chain = chain_same links links' new_list new (λ k has. appends.others rest k rest_chain (apart new (rest ++ moved ∷ []) k after.once has)) are.new_chain;
+      old_chain = appends.chain rest (flows_rest n moved rest own) (λ (h : Contains rest moved). head_apart moved rest moved own.once h refl) rest_chain;
+      listed = rw appends.len after;
+      unlisted = λ k none. appends.others rest k rest_chain (λ (h : Contains (rest ++ moved ∷ []) k). none (Contains-append_right new (rest ++ moved ∷ []) k h))
+          ∙ are.unlisted k (λ (h : Contains (new ++ moved ∷ rest) k). none (stays k h));
+    }
+  where
+    stays : (k : ℕ) → Contains (new ++ moved ∷ rest) k → Contains (new ++ (rest ++ moved ∷ [])) k
+    stays k h =
+        ⊎_elim
+        (λ (in_new : Contains new k). Contains-append_left new (rest ++ moved ∷ []) k in_new)
+        (λ (in_old : Contains (moved ∷ rest) k). Contains-append_right new (rest ++ moved ∷ []) k (to_end moved rest k in_old))
+        (Contains-append_cases new (moved ∷ rest) k h)
 
 -- the first of the old ones leaves
-pub leave_old_linked : (links : List Link) (new_ends : Option Ends) (ends : Ends) (new old : List ℕ) → AreChains links new_ends (Some ends) new old
-    → AreChains (set links ends.first Unlisted) new_ends (rest_of links ends) new (drop 1 old)
-leave_old_linked links new_ends ends new [] are = absurd are.old_chain
-leave_old_linked links new_ends ends new (gone ∷ rest) are =
+pub leave_old_linked : (links : List Link) (new_list : Option Ends) (old_list : Ends) (new old : List ℕ) (left : Option Ends)
+    → IsRest links old_list left → AreChains links new_list (Some old_list) new old → AreChains (set links old_list.first Unlisted) new_list left new (drop 1 old)
+leave_old_linked links new_list old_list new [] left is_rest are = absurd are.old_chain
+leave_old_linked links new_list old_list new (gone ∷ rest) left is_rest are =
     let n = length links in
     let own = flows_right n new (gone ∷ rest) are.listed in
     let within = All-head (λ (f : ℕ). f < n) gone rest own.within in
-    subst (λ (f : ℕ). AreChains (set links f Unlisted) new_ends (rest_of links ends) new rest) (sym are.old_chain.0) (record {
-      new_chain = chain_same links (set links gone Unlisted) new_ends new
-          (λ k has. get_or-set_other links gone k Unlisted Unlisted
-          (λ (e : k ≡ gone). apart new (gone ∷ rest) k are.listed.once has (subst (λ (j : ℕ). Contains (j ∷ rest) k) e (has_head k rest))))
-          are.new_chain;
-      old_chain = chain_same links (set links gone Unlisted) (rest_of links ends) rest
-          (λ k has. get_or-set_other links gone k Unlisted Unlisted (head_apart gone rest k own.once has))
-          (chain_rest links ends gone rest are.old_chain);
+    subst (λ (f : ℕ). AreChains (set links f Unlisted) new_list left new rest) (sym are.old_chain.0) (record {
+      new_chain = chain_same links (set links gone Unlisted) new_list new
+          (λ k has. get_or-set_other links gone k Unlisted Unlisted (λ (e : k ≡ gone). apart new (gone ∷ rest) k are.listed.once has (0, omega arith, sym e))) are.new_chain;
+      old_chain = chain_same links (set links gone Unlisted) left rest (λ k has. get_or-set_other links gone k Unlisted Unlisted (head_apart gone rest k own.once has))
+          (is_rest.chain gone rest are.old_chain);
       listed = rw (length-set links gone Unlisted) (leave_old n new (gone ∷ rest) are.listed);
-      unlisted = λ k none. ⊎_elim
+      unlisted = λ k none.
+          ⊎_elim
           (λ (e : k ≡ gone). rw e (get_or-set_same links gone Unlisted Unlisted within))
-          (λ (ne : k ≢ gone). get_or-set_other links gone k Unlisted Unlisted ne ∙ are.unlisted k (λ (h : Contains (new ++ gone ∷ rest) k). ⊎_elim
-          (λ (in_new : Contains new k). none (Contains-append_left new rest k in_new))
-          (λ (in_old : Contains (gone ∷ rest) k). ⊎_elim ne (λ (in_rest : Contains rest k). none (Contains-append_right new rest k in_rest)) (has_cases gone rest k in_old))
-          (Contains-append_cases new (gone ∷ rest) k h)))
+          (λ (ne : k ≢ gone). get_or-set_other links gone k Unlisted Unlisted ne ∙ are.unlisted k (λ (h : Contains (new ++ gone ∷ rest) k). none (stays k ne h)))
           (cases_eq k gone);
     })
+  where
+    stays : (k : ℕ) → k ≢ gone → Contains (new ++ gone ∷ rest) k → Contains (new ++ rest) k
+    stays k ne h =
+        ⊎_elim
+        (λ (in_new : Contains new k). Contains-append_left new rest k in_new)
+        (λ (in_old : Contains (gone ∷ rest) k). Contains-append_right new rest k
+        (⊎_elim (λ (e : k ≡ gone). absurd (ne e)) (λ (later : Contains rest k). later) (has_cases gone rest k in_old)))
+        (Contains-append_cases new (gone ∷ rest) k h)
 
 -- what callers see
 pub new_seen : (links : List Link) (new_ends old_ends : Option Ends) (new old : List ℕ) → AreChains links new_ends old_ends new old → flows_of links new_ends ≡ new
@@ -282,15 +278,15 @@ pub old_first_within : (links : List Link) (new_ends : Option Ends) (ends : Ends
 old_first_within links new_ends ends new old are = (ends_within (length links) links ends old (flows_right (length links) new old are.listed) are.old_chain).0
 
 -- the last of the old ones without their first
-pub rest_last_within : (links : List Link) (new_ends : Option Ends) (ends : Ends) (new old : List ℕ) → AreChains links new_ends (Some ends) new old
-    → IfSome (rest_of links ends) (λ left. left.last < length links)
-rest_last_within links new_ends ends new [] are = absurd are.old_chain
-rest_last_within links new_ends ends new (flow ∷ rest) are =
-    last_of (rest_of links ends) rest (flows_rest (length links) flow rest (flows_right (length links) new (flow ∷ rest) are.listed)) (chain_rest links ends flow rest are.old_chain)
+pub rest_last_within : (links : List Link) (new_list : Option Ends) (old_list : Ends) (new old : List ℕ) (left : Option Ends) → IsRest links old_list left
+    → AreChains links new_list (Some old_list) new old → IfSome left (λ rest. rest.last < length links)
+rest_last_within links new_list old_list new [] left is_rest are = absurd are.old_chain
+rest_last_within links new_list old_list new (flow ∷ rest) left is_rest are =
+    last_within left rest (flows_rest (length links) flow rest (flows_right (length links) new (flow ∷ rest) are.listed)) (is_rest.chain flow rest are.old_chain)
   where
-    last_of : (list : Option Ends) (flows : List ℕ) → AreFlows (length links) flows → IsChain links list flows → IfSome list (λ left. left.last < length links)
-    last_of None flows are_flows chain = tt
-    last_of (Some left) flows are_flows chain = (ends_within (length links) links left flows are_flows chain).1
+    last_within : (list : Option Ends) (flows : List ℕ) → AreFlows (length links) flows → IsChain links list flows → IfSome list (λ ends. ends.last < length links)
+    last_within None flows are_flows chain = tt
+    last_within (Some ends) flows are_flows chain = (ends_within (length links) links ends flows are_flows chain).1
 
 -- what callers see of the chains
 pub lists_seen : (n : ℕ) (links : List Link) (new_ends old_ends : Option Ends) (new old : List ℕ) → length links ≡ n → AreChains links new_ends old_ends new old

@@ -1,5 +1,5 @@
 -- Lists of flows, each as a chain of links. A table has one link for each flow, so two lists that share no flow share the table.
-use Rattle.std.specs.Prelude.{◌≡◌, ℕ, List, [], ◌∷◌, ◌++◌, Contains, Option, Some, None, get_or, length, set, suc, zero}
+use Rattle.std.specs.Prelude.{◌≡◌, ℕ, List, [], ◌∷◌, ◌++◌, Contains, Option, Some, None, get_or, length, suc, zero}
 use Rattle.flow_core.specs.declared.listed_flows.Ends.{Ends}
 use Rattle.flow_core.specs.declared.listed_flows.Link.{Link}
 use Rattle.flow_core.specs.declared.listed_flows.Link.TheVariants.{Unlisted, Last, Next}
@@ -39,21 +39,12 @@ pub record AreChains (links : List Link) (new_ends old_ends : Option Ends) (new_
   pub listed : AreFlows (length links) (new_flows ++ old_flows)
   pub unlisted : (flow : ℕ) → ¬ Contains (new_flows ++ old_flows) flow → link_of links flow ≡ Unlisted
 
--- a list without its first flow
-abbrev pub rest_of : List Link → Ends → Option Ends
-rest_of links ends = rest_after ends.last (link_of links ends.first)
-  where
-    rest_after : ℕ → Link → Option Ends
-    rest_after last Unlisted = None
-    rest_after last Last = None
-    rest_after last (Next next) = Some (record { first = next; last = last })
+-- What is left of a list without its first flow.
+pub record IsRest (links : List Link) (list : Ends) (left : Option Ends) : Type 0 where
+  pub chain : (flow : ℕ) (rest : List ℕ) → IsChain links (Some list) (flow ∷ rest) → IsChain links left rest
 
--- the links where a flow comes to the end of a list
-abbrev pub links_with : List Link → Option Ends → ℕ → List Link
-links_with links None flow = set links flow Last
-links_with links (Some ends) flow = set (set links flow Last) ends.last (Next flow)
-
--- the first and the last flow of that list
-abbrev pub ends_with : Option Ends → ℕ → Ends
-ends_with None flow = record { first = flow; last = flow }
-ends_with (Some ends) flow = record { first = ends.first; last = flow }
+-- A flow comes to the end of a list: the list has the flows that it had and then that one, and no link changes but those of its flows.
+pub record Appends (links : List Link) (list : Option Ends) (flow : ℕ) (new_links : List Link) (new_list : Ends) : Type 0 where
+  pub len : length new_links ≡ length links
+  pub chain : (flows : List ℕ) → AreFlows (length links) flows → ¬ Contains flows flow → IsChain links list flows → IsChain new_links (Some new_list) (flows ++ flow ∷ [])
+  pub others : (flows : List ℕ) (other : ℕ) → IsChain links list flows → ¬ Contains (flows ++ flow ∷ []) other → link_of new_links other ≡ link_of links other

@@ -1,5 +1,5 @@
 -- How the links give what callers see, and what they keep.
-use Rattle.std.specs.Prelude.{ℕ, ◌^◌, ◌<◌, length}
+use Rattle.std.specs.Prelude.{◌^◌, ◌<◌, length}
 use Rattle.flow_core.specs.declared.listed_flows.ListedFlows.TheInside.{Inside}
 use Rattle.flow_core.specs.Links.{flows_of, AreChains}
 use Rattle.flow_core.specs.NewAndOld.{NewAndOld}

@@ -1,7 +1,7 @@
 ghost use Rattle.std.specs.Prelude.{◌≡◌, ◌≢◌, ℕ, ◌+◌, ◌<◌, ◌≤◌, ◌↔◌, [], ◌∷◌, ◌++◌, Contains, IfOk, IfSome, IsTrue, drop, length, slice_get, take};
 ghost use Rattle.flow_core.specs.declared.listed_flows.Link.TheVariants.{Unlisted};
 ghost use Rattle.flow_core.specs.Listed.{AreFlows};
-ghost use Rattle.flow_core.specs.Links.{ends_with, links_with, rest_of};
+ghost use Rattle.flow_core.specs.Links.{Appends, IsRest};
 
 use crate::flows::Memory;
 use std::alloc::Global;
@@ -152,14 +152,14 @@ impl ListedFlows {
 }
 
 /// The list without its first flow, whose link stays.
-fn rest_of(links: &[Link], ends: Ends) -> Option<Ends>
-    requires { ends.first < length links.now }
-    ensures { result ≡ rest_of links.now ends }
+fn rest_of(links: &[Link], list: Ends) -> Option<Ends>
+    requires { list.first < length links.now }
+    ensures { IsRest links.now list result }
 {
-    match links[ends.first as usize] {
+    match links[list.first as usize] {
         Link::Next(next) => Some(Ends {
             first: next,
-            last: ends.last,
+            last: list.last,
         }),
         Link::Last | Link::Unlisted => None,
     }
@@ -169,8 +169,7 @@ fn rest_of(links: &[Link], ends: Ends) -> Option<Ends>
 fn append(links: &mut [Link], list: Option<Ends>, flow: u32) -> Ends
     requires flow { flow < length links.old }
     requires last { IfSome list (λ ends. ends.last < length links.old) }
-    ensures links { links.new ≡ links_with links.old list flow }
-    ensures ends { result ≡ ends_with list flow }
+    ensures { Appends links.old list flow links.new result }
 {
     links[flow as usize] = Link::Last;
     let Some(ends) = list else {
