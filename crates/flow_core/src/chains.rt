@@ -27,6 +27,17 @@ pub(crate) struct Chain {
 }
 
 impl Chain {
+    /// One packet, which is the first and the last.
+    fn of_one(only: usize) -> Chain
+        ensures { result ≡ record { first = only; last = only; len = 1 } }
+    {
+        Chain {
+            first: only,
+            last: only,
+            len: 1,
+        }
+    }
+
     /// What is left once the first one goes, where that one had the key of the next. None where it was the last.
     fn without_first(self, next: Option<usize>) -> Option<Chain>
         requires { 1 ≤ self.len }
@@ -119,11 +130,7 @@ impl Chains {
                 });
             }
             None => {
-                self.chains[flow as usize] = Some(Chain {
-                    first: key,
-                    last: key,
-                    len: 1,
-                });
+                self.chains[flow as usize] = Some(Chain::of_one(key));
             }
         }
     }

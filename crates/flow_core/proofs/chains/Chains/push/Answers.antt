@@ -52,7 +52,7 @@ invariant_of-self-in-None c =
     let counted : slab_len new ≡ slab_len f.slots + 1 = omega (arith, are.counted, length-append (held f kept c.args.flow) (added ∷ [])) in
     let room = rw (← c.self.view_is) at c.requires.room in
     record {
-      chains = rw (← ends_first f kept c.args.flow added ends) chains;
+      chains = rw (c.of_one.ensures, ← ends_first f kept c.args.flow added ends) chains;
       flows = kept.flows;
       few = omega (arith, counted, waiting_seen f c.args.self.now kept c.self.view_is, c.requires.size);
       room = omega (arith, counted, kept.room, room, c.insert_reserved-key.ensures.capacity);
@@ -76,4 +76,4 @@ returns-in-None-clause-queues c =
     let ends : ends_of (held f kept c.args.flow) ≡ None = ends_seen f c.args.self.now kept c.args.flow c.index.result.now c.self.view_is c.requires.flow c.index.ensures ∙ c.in-None.is in
     let are = first_replaces f c.args.self.now kept c.insert_reserved-key.new.self c.args.flow added c.self.view_is c.requires.flow ends c.insert_reserved-key.ensures.was_vacant c.insert_reserved-key.ensures.updates c.insert_reserved-key.ensures.len in
     let new : Slab Link = c.insert_reserved-key.new.self in
-    rw (← ends_first f kept c.args.flow added ends) (push_seen f c.args.self.now kept new c.args.flow added c.self.view_is are)
+    rw (c.of_one.ensures, ← ends_first f kept c.args.flow added ends) (push_seen f c.args.self.now kept new c.args.flow added c.self.view_is are)
