@@ -4,3 +4,4 @@ pub mod Listing
 pub mod Queueing
 pub mod Scanning
 pub mod Winning
+pub mod WinnersKeeping
