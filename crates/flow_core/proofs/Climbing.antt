@@ -3,6 +3,7 @@ use Rattle.std.proofs.Common.{◌≡◌, ℕ, zero, suc, ◌+◌, ◌*◌, ◌/�
 use Rattle.std.proofs.Math.Nat.{suc-add, pow-suc}
 use Rattle.std.proofs.Math.Pow.{pow_mono}
 use Rattle.std.proofs.lemmas.Bool.{cases_lt}
+use Rattle.std.proofs.lemmas.Nat.{one_shl}
 use Rattle.flow_core.specs.WinnerNodes.{node_above, IsBelow, IsPowerOfTwo}
 use Rattle.flow_core.specs.Winners.{IsLevels}
 
@@ -209,3 +210,10 @@ levels_least flows levels enough few = record {
       (λ (most : levels ≤ fewer). most)
       (cases_lt fewer levels);
 }
+
+-- a shift by so few gives a power of two
+pub shifted : (levels : ℕ) → levels ≤ 16 → 1 * 2 ^ levels % 18446744073709551616 ≡ 2 ^ levels
+shifted levels few = one_shl levels 64 (omega arith)
+
+pub most_leaves : (levels : ℕ) → levels ≤ 16 → 2 ^ levels ≤ 65536
+most_leaves levels few = pow_mono {i = levels} {j = 16} few

@@ -5,3 +5,4 @@ pub mod Keeping
 pub mod Linking
 pub mod Listing
 pub mod Winning
+pub mod WinnersKeeping

@@ -1,8 +1,12 @@
 -- The winner among the flows below each node of a tree, and a change of one flow's bytes.
-use Rattle.std.proofs.Common.{◌≡◌, ◌≢◌, ℕ, zero, suc, ◌+◌, ◌*◌, ◌/◌, ◌%◌, ◌-◌, ◌^◌, ◌<◌, ◌≤◌, List, [], length, get_or, set, min, refl, sym, ap, subst, ◌∙◌, ⊎_elim, arith, get_or-set_other, get_or-set_same, length-set}
+use Rattle.std.proofs.Common.{◌≡◌, ◌≢◌, ℕ, zero, suc, ◌+◌, ◌*◌, ◌/◌, ◌%◌, ◌-◌, ◌^◌, ◌<◌, ◌≤◌, List, [], All, length, get_or, replicate, set, min, refl, sym, ap, subst, ◌∙◌, ⊎_elim, arith, get_or-set_other, get_or-set_same, length-set}
 use Rattle.std.proofs.Math.Nat.{pow-suc}
+use Rattle.std.proofs.Math.Pow.{pow_mono}
 use Rattle.std.proofs.lemmas.Bool.{cases_eq, cases_lt}
-use Rattle.flow_core.specs.WinnerNodes.{AreWinners, AreWinnersFrom, HasFallen, HasGrown, IsBelow, IsPowerOfTwo, IsWinner, node_above, WinsOver}
+use Rattle.std.proofs.lemmas.List.{get_or-replicate, get_or_past, length-replicate, set-get_or, set-set}
+use Rattle.std.proofs.lemmas.List.Elements.{All-from_get_or}
+use Rattle.flow_core.specs.Winners.{HasMostBytes, IsLevels}
+use Rattle.flow_core.specs.WinnerNodes.{AreWinners, AreWinnersFrom, HasFallen, HasGrown, HasLeaves, IsBelow, IsPowerOfTwo, IsWinner, node_above, WinsOver}
 use Rattle.flow_core.proofs.Climbing.{below_above, below_child, below_leaf, below_parent, below_root, further_up, leaf_has_one, left_before_right, level_within, not_between, pair_of_leaves, pair_within}
 
 -- a flow beside itself
@@ -431,3 +435,93 @@ few_next bytes before winners flow node made most more levels within climbs high
     let next : 1 ≤ node_above (suc climbs.levels) (length before + flow) = rw climbs.climbed.height (omega arith) in
     let low = level_within levels (length before) flow (suc climbs.levels) power within next in
     omega (arith, climbs.few)
+
+-- the leaves of a tree of so many levels
+pub leaves_of : (flows leaves levels : ℕ) → IsLevels flows levels → flows ≤ 65536 → leaves ≡ 2 ^ levels → HasLeaves flows leaves
+leaves_of flows leaves levels level few power = record {
+  doubled = record { exponent = levels; power = power };
+  enough = omega (arith, level.enough);
+  most = let wide : 2 ^ levels ≤ 2 ^ 16 = pow_mono {i = levels} {j = 16} (level.least 16 few) in omega arith;
+}
+
+-- no two numbers of levels fit
+pub one_level : (flows a b : ℕ) → IsLevels flows a → IsLevels flows b → a ≡ b
+one_level flows a b first second = omega (arith, first.least b second.enough, second.least a first.enough)
+
+-- the counts of before one was written
+rewritten : (bytes winners : List ℕ) (flow more : ℕ) → AreWinners bytes winners → AreWinners (set (set bytes flow more) flow (get_or bytes flow 0)) winners
+rewritten bytes winners flow more right =
+    subst (λ (bs : List ℕ). AreWinners bs winners) (sym (set-set bytes flow more (get_or bytes flow 0) ∙ set-get_or bytes flow 0)) right
+
+-- a count grows
+pub grown_to : (bytes winners : List ℕ) (flow more : ℕ) → AreWinners bytes winners → flow < length bytes → get_or bytes flow 0 ≤ more → HasGrown (set bytes flow more) winners flow
+grown_to bytes winners flow more right within less = record {
+  before = get_or bytes flow 0;
+  less = rw (get_or-set_same bytes flow more 0 within) less;
+  right = rewritten bytes winners flow more right;
+}
+
+-- a count falls
+pub fallen_to : (bytes winners : List ℕ) (flow fewer : ℕ) → AreWinners bytes winners → flow < length bytes → fewer ≤ get_or bytes flow 0 → HasFallen (set bytes flow fewer) winners flow
+fallen_to bytes winners flow fewer right within less = record {
+  before = get_or bytes flow 0;
+  more = rw (get_or-set_same bytes flow fewer 0 within) less;
+  right = rewritten bytes winners flow fewer right;
+}
+
+-- the winner at the root wins over each flow
+root_wins : (bytes winners : List ℕ) (flow : ℕ) → AreWinners bytes winners → HasLeaves (length bytes) (length winners) → flow < length bytes
+    → WinsOver bytes (get_or winners 1 0) flow
+root_wins bytes winners flow right leaves within = ⊎_elim
+    (λ (inner : 1 < length winners).
+      (right 1 (omega arith) inner).wins flow (below_root leaves.doubled.exponent (length winners) flow leaves.doubled.power (omega (arith, leaves.enough))))
+    (λ (alone : length winners ≤ 1).
+      let only : flow ≡ get_or winners 1 0 = omega (arith, leaves.enough, get_or_past winners 1 0 alone) in
+      rw only (wins_over_self bytes (get_or winners 1 0)))
+    (cases_lt 1 (length winners))
+
+-- it is one of the flows
+pub root_within : (bytes winners : List ℕ) → AreWinners bytes winners → HasLeaves (length bytes) (length winners) → 1 ≤ length bytes → get_or winners 1 0 < length bytes
+root_within bytes winners right leaves some = ⊎_elim
+    (λ (within : get_or winners 1 0 < length bytes). within)
+    (λ (past : length bytes ≤ get_or winners 1 0).
+      let won = root_wins bytes winners 0 right leaves (omega arith) in
+      absurd (omega (arith, won.least (omega arith), get_or_past bytes (get_or winners 1 0) 0 past)))
+    (cases_lt (get_or winners 1 0) (length bytes))
+
+-- it has the most bytes, where it has any
+pub root_has_most : (bytes winners : List ℕ) → AreWinners bytes winners → HasLeaves (length bytes) (length winners) → 1 ≤ length bytes
+    → 0 < get_or bytes (get_or winners 1 0) 0 → HasMostBytes bytes (get_or winners 1 0)
+root_has_most bytes winners right leaves some waits =
+    let within = root_within bytes winners right leaves some in
+    record {
+      within = within;
+      waits = waits;
+      greatest = λ other. ⊎_elim
+          (λ (inner : other < length bytes). (root_wins bytes winners other right leaves inner).greatest)
+          (λ (past : length bytes ≤ other). omega (arith, get_or_past bytes other 0 past))
+          (cases_lt other (length bytes));
+      least = λ other less. (root_wins bytes winners other right leaves (omega arith)).least less;
+    }
+
+-- no flow has any where it has none
+pub root_has_none : (bytes winners : List ℕ) → AreWinners bytes winners → HasLeaves (length bytes) (length winners)
+    → get_or bytes (get_or winners 1 0) 0 ≡ 0 → All (λ b. b ≡ 0) bytes
+root_has_none bytes winners right leaves none =
+    All-from_get_or (λ (b : ℕ). b ≡ 0) bytes 0 (λ flow within. omega (arith, (root_wins bytes winners flow right leaves within).greatest))
+
+-- a flow of no bytes among flows that have none
+pub none_at : (bytes : List ℕ) (flow : ℕ) → All (λ b. b ≡ 0) bytes → get_or bytes flow 0 ≡ 0
+none_at bytes flow none = ⊎_elim
+    (λ (within : flow < length bytes). none flow 0 within)
+    (λ (past : length bytes ≤ flow). get_or_past bytes flow 0 past)
+    (cases_lt flow (length bytes))
+
+-- new flows have no bytes
+pub no_bytes : (flows flow : ℕ) → get_or {A = ℕ} (replicate {A = ℕ} flows 0) flow 0 ≡ 0
+no_bytes flows flow = ⊎_elim
+    (λ (within : flow < flows). get_or-replicate flows flow 0 0 within)
+    (λ (past : flows ≤ flow).
+      let zero' : ℕ = 0 in
+      get_or_past (replicate flows zero') flow 0 (rw (length-replicate flows zero') past))
+    (cases_lt flow flows)
