@@ -5,3 +5,4 @@ pub mod Queueing
 pub mod Scanning
 pub mod Winning
 pub mod WinnersKeeping
+pub mod WinnersOfQueues

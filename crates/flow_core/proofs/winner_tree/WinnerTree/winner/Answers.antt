@@ -18,9 +18,10 @@ returns-then-index-gt0-clause-none c =
     let root : c.unwrap_or-root.result ≡ get_or t.winners.items 1 0 = search rules in
     let some : 1 ≤ length t.bytes.items = omega (arith, c.self.invariant.least, t.bytes.ok.0) in
     let within = rw (← root) at (root_within t.bytes.items t.winners.items c.self.invariant.winners (leaves_kept t c.self.invariant) some) in
-    let bytes = get_or_read t.bytes.items c.unwrap_or-root.result c.index.result.now within c.index.ensures 0 in
-    (λ e. absurd cc,
-      λ none. absurd (let none' = rw (← c.self.view_is) at none in omega (arith, none_at t.bytes.items c.unwrap_or-root.result none', c.if-index-gt0.true)))
+    let bytes = get_or_read t.bytes.items c.unwrap_or-root.result c.index.result.now within c.index.ensures 0 in (
+      λ e. absurd cc,
+      λ none. absurd (let none' = rw (← c.self.view_is) at none in omega (arith, none_at t.bytes.items c.unwrap_or-root.result none', c.if-index-gt0.true)),
+    )
 
 pub returns-then-index-gt0-clause-winner : goal.returns-then-index-gt0-clause-winner
 returns-then-index-gt0-clause-winner c =
