@@ -1,6 +1,5 @@
-use Rattle.std.proofs.Common.{◌≡◌, ◌<◌, ◌≤◌, All, get_or, length, sym, ap, subst, ◌∙◌, refl, rules, arith}
+use Rattle.std.proofs.Common.{◌≡◌, ◌<◌, ◌≤◌, get_or, length, refl, rules, arith}
 use Rattle.std.proofs.lemmas.List.{get_or_read}
-use Rattle.flow_core.specs.Winners.{ByteCounts, HasMostBytes}
 use Rattle.flow_core.proofs.Winning.{none_at, root_has_most, root_has_none, root_within}
 use Rattle.flow_core.proofs.WinnersKeeping.{leaves_kept}
 use Rattle.flow_core.proofs.winner_tree.WinnerTree.winner.Goals as goal
