@@ -51,9 +51,9 @@ level_within e leaves flow h power within some =
     let times = node_above-times h (leaves + flow) 1 some in
     ⊎_elim
     (λ (higher : e < h).
-      let wide : 2 ^ suc e ≤ 2 ^ h = pow_mono {i = suc e} {j = h} (omega arith) in
-      let twice = rw (pow-suc 2 e) at wide in
-      absurd (omega arith))
+    let wide : 2 ^ suc e ≤ 2 ^ h = pow_mono {i = suc e} {j = h} (omega arith) in
+    let twice = rw (pow-suc 2 e) at wide in
+    absurd (omega arith))
     (λ (low : h ≤ e). low)
     (cases_lt e h)
 
@@ -85,9 +85,9 @@ same_level e leaves i j a b power a_within b_within some meet =
     ⊎_elim
     (λ (less : i < j). absurd (omega (arith, higher_is_less e leaves i j a b power a_within b_within less j_low)))
     (λ (least : j ≤ i). ⊎_elim
-        (λ (less : j < i). absurd (omega (arith, higher_is_less e leaves j i b a power b_within a_within less i_low)))
-        (λ (most : i ≤ j). omega arith)
-        (cases_lt j i))
+    (λ (less : j < i). absurd (omega (arith, higher_is_less e leaves j i b a power b_within a_within less i_low)))
+    (λ (most : i ≤ j). omega arith)
+    (cases_lt j i))
     (cases_lt i j)
 
 -- a flow below the left one of two nodes has a lesser number than one below the right one
@@ -149,23 +149,23 @@ pub further_up : (leaves h node above flow : ℕ) → node_above h (leaves + flo
     → (m : ℕ) × (node_above m (node / 2) ≡ above)
 further_up leaves h node above flow there less below = ⊎_elim
     (λ (higher : h < below.levels).
-      let m = below.levels - suc h in
-      let sum : m + suc h ≡ below.levels = omega arith in
-      let climb : node_above m (node / 2) ≡ above =
-          ap (λ (n : ℕ). node_above m (n / 2)) (sym there)
-          ∙ sym (node_above-add m (suc h) (leaves + flow))
-          ∙ ap (λ (n : ℕ). node_above n (leaves + flow)) sum
-          ∙ below.meets in
-      (m, climb))
+    let m = below.levels - suc h in
+    let sum : m + suc h ≡ below.levels = omega arith in
+    let climb : node_above m (node / 2) ≡ above =
+    ap (λ (n : ℕ). node_above m (n / 2)) (sym there)
+    ∙ sym (node_above-add m (suc h) (leaves + flow))
+    ∙ ap (λ (n : ℕ). node_above n (leaves + flow)) sum
+    ∙ below.meets in
+    (m, climb))
     (λ (lower : below.levels ≤ h).
-      let rest = h - below.levels in
-      let sum : rest + below.levels ≡ h = omega arith in
-      let climb : node_above rest above ≡ node =
-          ap (node_above rest) (sym below.meets)
-          ∙ sym (node_above-add rest below.levels (leaves + flow))
-          ∙ ap (λ (n : ℕ). node_above n (leaves + flow)) sum
-          ∙ there in
-      absurd (omega (arith, node_above-le rest above)))
+    let rest = h - below.levels in
+    let sum : rest + below.levels ≡ h = omega arith in
+    let climb : node_above rest above ≡ node =
+    ap (node_above rest) (sym below.meets)
+    ∙ sym (node_above-add rest below.levels (leaves + flow))
+    ∙ ap (λ (n : ℕ). node_above n (leaves + flow)) sum
+    ∙ there in
+    absurd (omega (arith, node_above-le rest above)))
     (cases_lt h below.levels)
 
 -- a node between two of a climb is not over the flow
@@ -204,9 +204,9 @@ levels_least flows levels enough few = record {
   enough = enough;
   least = λ fewer other. ⊎_elim
       (λ (less : fewer < levels). absurd (
-          let wide : 2 ^ suc fewer ≤ 2 ^ levels = pow_mono {i = suc fewer} {j = levels} (omega arith) in
-          let twice = rw (pow-suc 2 fewer) at wide in
-          omega arith))
+      let wide : 2 ^ suc fewer ≤ 2 ^ levels = pow_mono {i = suc fewer} {j = levels} (omega arith) in
+      let twice = rw (pow-suc 2 fewer) at wide in
+      omega arith))
       (λ (most : levels ≤ fewer). most)
       (cases_lt fewer levels);
 }

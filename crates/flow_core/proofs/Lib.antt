@@ -6,3 +6,4 @@ pub mod Linking
 pub mod Listing
 pub mod Winning
 pub mod WinnersKeeping
+pub mod WinnersOfQueues

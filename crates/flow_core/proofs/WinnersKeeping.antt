@@ -1,10 +1,9 @@
 -- What the fields of the tree keep.
-use Rattle.std.proofs.Common.{◌≡◌, ℕ, length, ◌+◌, ◌<◌, ◌≤◌, sym, arith}
+use Rattle.std.proofs.Common.{◌≡◌, length, sym}
 use Rattle.flow_core.specs.declared.winner_tree.WinnerTree.TheInside.{Inside}
 use Rattle.flow_core.specs.WinnerNodes.{HasLeaves}
-use Rattle.flow_core.specs.Winners.{CountsFew, IsLevels}
 use Rattle.flow_core.specs.WinnersKept.{IsKept}
-use Rattle.flow_core.proofs.Winning.{leaves_of, one_level}
+use Rattle.flow_core.proofs.Winning.{leaves_of}
 
 -- each flow has its leaf
 pub leaves_kept : (t : Inside) → IsKept t → HasLeaves (length t.bytes.items) (length t.winners.items)

@@ -28,9 +28,9 @@ pub wins_both_ways : (bytes : List ℕ) (a b : ℕ) → WinsOver bytes a b → W
 wins_both_ways bytes a b first second = ⊎_elim
     (λ (less : a < b). absurd (omega (arith, second.least less, first.greatest)))
     (λ (most : b ≤ a). ⊎_elim
-        (λ (less : b < a). absurd (omega (arith, first.least less, second.greatest)))
-        (λ (least : a ≤ b). omega arith)
-        (cases_lt b a))
+    (λ (less : b < a). absurd (omega (arith, first.least less, second.greatest)))
+    (λ (least : a ≤ b). omega arith)
+    (cases_lt b a))
     (cases_lt a b)
 
 -- a flow wins at its leaf
@@ -73,9 +73,9 @@ better_wins : (bytes : List ℕ) (leaves node a b x : ℕ) → IsPowerOfTwo leav
     → (get_or bytes a 0 < get_or bytes b 0 → x ≡ b) → (get_or bytes b 0 ≤ get_or bytes a 0 → x ≡ a) → IsWinner bytes leaves node x
 better_wins bytes leaves node a b x doubled some inner left right is_right is_left = ⊎_elim
     (λ (less : get_or bytes a 0 < get_or bytes b 0).
-      subst (λ (o : ℕ). IsWinner bytes leaves node o) (sym (is_right less)) (right_wins bytes leaves node a b doubled some inner left right less))
+    subst (λ (o : ℕ). IsWinner bytes leaves node o) (sym (is_right less)) (right_wins bytes leaves node a b doubled some inner left right less))
     (λ (more : get_or bytes b 0 ≤ get_or bytes a 0).
-      subst (λ (o : ℕ). IsWinner bytes leaves node o) (sym (is_left more)) (left_wins bytes leaves node a b doubled some inner left right more))
+    subst (λ (o : ℕ). IsWinner bytes leaves node o) (sym (is_left more)) (left_wins bytes leaves node a b doubled some inner left right more))
     (cases_lt (get_or bytes a 0) (get_or bytes b 0))
 
 -- the better one of two flows below one node of the lowest level
@@ -104,17 +104,17 @@ pub first_next : (winners : List ℕ) (node x : ℕ) → IsPowerOfTwo (length wi
     → IsWinner [] (length winners) node x
 first_next winners node x doubled some inner right is_inner is_leaf = ⊎_elim
     (λ (low : 2 * node < length winners).
-      let beside = pair_within (length winners) (2 * node) doubled (omega arith) low in
-      subst (λ (o : ℕ). IsWinner [] (length winners) node o) (sym (is_inner low))
-      (first_wins (length winners) node (get_or winners (2 * node) 0) (get_or winners (2 * node + 1) 0) doubled some inner
-        (right (2 * node) (omega arith) low) (right (2 * node + 1) (omega arith) (omega arith))))
+    let beside = pair_within (length winners) (2 * node) doubled (omega arith) low in
+    subst (λ (o : ℕ). IsWinner [] (length winners) node o) (sym (is_inner low))
+    (first_wins (length winners) node (get_or winners (2 * node) 0) (get_or winners (2 * node + 1) 0) doubled some inner
+    (right (2 * node) (omega arith) low) (right (2 * node + 1) (omega arith) (omega arith))))
     (λ (high : length winners ≤ 2 * node).
-      let leaf = is_leaf high in
-      let at_left : length winners + x ≡ 2 * node = omega arith in
-      let at_right : length winners + (x + 1) ≡ 2 * node + 1 = omega arith in
-      first_wins (length winners) node x (x + 1) doubled some inner
-      (subst (λ (k : ℕ). IsWinner [] (length winners) k x) at_left (winner_at_leaf [] (length winners) x (omega arith)))
-      (subst (λ (k : ℕ). IsWinner [] (length winners) k (x + 1)) at_right (winner_at_leaf [] (length winners) (x + 1) (right_leaf doubled.exponent doubled.power leaf))))
+    let leaf = is_leaf high in
+    let at_left : length winners + x ≡ 2 * node = omega arith in
+    let at_right : length winners + (x + 1) ≡ 2 * node + 1 = omega arith in
+    first_wins (length winners) node x (x + 1) doubled some inner
+    (subst (λ (k : ℕ). IsWinner [] (length winners) k x) at_left (winner_at_leaf [] (length winners) x (omega arith)))
+    (subst (λ (k : ℕ). IsWinner [] (length winners) k (x + 1)) at_right (winner_at_leaf [] (length winners) (x + 1) (right_leaf doubled.exponent doubled.power leaf))))
     (cases_lt (2 * node) (length winners))
   where
     right_leaf : (e : ℕ) → length winners ≡ 2 ^ e → x + length winners ≡ 2 * node → x + 1 < length winners
@@ -127,8 +127,8 @@ pub first_written : (winners : List ℕ) (node x : ℕ) → node < length winner
 first_written winners node x inner right winner other from within = ⊎_elim
     (λ (e : other ≡ node). rw (length-set winners node x, e, get_or-set_same winners node x 0 inner) winner)
     (λ (ne : other ≢ node).
-      let size = length-set winners node x in
-      rw (size, get_or-set_other winners node other x 0 ne) (right other (omega arith) (omega arith)))
+    let size = length-set winners node x in
+    rw (size, get_or-set_other winners node other x 0 ne) (right other (omega arith) (omega arith)))
     (cases_eq other node)
 
 -- counts that are the same flow by flow have the same winners
@@ -178,13 +178,13 @@ kept_grown old new leaves node flow a grew winner over = record {
   wins = λ other below. ⊎_elim
       (λ (e : other ≡ flow). subst (λ (o : ℕ). WinsOver new a o) (sym e) (over (subst (λ (o : ℕ). IsBelow leaves node o) e below)))
       (λ (ne : other ≢ flow).
-        let same = grew.others other ne in
-        let won = winner.wins other below in
-        let own = no_less old new flow a grew in
-        let result : WinsOver new a other = record {
-          greatest = omega (arith, same, won.greatest, own);
-          least = λ less. omega (arith, same, won.least less, own);
-        } in result)
+      let same = grew.others other ne in
+      let won = winner.wins other below in
+      let own = no_less old new flow a grew in
+      let result : WinsOver new a other = record {
+        greatest = omega (arith, same, won.greatest, own);
+        least = λ less. omega (arith, same, won.least less, own);
+      } in result)
       (cases_eq other flow);
 }
 
@@ -236,10 +236,10 @@ pub right_past : (old new before winners : List ℕ) (flow node levels : ℕ) �
     → Climbed new before winners flow node levels → AreWinnersFrom (node / 2 + 1) new winners
 right_past old new before winners flow node levels apart were climbed other from within = ⊎_elim
     (λ (less : other < node).
-      let held : IsWinner old (length before) other (get_or before other 0) = were other (omega arith) (omega (arith, climbed.size)) in
-      let kept = apart other (get_or before other 0)
-          (not_between (length before) levels node other flow climbed.height (omega arith) less) held in
-      rw (climbed.size, climbed.rest other less) kept)
+    let held : IsWinner old (length before) other (get_or before other 0) = were other (omega arith) (omega (arith, climbed.size)) in
+    let kept = apart other (get_or before other 0)
+    (not_between (length before) levels node other flow climbed.height (omega arith) less) held in
+    rw (climbed.size, climbed.rest other less) kept)
     (λ (most : node ≤ other). climbed.right other most within)
     (cases_lt other node)
 
@@ -255,8 +255,8 @@ climbs_on old new before winners after flow node levels apart were climbed some 
   right = λ other from within. ⊎_elim
       (λ (e : other ≡ node / 2). rw (size ∙ climbed.size, e) winner)
       (λ (ne : other ≢ node / 2).
-        let past = right_past old new before winners flow node levels apart were climbed other (omega arith) (omega arith) in
-        rw (size, others other ne) past)
+      let past = right_past old new before winners flow node levels apart were climbed other (omega arith) (omega arith) in
+      rw (size, others other ne) past)
       (cases_eq other (node / 2));
   rest = λ other less. let ne : other ≢ node / 2 = omega arith in others other ne ∙ climbed.rest other (omega arith);
 }
@@ -280,15 +280,15 @@ pub stops_grown : (old new before winners : List ℕ) (flow node levels x : ℕ)
     → Climbed new before winners flow node levels → IsWinner new (length before) (node / 2) x → x ≢ flow → AreWinners new winners
 stops_grown old new before winners flow node levels x grew were climbed winner ne other some within = ⊎_elim
     (λ (less : other < node).
-      let leaves = length before in
-      let a = get_or before other 0 in
-      let held : IsWinner old leaves other a = were other some (omega (arith, climbed.size)) in
-      let kept = kept_grown old new leaves other flow a grew held (λ (over : IsBelow leaves other flow).
-            let up = further_up leaves levels node other flow climbed.height less over in
-            let won : WinsOver old a x = held.wins x (below_above leaves up.0 (node / 2) other x up.1 winner.below) in
-            let next : IsBelow leaves (node / 2) flow = record { within = over.within; levels = suc levels; meets = ap (λ (n : ℕ). n / 2) climbed.height } in
-            still_over a x won (winner.wins flow next)) in
-      rw (climbed.size, climbed.rest other less) kept)
+    let leaves = length before in
+    let a = get_or before other 0 in
+    let held : IsWinner old leaves other a = were other some (omega (arith, climbed.size)) in
+    let kept = kept_grown old new leaves other flow a grew held (λ (over : IsBelow leaves other flow).
+    let up = further_up leaves levels node other flow climbed.height less over in
+    let won : WinsOver old a x = held.wins x (below_above leaves up.0 (node / 2) other x up.1 winner.below) in
+    let next : IsBelow leaves (node / 2) flow = record { within = over.within; levels = suc levels; meets = ap (λ (n : ℕ). n / 2) climbed.height } in
+    still_over a x won (winner.wins flow next)) in
+    rw (climbed.size, climbed.rest other less) kept)
     (λ (most : node ≤ other). climbed.right other most within)
     (cases_lt other node)
   where
@@ -296,10 +296,10 @@ stops_grown old new before winners flow node levels x grew were climbed winner n
     still_over a y won over = ⊎_elim
         (λ (e : a ≡ flow). subst (λ (o : ℕ). WinsOver new o flow) (sym e) (wins_over_self new flow))
         (λ (other_ne : a ≢ flow).
-          let same_a = grew.others a other_ne in
-          let same_x = grew.others x ne in
-          let won' : WinsOver new a x = record { greatest = omega (arith, same_a, same_x, won.greatest); least = λ less. omega (arith, same_a, same_x, won.least less) } in
-          wins_over_third new a x flow won' over)
+        let same_a = grew.others a other_ne in
+        let same_x = grew.others x ne in
+        let won' : WinsOver new a x = record { greatest = omega (arith, same_a, same_x, won.greatest); least = λ less. omega (arith, same_a, same_x, won.least less) } in
+        wins_over_third new a x flow won' over)
         (cases_eq a flow)
 
 -- the flow that fell didn't win at the next node: no node above changes
@@ -308,19 +308,19 @@ pub stops_fallen : (old new before winners : List ℕ) (flow node levels : ℕ) 
     → get_or winners (node / 2) 0 ≢ flow → AreWinners new winners
 stops_fallen old new before winners flow node levels fell were below climbed up_some up_within up_less ne other some within = ⊎_elim
     (λ (less : other < node).
-      let leaves = length before in
-      let a = get_or before other 0 in
-      let held : IsWinner old leaves other a = were other some (omega (arith, climbed.size)) in
-      let kept = kept_fallen old new leaves other flow a fell held (λ (e : a ≡ flow). absurd (
-            let over : IsBelow leaves other flow = subst (λ (o : ℕ). IsBelow leaves other o) e held.below in
-            let up = further_up leaves levels node other flow climbed.height less over in
-            let x = get_or before (node / 2) 0 in
-            let next_held : IsWinner old leaves (node / 2) x = were (node / 2) up_some up_within in
-            let next : IsBelow leaves (node / 2) flow = record { within = below; levels = suc levels; meets = ap (λ (n : ℕ). n / 2) climbed.height } in
-            let won : WinsOver old flow x = subst (λ (o : ℕ). WinsOver old o x) e (held.wins x (below_above leaves up.0 (node / 2) other x up.1 next_held.below)) in
-            let same : x ≡ flow = wins_both_ways old x flow (next_held.wins flow next) won in
-            ne (climbed.rest (node / 2) up_less ∙ same))) in
-      rw (climbed.size, climbed.rest other less) kept)
+    let leaves = length before in
+    let a = get_or before other 0 in
+    let held : IsWinner old leaves other a = were other some (omega (arith, climbed.size)) in
+    let kept = kept_fallen old new leaves other flow a fell held (λ (e : a ≡ flow). absurd (
+    let over : IsBelow leaves other flow = subst (λ (o : ℕ). IsBelow leaves other o) e held.below in
+    let up = further_up leaves levels node other flow climbed.height less over in
+    let x = get_or before (node / 2) 0 in
+    let next_held : IsWinner old leaves (node / 2) x = were (node / 2) up_some up_within in
+    let next : IsBelow leaves (node / 2) flow = record { within = below; levels = suc levels; meets = ap (λ (n : ℕ). n / 2) climbed.height } in
+    let won : WinsOver old flow x = subst (λ (o : ℕ). WinsOver old o x) e (held.wins x (below_above leaves up.0 (node / 2) other x up.1 next_held.below)) in
+    let same : x ≡ flow = wins_both_ways old x flow (next_held.wins flow next) won in
+    ne (climbed.rest (node / 2) up_less ∙ same))) in
+    rw (climbed.size, climbed.rest other less) kept)
     (λ (most : node ≤ other). climbed.right other most within)
     (cases_lt other node)
 
@@ -333,9 +333,9 @@ root_grown old new winners flow doubled grew were more root node some within =
     let held : IsWinner old leaves node a = were node some within in
     let at_root : IsWinner old leaves 1 flow = subst (λ (o : ℕ). IsWinner old leaves 1 o) root (were 1 (omega arith) more) in
     kept_grown old new leaves node flow a grew held (λ (over : IsBelow leaves node flow).
-      let won = at_root.wins a (below_root doubled.exponent leaves a doubled.power held.below.within) in
-      let same : a ≡ flow = wins_both_ways old a flow (held.wins flow over) won in
-      subst (λ (o : ℕ). WinsOver new o flow) (sym same) (wins_over_self new flow))
+    let won = at_root.wins a (below_root doubled.exponent leaves a doubled.power held.below.within) in
+    let same : a ≡ flow = wins_both_ways old a flow (held.wins flow over) won in
+    subst (λ (o : ℕ). WinsOver new o flow) (sym same) (wins_over_self new flow))
 
 -- the climb has come to the root
 pub climbed_all : (bytes before winners : List ℕ) (flow node levels : ℕ) → Climbed bytes before winners flow node levels → node ≤ 1 → AreWinners bytes winners
@@ -376,7 +376,7 @@ climbs_first old new before flow x made more doubled apart were within some winn
     let inner : node < length before = pair.2 in
     let same : get_or (set before node x) node 0 ≡ x = get_or-set_same before node x 0 inner in
     let climbed = climbs_on old new before before (set before node x) flow (length before + flow) 0 apart were (climbs_none new before flow) some
-        (length-set before node x) (λ other ne. get_or-set_other before node other x 0 ne) (rw same winner) in
+    (length-set before node x) (λ other ne. get_or-set_other before node other x 0 ne) (rw same winner) in
     record { levels = 1; climbed = climbed; some = some; inner = inner; none_lost = none_lost; compared = omega arith; few = omega arith }
 
 -- the next node gets its winner, with one comparison more
@@ -388,7 +388,7 @@ climbs_next old new before winners flow node x made most more apart were climbs 
     let inner : next < length winners = omega (arith, climbs.climbed.size, climbs.inner) in
     let same : get_or (set winners next x) next 0 ≡ x = get_or-set_same winners next x 0 inner in
     let climbed = climbs_on old new before winners (set winners next x) flow node climbs.levels apart were climbs.climbed (omega arith)
-        (length-set winners next x) (λ other ne. get_or-set_other winners next other x 0 ne) (rw same winner) in
+    (length-set winners next x) (λ other ne. get_or-set_other winners next other x 0 ne) (rw same winner) in
     record {
       levels = suc climbs.levels;
       climbed = climbed;
@@ -410,7 +410,7 @@ climbs_past old new before winners flow node made more grew were climbs higher h
     let won_before : IsWinner old leaves next flow = subst (λ (o : ℕ). IsWinner old leaves next o) was (were next (omega arith) (omega (arith, climbs.inner))) in
     let won : IsWinner new leaves next flow = kept_grown old new leaves next flow flow grew won_before (λ _. wins_over_self new flow) in
     let climbed = climbs_on old new before winners winners flow node climbs.levels (apart_grown old new leaves flow grew) were climbs.climbed (omega arith)
-        refl (λ other ne. refl) (subst (λ (o : ℕ). IsWinner new leaves next o) (sym held) won) in
+    refl (λ other ne. refl) (subst (λ (o : ℕ). IsWinner new leaves next o) (sym held) won) in
     record {
       levels = suc climbs.levels;
       climbed = climbed;
@@ -474,10 +474,10 @@ root_wins : (bytes winners : List ℕ) (flow : ℕ) → AreWinners bytes winners
     → WinsOver bytes (get_or winners 1 0) flow
 root_wins bytes winners flow right leaves within = ⊎_elim
     (λ (inner : 1 < length winners).
-      (right 1 (omega arith) inner).wins flow (below_root leaves.doubled.exponent (length winners) flow leaves.doubled.power (omega (arith, leaves.enough))))
+    (right 1 (omega arith) inner).wins flow (below_root leaves.doubled.exponent (length winners) flow leaves.doubled.power (omega (arith, leaves.enough))))
     (λ (alone : length winners ≤ 1).
-      let only : flow ≡ get_or winners 1 0 = omega (arith, leaves.enough, get_or_past winners 1 0 alone) in
-      rw only (wins_over_self bytes (get_or winners 1 0)))
+    let only : flow ≡ get_or winners 1 0 = omega (arith, leaves.enough, get_or_past winners 1 0 alone) in
+    rw only (wins_over_self bytes (get_or winners 1 0)))
     (cases_lt 1 (length winners))
 
 -- it is one of the flows
@@ -485,8 +485,8 @@ pub root_within : (bytes winners : List ℕ) → AreWinners bytes winners → Ha
 root_within bytes winners right leaves some = ⊎_elim
     (λ (within : get_or winners 1 0 < length bytes). within)
     (λ (past : length bytes ≤ get_or winners 1 0).
-      let won = root_wins bytes winners 0 right leaves (omega arith) in
-      absurd (omega (arith, won.least (omega arith), get_or_past bytes (get_or winners 1 0) 0 past)))
+    let won = root_wins bytes winners 0 right leaves (omega arith) in
+    absurd (omega (arith, won.least (omega arith), get_or_past bytes (get_or winners 1 0) 0 past)))
     (cases_lt (get_or winners 1 0) (length bytes))
 
 -- it has the most bytes, where it has any
@@ -522,6 +522,6 @@ pub no_bytes : (flows flow : ℕ) → get_or {A = ℕ} (replicate {A = ℕ} flow
 no_bytes flows flow = ⊎_elim
     (λ (within : flow < flows). get_or-replicate flows flow 0 0 within)
     (λ (past : flows ≤ flow).
-      let zero' : ℕ = 0 in
-      get_or_past (replicate flows zero') flow 0 (rw (length-replicate flows zero') past))
+    let zero' : ℕ = 0 in
+    get_or_past (replicate flows zero') flow 0 (rw (length-replicate flows zero') past))
     (cases_lt flow flows)

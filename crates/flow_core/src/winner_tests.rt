@@ -13,6 +13,12 @@ fn tree_over(rt: &impl Abort, alloc: Global, flows: u32) -> Result<WinnerTree, F
     Ok(WinnerTree::try_new(alloc, flows)?)
 }
 
+/// The bytes of a flow.
+fn bytes_of(rt: &impl Abort, tree: &WinnerTree, flow: u32) -> u64 {
+    assert!(rt; flow < tree.flows());
+    tree.bytes(flow)
+}
+
 /// Bytes come to a flow.
 fn add(rt: &impl Abort, tree: &mut WinnerTree, flow: u32, bytes: u64) {
     assert!(rt; flow < tree.flows());
@@ -54,13 +60,13 @@ fn change(rt: &impl Abort, tree: &mut WinnerTree, random: u64) {
     let flow = (random % 64) as u32 % tree.flows();
     // Few lengths, so that counts are often equal.
     let bytes = random / 64 % 4 * 500;
-    let before = tree.bytes(flow);
+    let before = bytes_of(rt, tree, flow);
     if random / 256 % 9 < 5 {
         add(rt, tree, flow, bytes);
-        assert_eq!(rt; tree.bytes(flow), before.wrapping_add(bytes));
+        assert_eq!(rt; bytes_of(rt, tree, flow), before.wrapping_add(bytes));
     } else {
         take(rt, tree, flow, bytes.min(before));
-        assert_eq!(rt; tree.bytes(flow), before.saturating_sub(bytes));
+        assert_eq!(rt; bytes_of(rt, tree, flow), before.saturating_sub(bytes));
     }
 }
 

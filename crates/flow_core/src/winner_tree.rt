@@ -207,7 +207,7 @@ fn better_of_pair(bytes: &[u64], comparisons: &mut u64, flow: u32) -> u32
     better(bytes, comparisons, left, left + 1)
 }
 
-// A flow's count grew: it wins at more of the nodes above its leaf, up to the first where it does not.
+// A flow's count grew: it wins at each node above its leaf, up to the first where another flow still does.
 fn raise(bytes: &[u64], winners: &mut [u32], comparisons: &mut u64, flow: u32)
     requires flow { flow < length bytes.now }
     requires leaves { HasLeaves (length bytes.now) (length winners.old) }
@@ -223,14 +223,14 @@ fn raise(bytes: &[u64], winners: &mut [u32], comparisons: &mut u64, flow: u32)
         return;
     }
     let pair = better_of_pair(bytes, comparisons, flow);
-    // Who won at the root still does, and so at each node below.
+    // Another flow still wins here, or this one won at the root already: no node changes.
     if pair != flow || winners[1] == flow {
         return;
     }
     winners[node] = flow;
     while node > 1 {
         node /= 2;
-        // Who won here still does, with nothing to compare.
+        // Where it won already it still does, with nothing to compare.
         if winners[node] != flow {
             if better(bytes, comparisons, winners[2 * node], winners[2 * node + 1]) != flow {
                 return;
@@ -240,7 +240,7 @@ fn raise(bytes: &[u64], winners: &mut [u32], comparisons: &mut u64, flow: u32)
     }
 }
 
-// A flow's count fell: each node where it won gets a new winner, up to the first where it did not.
+// A flow's count fell: each node above its leaf gets its winner anew, up to the first where another flow won.
 fn lower(bytes: &[u64], winners: &mut [u32], comparisons: &mut u64, flow: u32)
     requires flow { flow < length bytes.now }
     requires leaves { HasLeaves (length bytes.now) (length winners.old) }

@@ -11,11 +11,11 @@ returns-then-node-eq0-clause-winners c =
     let flow = c.args.flow in
     let old = set bytes flow c.requires.fallen.before in
     elim c.then-node-eq0.branch [
-      then-node-eq0-via-then-node-eq0 v ↦ λ node some within. absurd (omega arith)
-    | then-node-eq0-via-else-node-eq0+then-winners-node v ↦
-        let leaves = pair_of_leaves (length w) flow c.requires.leaves.doubled (omega arith) (omega arith) in
-        stops_fallen old bytes w w flow (length w + flow) 0 (fell_from bytes w flow c.requires.fallen c.requires.flow) c.requires.fallen.right
-        (omega arith) (climbs_none bytes w flow) (omega arith) leaves.2 (omega arith) v.if-winners-node.true
+      | then-node-eq0-via-then-node-eq0 v ↦ λ node some within. absurd (omega arith)
+      | then-node-eq0-via-else-node-eq0+then-winners-node v ↦
+          let leaves = pair_of_leaves (length w) flow c.requires.leaves.doubled (omega arith) (omega arith) in
+          stops_fallen old bytes w w flow (length w + flow) 0 (fell_from bytes w flow c.requires.fallen c.requires.flow) c.requires.fallen.right
+          (omega arith) (climbs_none bytes w flow) (omega arith) leaves.2 (omega arith) v.if-winners-node.true
     ]
 
 pub loop-node-init : goal.loop-node-init
@@ -59,7 +59,7 @@ loop-node-preserved c =
     let old = set bytes flow c.requires.fallen.before in
     let apart = apart_fallen old bytes (length w) flow (fell_from bytes w flow c.requires.fallen c.requires.flow) in
     let won = next_wins old bytes w c.loop-node.winners flow c.loop-node.node climbs.levels c.better.result c.requires.leaves.doubled
-        apart c.requires.fallen.right climbs.climbed (omega arith) climbs.inner c.better.ensures.right c.better.ensures.left in
+    apart c.requires.fallen.right climbs.climbed (omega arith) climbs.inner c.better.ensures.right c.better.ensures.left in
     climbs_next old bytes w c.loop-node.winners flow c.loop-node.node c.better.result c.args.comparisons.now c.loop-node.comparisons c.better.new.comparisons
     apart c.requires.fallen.right climbs c.loop-node-test.true won c.better.ensures.none_lost (omega (arith, c.better.ensures.counted))
 

@@ -13,12 +13,12 @@ returns-then-pair-flow-clause-winners c =
     let old = set bytes flow c.requires.grown.before in
     let grew = grew_from bytes w flow c.requires.grown c.requires.flow in
     elim c.then-pair-flow.branch [
-      then-pair-flow-via-then-pair-flow v ↦
-        let won = pair_wins bytes (length w) flow pair.result c.requires.leaves.doubled (omega arith) (omega arith) pair.ensures.right pair.ensures.left in
-        stops_grown old bytes w w flow (length w + flow) 0 pair.result grew c.requires.grown.right (climbs_none bytes w flow) won v.if-pair-flow.true
-    | then-pair-flow-via-else-pair-flow+then-winners-flow v ↦
-        let leaves = pair_of_leaves (length w) flow c.requires.leaves.doubled (omega arith) (omega arith) in
-        root_grown old bytes w flow c.requires.leaves.doubled grew c.requires.grown.right (omega (arith, leaves.1)) v.if-winners-flow.true
+      | then-pair-flow-via-then-pair-flow v ↦
+          let won = pair_wins bytes (length w) flow pair.result c.requires.leaves.doubled (omega arith) (omega arith) pair.ensures.right pair.ensures.left in
+          stops_grown old bytes w w flow (length w + flow) 0 pair.result grew c.requires.grown.right (climbs_none bytes w flow) won v.if-pair-flow.true
+      | then-pair-flow-via-else-pair-flow+then-winners-flow v ↦
+          let leaves = pair_of_leaves (length w) flow c.requires.leaves.doubled (omega arith) (omega arith) in
+          root_grown old bytes w flow c.requires.leaves.doubled grew c.requires.grown.right (omega (arith, leaves.1)) v.if-winners-flow.true
     ]
 
 pub loop-node-init : goal.loop-node-init
@@ -47,7 +47,7 @@ returns-then-better-flow-clause-winners c =
     let old = set bytes flow c.requires.grown.before in
     let grew = grew_from bytes w flow c.requires.grown c.requires.flow in
     let won = next_wins old bytes w c.loop-node.winners flow c.loop-node.node climbs.levels c.better.result c.requires.leaves.doubled
-        (apart_grown old bytes (length w) flow grew) c.requires.grown.right climbs.climbed (omega arith) climbs.inner c.better.ensures.right c.better.ensures.left in
+    (apart_grown old bytes (length w) flow grew) c.requires.grown.right climbs.climbed (omega arith) climbs.inner c.better.ensures.right c.better.ensures.left in
     stops_grown old bytes w c.loop-node.winners flow c.loop-node.node climbs.levels c.better.result grew c.requires.grown.right climbs.climbed won c.if-better-flow.true
 
 pub returns-then-better-flow-clause-few : goal.returns-then-better-flow-clause-few
@@ -64,7 +64,7 @@ loop-node-preserved-then-winners-node c =
     let old = set bytes flow c.requires.grown.before in
     let apart = apart_grown old bytes (length w) flow (grew_from bytes w flow c.requires.grown c.requires.flow) in
     let won = next_wins old bytes w c.loop-node.winners flow c.loop-node.node climbs.levels c.better.result c.requires.leaves.doubled
-        apart c.requires.grown.right climbs.climbed (omega arith) climbs.inner c.better.ensures.right c.better.ensures.left in
+    apart c.requires.grown.right climbs.climbed (omega arith) climbs.inner c.better.ensures.right c.better.ensures.left in
     climbs_next old bytes w c.loop-node.winners flow c.loop-node.node flow c.args.comparisons.now c.loop-node.comparisons c.better.new.comparisons
     apart c.requires.grown.right climbs c.loop-node-test.true (rw c.if-better-flow.false at won) c.better.ensures.none_lost (omega (arith, c.better.ensures.counted))
 

@@ -1,4 +1,4 @@
-use Rattle.std.proofs.Common.{◌≡◌, ◌-◌, ◌<◌, ◌≤◌, get_or, length, set, arith, length-set}
+use Rattle.std.proofs.Common.{◌≡◌, ◌-◌, ◌<◌, get_or, length, arith, length-set}
 use Rattle.std.proofs.lemmas.List.{get_or_read}
 use Rattle.flow_core.proofs.Winning.{fallen_to}
 use Rattle.flow_core.proofs.WinnersKeeping.{leaves_kept}

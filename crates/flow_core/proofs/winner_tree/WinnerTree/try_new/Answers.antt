@@ -1,5 +1,4 @@
-use Rattle.std.proofs.Common.{◌≡◌, ℕ, ◌^◌, ◌<◌, ◌≤◌, ◌∙◌, [], replicate, vec_len, rules, arith}
-use Rattle.flow_core.specs.WinnerNodes.{AreWinners}
+use Rattle.std.proofs.Common.{◌≡◌, ℕ, ◌≤◌, ◌∙◌, [], replicate, vec_len, rules, arith}
 use Rattle.flow_core.proofs.Climbing.{most_leaves, shifted}
 use Rattle.flow_core.proofs.Winning.{no_bytes, same_winners}
 use Rattle.flow_core.proofs.winner_tree.WinnerTree.try_new.Goals as goal

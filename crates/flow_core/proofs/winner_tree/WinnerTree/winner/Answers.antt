@@ -1,6 +1,5 @@
-use Rattle.std.proofs.Common.{◌≡◌, ◌<◌, ◌≤◌, All, get_or, length, sym, ap, subst, ◌∙◌, refl, rules, arith}
+use Rattle.std.proofs.Common.{◌≡◌, ◌<◌, ◌≤◌, get_or, length, refl, rules, arith}
 use Rattle.std.proofs.lemmas.List.{get_or_read}
-use Rattle.flow_core.specs.Winners.{ByteCounts, HasMostBytes}
 use Rattle.flow_core.proofs.Winning.{none_at, root_has_most, root_has_none, root_within}
 use Rattle.flow_core.proofs.WinnersKeeping.{leaves_kept}
 use Rattle.flow_core.proofs.winner_tree.WinnerTree.winner.Goals as goal
@@ -18,9 +17,10 @@ returns-then-index-gt0-clause-none c =
     let root : c.unwrap_or-root.result ≡ get_or t.winners.items 1 0 = search rules in
     let some : 1 ≤ length t.bytes.items = omega (arith, c.self.invariant.least, t.bytes.ok.0) in
     let within = rw (← root) at (root_within t.bytes.items t.winners.items c.self.invariant.winners (leaves_kept t c.self.invariant) some) in
-    let bytes = get_or_read t.bytes.items c.unwrap_or-root.result c.index.result.now within c.index.ensures 0 in
-    (λ e. absurd cc,
-      λ none. absurd (let none' = rw (← c.self.view_is) at none in omega (arith, none_at t.bytes.items c.unwrap_or-root.result none', c.if-index-gt0.true)))
+    let bytes = get_or_read t.bytes.items c.unwrap_or-root.result c.index.result.now within c.index.ensures 0 in (
+      λ e. absurd cc,
+      λ none. absurd (let none' = rw (← c.self.view_is) at none in omega (arith, none_at t.bytes.items c.unwrap_or-root.result none', c.if-index-gt0.true)),
+    )
 
 pub returns-then-index-gt0-clause-winner : goal.returns-then-index-gt0-clause-winner
 returns-then-index-gt0-clause-winner c =
