@@ -36,17 +36,17 @@ has_last p (q ∷ rest) = inr (has_last q rest)
 
 -- one more at the end
 pub has_push : (ps : List Placed) (p : Placed) (key : ℕ) → HasKey (ps ++ p ∷ []) key → HasKey ps key ⊎ (p.key ≡ key)
-has_push [] p key has = elim has [ | inl same ↦ inr same | inr none ↦ absurd none ]
+has_push [] p key has = elim has [ inl same ↦ inr same | inr none ↦ absurd none ]
 has_push (q ∷ ps) p key has =
     elim has [
       | inl same ↦ inl (inl same)
-      | inr behind ↦ elim (has_push ps p key behind) [ | inl among ↦ inl (inr among) | inr same ↦ inr same ]
+      | inr behind ↦ elim (has_push ps p key behind) [ inl among ↦ inl (inr among) | inr same ↦ inr same ]
     ]
 
 pub apart_push : (ps : List Placed) (p : Placed) → (HasKey ps p.key → ⊥) → AreApart ps → AreApart (ps ++ p ∷ [])
 apart_push [] p absent apart = (λ none. none, tt)
 apart_push (q ∷ ps) p absent apart = (
-  λ has. elim (has_push ps p q.key has) [ | inl among ↦ apart.0 among | inr same ↦ absent (inl (sym same)) ],
+  λ has. elim (has_push ps p q.key has) [ inl among ↦ apart.0 among | inr same ↦ absent (inl (sym same)) ],
   apart_push ps p (λ has. absent (inr has)) apart.1,
 )
 
@@ -174,7 +174,7 @@ comes_behind old mid ps chain added link ends linked apart empty updates found =
     let stays : (key : ℕ) → key ≢ chain.last → key ≢ added.key → get new key ≡ get old key = λ key one two. written.others key one ∙ updates.others key two in
     let here : get new added.key ≡ Some (record { waiting = added.waiting; next = None }) = written.others added.key (λ (same : added.key ≡ chain.last). other (sym same)) ∙ updates.changed in
     let behind : (w : Waiting) → get old chain.last ≡ Some (record { waiting = w; next = None }) → get new chain.last ≡ Some (record { waiting = w; next = Some added.key }) =
-        λ w was. let before = updates.others chain.last other in let same : link ≡ record { waiting = w; next = None } = cc in written.changed ∙ ap (λ (l : Link). Some (record { waiting = l.waiting; next = Some added.key })) same in
+    λ w was. let before = updates.others chain.last other in let same : link ≡ record { waiting = w; next = None } = cc in written.changed ∙ ap (λ (l : Link). Some (record { waiting = l.waiting; next = Some added.key })) same in
     record {
       linked =
           subst (λ (xs : List Placed). AreLinked new (xs ++ added ∷ [])) (sym is_cons)

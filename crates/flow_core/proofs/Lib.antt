@@ -6,4 +6,3 @@ pub mod Linking
 pub mod Listing
 pub mod Winning
 pub mod WinnersKeeping
-pub mod WinnersOfQueues

@@ -41,15 +41,27 @@ fn pop(rt: &impl Abort, chains: &mut Chains, flow: u32) -> Option<u64> {
     chains.pop(flow).map(|w| w.id)
 }
 
-/// As many packets wait in each flow as ids stand in its list, and as many in all.
-fn compare(rt: &impl Abort, chains: &Chains, plain: &[Vec<u64>]) {
+/// The packets of those ids are all that wait in a flow, in that order. Each one goes and comes again.
+fn compare(rt: &impl Abort, chains: &mut Chains, flow: u32, ids: &[u64]) -> Result<(), Fail> {
+    for id in ids {
+        assert_eq!(rt; pop(rt, chains, flow), Some(*id));
+        push(rt, chains, flow, *id)?;
+    }
+    assert!(rt; flow < chains.flows());
+    assert_eq!(rt; chains.len(flow), ids.len() as u64);
+    Ok(())
+}
+
+/// Each flow has what its list has, and no more packets wait.
+fn compare_all(rt: &impl Abort, chains: &mut Chains, plain: &[Vec<u64>]) -> Result<(), Fail> {
     let mut total = 0u64;
-    for flow in 0..chains.flows() {
-        let len = plain.get(flow as usize).map_or(0, |ids| ids.len() as u64);
-        assert_eq!(rt; chains.len(flow), len);
-        total = total.wrapping_add(len);
+    for flow in 0..7u32 {
+        let ids = plain.get(flow as usize).ok_or("no such flow")?;
+        compare(rt, chains, flow, ids)?;
+        total = total.wrapping_add(ids.len() as u64);
     }
     assert_eq!(rt; chains.total_len(), total);
+    Ok(())
 }
 
 /// A packet comes to a flow, or one goes, and a plain list of ids changes likewise.
@@ -100,7 +112,7 @@ fn seven_chains_interleaved(rt: HostRuntime) -> Result<(), Fail> {
         let own = plain.get_mut(flow as usize).ok_or("no such flow")?;
         // Ten come where nine go, so that few wait at once and slots are used again.
         turn(&rt, &mut chains, flow as u32, own, id, random / 7 % 19 < 10)?;
-        compare(&rt, &chains, plain.as_slice());
+        compare_all(&rt, &mut chains, plain.as_slice())?;
     }
     for flow in 0..7u32 {
         let own = plain.get(flow as usize).ok_or("no such flow")?;

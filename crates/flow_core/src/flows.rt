@@ -88,8 +88,7 @@ impl Flows {
         ensures rest { self.new ≡ record self.old { lists = with_queue self.old.lists flow (drop 1 (queue_at self.old.lists flow)) } }
     {
         let waiting = self.chains.pop(flow)?;
-        self.winners
-            .take(flow, u64::from(waiting.packet.len()));
+        self.winners.take(flow, u64::from(waiting.packet.len()));
         Some(waiting)
     }
 

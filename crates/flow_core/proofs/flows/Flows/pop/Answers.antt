@@ -19,7 +19,7 @@ invariant_of-self-2 c =
     let head : Some c.in_ok-waiting.waiting ≡ slice_get queue 0 = sym c.in_ok-waiting.was ∙ c.pop.ensures.head in
     let count = length-set queues flow (drop 1 queue) in
     let bytes : get_or (map bytes_of queues) flow 0 - c.from.result ≡ bytes_of (drop 1 queue) =
-        omega (arith, bytes_seen queues flow, bytes_behind queue c.in_ok-waiting.waiting head, c.from.ensures, c.len.ensures.value) in
+    omega (arith, bytes_seen queues flow, bytes_behind queue c.in_ok-waiting.waiting head, c.from.ensures, c.len.ensures.value) in
     rw c.pop.ensures.rest (record {
       least = omega (arith, kept.least, count);
       most = omega (arith, kept.most, count);

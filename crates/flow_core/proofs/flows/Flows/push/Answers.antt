@@ -26,7 +26,7 @@ invariant_of-self c =
     let size = rw (← c.self.view_is) at c.requires.size in
     let count = length-set queues flow (queue ++ w ∷ []) in
     let bytes : get_or (map bytes_of queues) flow 0 + c.from-bytes.result ≡ bytes_of (queue ++ w ∷ []) =
-        omega (arith, bytes_seen queues flow, c.from-bytes.ensures, c.len.ensures.value, sum_by_push (λ (x : Waiting). x.packet.len) queue w) in
+    omega (arith, bytes_seen queues flow, c.from-bytes.ensures, c.len.ensures.value, sum_by_push (λ (x : Waiting). x.packet.len) queue w) in
     rw c.push.ensures.queues (record {
       least = omega (arith, kept.least, count);
       most = omega (arith, kept.most, count);
