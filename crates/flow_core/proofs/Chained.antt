@@ -1,8 +1,8 @@
 -- What a push and a pop leave of the chains, and what callers see of it.
-use Rattle.std.proofs.Common.{◌≡◌, ◌≢◌, ◌⊎◌, ℕ, zero, suc, ◌+◌, ◌-◌, ◌<◌, ◌≤◌, Option, None, Some, is_some, cond, List, [], ◌∷◌, ◌++◌, All, length, map, get_or, set, replicate, drop, slice_get, sum_by, refl, sym, ap, subst, ◌∙◌, inl, inr, arith, length-append}
+use Rattle.std.proofs.Common.{◌≡◌, ℕ, zero, suc, ◌+◌, ◌<◌, ◌≤◌, Option, None, Some, is_some, cond, List, [], ◌∷◌, ◌++◌, length, map, get_or, set, replicate, drop, slice_get, sum_by, refl, sym, ap, subst, ◌∙◌, inl, inr, arith, length-append}
 use Rattle.std.proofs.Math.ListN.{get_or-map}
 use Rattle.std.proofs.lemmas.Bool.{cases_lt}
-use Rattle.std.proofs.lemmas.List.{get_or_default, get_or_past, length-map, length-set, map-append}
+use Rattle.std.proofs.lemmas.List.{get_or_default, get_or_past, length-map, map-append}
 use Rattle.std.proofs.lemmas.List.Elements.{All-get_or, All-replicate}
 use Rattle.std.proofs.lemmas.List.Folds.{sum_by-replicate}
 use Rattle.std.proofs.lemmas.List.Sums.{get_or-le-sum_by, sum_by-cons, sum_by-set}
@@ -14,7 +14,7 @@ use Rattle.flow_core.specs.declared.chains.Chains.TheInside.{Inside}
 use Rattle.flow_core.specs.declared.chains.Link.{Link}
 use Rattle.flow_core.specs.Chains.{AreApart, AreChained, AreChainsOf, AreLinked, HasKey, Placed, ends_of, first_key, packets_of, queues_of}
 use Rattle.flow_core.specs.Queues.{Queues}
-use Rattle.flow_core.proofs.Chaining.{Extends, IsSplit, Replaces, apart_push, comes_behind, comes_first, empty_slot, ends_empty, has_push, linked_stays, queues_seen, replaced, replaced_seen, waitings}
+use Rattle.flow_core.proofs.Chaining.{Extends, IsSplit, Replaces, apart_push, comes_behind, comes_first, empty_slot, ends_empty, has_push, linked_stays, queues_seen, replaced_seen, waitings}
 
 sum_waitings : (placed : List (List Placed)) → sum_by length (map waitings placed) ≡ sum_by length placed
 sum_waitings [] = refl

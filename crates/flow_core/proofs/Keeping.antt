@@ -1,15 +1,13 @@
 -- The bytes of each queue, as the tree of winners has them.
-use Rattle.std.proofs.Common.{◌≡◌, ℕ, zero, suc, ◌+◌, ◌-◌, ◌*◌, ◌<◌, ◌≤◌, ◌↔◌, Option, Some, None, IfSome, IsNone, List, [], ◌∷◌, ◌++◌, All, length, map, get_or, set, replicate, drop, slice_get, sum_by, refl, sym, ap, subst, ◌∙◌, inl, inr, arith}
+use Rattle.std.proofs.Common.{◌≡◌, ℕ, ◌+◌, ◌*◌, ◌≤◌, Some, List, [], ◌∷◌, All, length, map, get_or, set, drop, slice_get, sum_by, refl, sym, ap, ◌∙◌, inl, inr, arith}
 use Rattle.std.proofs.Math.ListN.{get_or-map}
 use Rattle.std.proofs.lemmas.Bool.{cases_lt}
-use Rattle.std.proofs.lemmas.List.{get_or_past, length-map, length-set, map-set}
-use Rattle.std.proofs.lemmas.List.Elements.{All-from_get_or, All-get_or, All-head, All-map, All-push, All-set, All-tail}
-use Rattle.std.proofs.lemmas.List.Sums.{get_or-le-sum_by, sum_by-cons, sum_by-le, sum_by-set, sum_by_push}
+use Rattle.std.proofs.lemmas.List.{get_or_past, length-map, map-set}
+use Rattle.std.proofs.lemmas.List.Elements.{All-from_get_or, All-get_or, All-head, All-map, All-tail}
+use Rattle.std.proofs.lemmas.List.Sums.{get_or-le-sum_by, sum_by-cons, sum_by-le}
 use Rattle.packet_core.specs.Packets.{IsLengthInRange}
 use Rattle.packet_core.specs.declared.packet.Waiting.{Waiting}
 use Rattle.codel_core.specs.Queue.{bytes_of}
-use Rattle.flow_core.specs.declared.chains.TheConstants.{MAX_WAITING}
-use Rattle.flow_core.specs.declared.flows.TheConstants.{MAX_FLOWS}
 use Rattle.flow_core.specs.Fattest.{IsFattest, bytes_at}
 use Rattle.flow_core.specs.Winners.{HasMostBytes}
 

@@ -1,6 +1,5 @@
 use Rattle.std.proofs.Common.{◌≡◌, Some, ◌∙◌, arith}
 use Rattle.std.proofs.lemmas.List.{length-map}
-use Rattle.packet_core.specs.declared.packet.Waiting.{Waiting}
 use Rattle.flow_core.specs.Chains.{Placed, ends_of}
 use Rattle.flow_core.proofs.Chained.{at_seen, ends_seen, few_held, held}
 use Rattle.flow_core.proofs.Chaining.{ends_len}

@@ -1,4 +1,4 @@
-use Rattle.std.proofs.Common.{◌≡◌, arith}
+use Rattle.std.proofs.Common.{arith}
 use Rattle.flow_core.proofs.Chained.{grown}
 use Rattle.flow_core.proofs.chains.Chains.reserve.Goals as goal
 

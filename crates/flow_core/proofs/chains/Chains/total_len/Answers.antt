@@ -1,4 +1,4 @@
-use Rattle.std.proofs.Common.{◌≡◌, sym, ◌∙◌, arith}
+use Rattle.std.proofs.Common.{arith}
 use Rattle.flow_core.proofs.Chained.{waiting_seen}
 use Rattle.flow_core.proofs.chains.Chains.total_len.Goals as goal
 

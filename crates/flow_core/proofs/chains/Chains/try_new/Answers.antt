@@ -1,4 +1,4 @@
-use Rattle.std.proofs.Common.{◌≡◌, None, Some, replicate, refl, rules, arith}
+use Rattle.std.proofs.Common.{◌≡◌, None, replicate, rules, arith}
 use Rattle.flow_core.proofs.Chained.{opened, opened_seen}
 use Rattle.flow_core.proofs.chains.Chains.try_new.Goals as goal
 

@@ -1,11 +1,10 @@
-use Rattle.std.proofs.Common.{◌≡◌, ℕ, ◌+◌, ◌-◌, Some, List, [], length, get_or, set, map, drop, slice_get, sym, ap, subst, ◌∙◌, arith}
+use Rattle.std.proofs.Common.{◌≡◌, ◌-◌, Some, [], length, get_or, map, drop, slice_get, sym, ◌∙◌, arith}
 use Rattle.std.proofs.lemmas.List.{length-drop, length-set}
 use Rattle.std.proofs.lemmas.List.Elements.{All-drop, All-set}
 use Rattle.std.proofs.lemmas.List.Sums.{sum_by-set}
 use Rattle.packet_core.specs.Packets.{IsLengthInRange}
 use Rattle.packet_core.specs.declared.packet.Waiting.{Waiting}
 use Rattle.codel_core.specs.Queue.{bytes_of}
-use Rattle.flow_core.specs.Queues.{Queues}
 use Rattle.flow_core.proofs.Keeping.{AreInRange, bytes_behind, bytes_seen, bytes_set, in_range_at}
 use Rattle.flow_core.proofs.flows.Flows.pop.Goals as goal
 
