@@ -12,18 +12,18 @@ use std::marker::Model;
 pub const MAX_WAITING: u64 = 1 << 40;
 
 /// A packet that waits, and the key of the one behind it in its flow. The last one of a flow has none behind it.
-#[derive(Clone, Copy, Debug, PartialEq, Eq)]
-pub(crate) struct Link {
-    pub(crate) waiting: Waiting,
-    pub(crate) next: Option<usize>,
+#[derive(Clone, Copy, Debug)]
+struct Link {
+    waiting: Waiting,
+    next: Option<usize>,
 }
 
 /// The packets of a flow that isn't empty: the keys of the first and of the last one, and how many there are.
-#[derive(Clone, Copy, Debug, PartialEq, Eq)]
-pub(crate) struct Chain {
-    pub(crate) first: usize,
-    pub(crate) last: usize,
-    pub(crate) len: u64,
+#[derive(Clone, Copy, Debug)]
+struct Chain {
+    first: usize,
+    last: usize,
+    len: u64,
 }
 
 impl Chain {
