@@ -18,7 +18,7 @@ pub record IsLevels (flows levels : ℕ) : Type 0 where
   pub enough : flows ≤ 2 ^ levels
   pub least : (fewer : ℕ) → flows ≤ 2 ^ fewer → levels ≤ fewer
 
--- Between two counts of comparisons no more were made than a tree over so many flows has levels.
+-- From one count of comparisons to the next none was lost, and no more came than a tree over so many flows has levels.
 pub record CountsFew (flows old new : ℕ) : Type 0 where
   pub none_lost : old ≤ new
   pub most : (levels : ℕ) → IsLevels flows levels → new ≤ old + levels

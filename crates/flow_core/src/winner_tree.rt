@@ -13,8 +13,9 @@ use std::marker::Model;
 #[derive(Debug, Drop)]
 pub(crate) struct WinnerTree {
     bytes: Vec<u64>,
-    // The winner among the flows below each inner node: 1 is the root, and 2 * n and 2 * n + 1 are the nodes below n.
-    // A flow's leaf, which is not kept, is the node of that list's length and the flow's number added.
+    // The winner among the flows below each inner node. Node 1 is the root, 2 * n and 2 * n + 1 are the nodes below
+    // node n, and place 0 is of no use. A flow's leaf takes no place: its node is the list's length and the flow's
+    // number, added.
     winners: Vec<u32>,
     levels: u32,
     comparisons: u64,
