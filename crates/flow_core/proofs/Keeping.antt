@@ -1,91 +1,78 @@
--- What the fields say of the flows as callers see them.
-use Rattle.std.proofs.Common.{◌≡◌, ℕ, ◌<◌, ◌≤◌, None, IfSome, List, [], ◌∷◌, length, drop, set, eqb, position, slice_get, All, vec_len, sym, ap, subst, ◌∙◌, arith}
-use Rattle.std.specs.List.{remove}
-use Rattle.std.proofs.lemmas.List.{set-get_or}
-use Rattle.std.proofs.lemmas.List.Elements.{All-from_get_or}
-use Rattle.std.proofs.lemmas.List.Sums.{get_or-le-sum_by}
+-- The bytes of each queue, as the tree of winners has them.
+use Rattle.std.proofs.Common.{◌≡◌, ℕ, ◌+◌, ◌*◌, ◌≤◌, Some, List, [], ◌∷◌, All, length, map, get_or, set, drop, slice_get, sum_by, refl, sym, ap, ◌∙◌, inl, inr, arith}
+use Rattle.std.proofs.Math.ListN.{get_or-map}
+use Rattle.std.proofs.lemmas.Bool.{cases_lt}
+use Rattle.std.proofs.lemmas.List.{get_or_past, length-map, map-set}
+use Rattle.std.proofs.lemmas.List.Elements.{All-from_get_or, All-get_or, All-head, All-map, All-tail}
+use Rattle.std.proofs.lemmas.List.Sums.{get_or-le-sum_by, sum_by-cons, sum_by-le}
 use Rattle.packet_core.specs.Packets.{IsLengthInRange}
 use Rattle.packet_core.specs.declared.packet.Waiting.{Waiting}
-use Rattle.flow_core.specs.declared.arrivals.Arrival.{Arrival}
-use Rattle.flow_core.specs.declared.flows.Flows.TheInside.{Inside}
-use Rattle.flow_core.specs.declared.arrivals.TheConstants.{MAX_WAITING}
-use Rattle.flow_core.specs.FlowLists.{AreListed, Holding, queue_at, waiting_in, with_queue}
-use Rattle.flow_core.specs.Arrivals.{queue_of, queues_of}
-use Rattle.flow_core.specs.Kept.{holding_of, IsKept}
-use Rattle.flow_core.proofs.Listing.{head_new_within, head_old_within}
-use Rattle.flow_core.proofs.Queueing.{All-queue, Goes, get_or-queues_of, length-queues_of, none_found, queues_of-goes, sum_by-queues_of}
+use Rattle.codel_core.specs.Queue.{bytes_of}
+use Rattle.flow_core.specs.Fattest.{IsFattest, bytes_at}
+use Rattle.flow_core.specs.Winners.{HasMostBytes}
 
--- how many flows there are
-pub count_seen : (f : Inside) (h : Holding) → holding_of f ≡ h → length h.lists.queues ≡ f.count
-count_seen f h seen = ap (λ (x : Holding). length x.lists.queues) (sym seen) ∙ length-queues_of f.arrivals.items f.count
+-- the packets have lengths in range
+abbrev pub AreInRange : List Waiting → Type 0
+AreInRange q = All (λ w. IsLengthInRange w.packet.len) q
 
--- a flow of theirs
-pub below_seen : (f : Inside) (h : Holding) (flow : ℕ) → holding_of f ≡ h → flow < length h.lists.queues → flow < f.count
-below_seen f h flow seen within = omega (arith, count_seen f h seen)
+-- the bytes of a flow
+pub bytes_seen : (queues : List (List Waiting)) (flow : ℕ) → get_or (map bytes_of queues) flow 0 ≡ bytes_at queues flow
+bytes_seen queues flow = get_or-map bytes_of queues flow []
 
--- the flows in both lists
-pub listed_seen : (f : Inside) (h : Holding) → IsKept f → holding_of f ≡ h → AreListed h.lists
-listed_seen f h kept seen =
-    subst (λ (x : Holding). AreListed x.lists) seen (record {
-      within = rw (length-queues_of f.arrivals.items f.count) kept.listed.within;
-      once = kept.listed.once;
-    })
+-- the packets of a flow
+pub in_range_at : (queues : List (List Waiting)) (flow : ℕ) → All AreInRange queues → AreInRange (get_or queues flow [])
+in_range_at queues flow ranges =
+    elim (cases_lt flow (length queues)) [
+      | inl within ↦ All-get_or AreInRange queues flow [] within ranges
+      | inr past ↦ rw (get_or_past queues flow [] past) (λ k d h. absurd (omega (arith, h)))
+    ]
 
--- the first of the new ones is a flow
-pub head_new_seen : (f : Inside) (h : Holding) → IsKept f → holding_of f ≡ h → IfSome (slice_get h.lists.new_flows 0) (λ flow. flow < length h.lists.queues)
-head_new_seen f h kept seen =
-    subst (λ (x : Holding). IfSome (slice_get x.lists.new_flows 0) (λ flow. flow < length x.lists.queues)) seen
-    (rw (length-queues_of f.arrivals.items f.count) (head_new_within f.count f.new_flows.items f.old_flows.items kept.listed))
+-- there are no more of them than in all flows
+pub few_at : (queues : List (List Waiting)) (flow : ℕ) → length (get_or queues flow []) ≤ sum_by length queues
+few_at queues flow =
+    elim (cases_lt flow (length queues)) [
+      | inl within ↦ get_or-le-sum_by length queues flow [] within
+      | inr past ↦ rw (get_or_past queues flow [] past) (omega arith)
+    ]
 
--- and the first of the old ones
-pub head_old_seen : (f : Inside) (h : Holding) → IsKept f → holding_of f ≡ h → IfSome (slice_get h.lists.old_flows 0) (λ flow. flow < length h.lists.queues)
-head_old_seen f h kept seen =
-    subst (λ (x : Holding). IfSome (slice_get x.lists.old_flows 0) (λ flow. flow < length x.lists.queues)) seen
-    (rw (length-queues_of f.arrivals.items f.count) (head_old_within f.count f.new_flows.items f.old_flows.items kept.listed))
+-- and they have few enough bytes
+pub few_bytes : (queues : List (List Waiting)) (flow : ℕ) → All AreInRange queues → bytes_at queues flow ≤ length (get_or queues flow []) * 65535
+few_bytes queues flow ranges =
+    sum_by-le (λ (w : Waiting). w.packet.len) 65535 (get_or queues flow []) (λ k d h. (in_range_at queues flow ranges k d h).1)
 
--- how many packets wait
-pub waiting_seen : (f : Inside) (h : Holding) → IsKept f → holding_of f ≡ h → waiting_in h.lists ≡ vec_len f.arrivals
-waiting_seen f h kept seen =
-    let held = sum_by-queues_of f.arrivals.items f.count kept.to_flows in
-    let same : waiting_in (holding_of f).lists ≡ vec_len f.arrivals = omega (arith, f.arrivals.ok.0) in
-    ap (λ (x : Holding). waiting_in x.lists) (sym seen) ∙ same
+-- the bytes of each queue, where one of them is another queue
+pub bytes_set : (queues : List (List Waiting)) (flow : ℕ) (queue : List Waiting) (bytes : ℕ) → bytes ≡ bytes_of queue → set (map bytes_of queues) flow bytes ≡ map bytes_of (set queues flow queue)
+bytes_set queues flow queue bytes is = ap (λ (n : ℕ). set (map bytes_of queues) flow n) is ∙ sym (map-set bytes_of queues flow queue)
 
--- few enough of them wait in a flow
-pub size_seen : (f : Inside) (h : Holding) (flow : ℕ) → IsKept f → holding_of f ≡ h → flow < length h.lists.queues → length (queue_at h.lists flow) ≤ MAX_WAITING
-size_seen f h flow kept seen within =
-    omega (arith, get_or-le-sum_by length h.lists.queues flow [] within, waiting_seen f h kept seen, kept.few)
+-- the first packet of a queue, and the bytes behind it
+pub bytes_behind : (queue : List Waiting) (w : Waiting) → Some w ≡ slice_get queue 0 → bytes_of queue ≡ bytes_of (drop 1 queue) + w.packet.len
+bytes_behind [] w head = absurd (cc)
+bytes_behind (first ∷ rest) w head =
+    let same : w ≡ first = cc in
+    let len = ap (λ (x : Waiting). x.packet.len) same in
+    omega (arith, len, sum_by-cons (λ (x : Waiting). x.packet.len) first rest)
 
--- their lengths are in range
-pub lengths_seen : (f : Inside) (h : Holding) (flow : ℕ) → IsKept f → holding_of f ≡ h → flow < length h.lists.queues → All (λ (w : Waiting). IsLengthInRange w.packet.len) (queue_at h.lists flow)
-lengths_seen f h flow kept seen within =
-    let below = below_seen f h flow seen within in
-    subst (λ (x : Holding). All (λ (w : Waiting). IsLengthInRange w.packet.len) (queue_at x.lists flow)) seen
-    (All-queue (λ (w : Waiting). IsLengthInRange w.packet.len) f.arrivals.items f.count flow below kept.lengths)
+-- no packet waits where no flow has bytes
+pub none_waits : (queues : List (List Waiting)) → All AreInRange queues → All (λ (b : ℕ). b ≡ 0) (map bytes_of queues) → sum_by length queues ≡ 0
+none_waits [] ranges none = refl
+none_waits ([] ∷ queues) ranges none =
+    omega (arith, sum_by-cons length [] queues, none_waits queues (All-tail AreInRange [] queues ranges) (All-tail (λ (b : ℕ). b ≡ 0) 0 (map bytes_of queues) none))
+none_waits ((w ∷ ws) ∷ queues) ranges none =
+    let bytes = All-head (λ (b : ℕ). b ≡ 0) (bytes_of (w ∷ ws)) (map bytes_of queues) none in
+    let range = All-head (λ (x : Waiting). IsLengthInRange x.packet.len) w ws (All-head AreInRange (w ∷ ws) queues ranges) in
+    absurd (omega (arith, bytes, range.0, sum_by-cons (λ (x : Waiting). x.packet.len) w ws))
 
--- no packet of a flow is found
-pub empty_seen : (f : Inside) (h : Holding) (flow : ℕ) → holding_of f ≡ h → flow < length h.lists.queues → position (λ (a : Arrival). eqb a.flow flow) f.arrivals.items ≡ None → queue_at h.lists flow ≡ []
-empty_seen f h flow seen within found =
-    ap (λ (x : Holding). queue_at x.lists flow) (sym seen) ∙ get_or-queues_of f.arrivals.items f.count flow (below_seen f h flow seen within) ∙ none_found f.arrivals.items flow found
+-- and no flow has bytes where no packet waits
+pub no_bytes : (queues : List (List Waiting)) → All AreInRange queues → sum_by length queues ≡ 0 → All (λ (b : ℕ). b ≡ 0) (map bytes_of queues)
+no_bytes queues ranges none =
+    All-map (λ (b : ℕ). b ≡ 0) bytes_of queues
+    (All-from_get_or (λ (q : List Waiting). bytes_of q ≡ 0) queues [] (λ i within. omega (arith, few_bytes queues i ranges, few_at queues i)))
 
--- a pull from an empty flow
-pub nothing_goes : (h : Holding) (flow : ℕ) → queue_at h.lists flow ≡ [] → h ≡ record h { lists = with_queue h.lists flow (drop 1 (queue_at h.lists flow)) }
-nothing_goes h flow empty =
-    sym (ap (λ (qs : List (List Waiting)). record h { lists = record h.lists { queues = qs } })
-    (ap (λ (q : List Waiting). set h.lists.queues flow (drop 1 q)) empty ∙ ap (λ (q : List Waiting). set h.lists.queues flow q) (sym empty) ∙ set-get_or h.lists.queues flow []))
-
--- the packet that goes is at the head of its flow's queue
-pub head_seen : (f : Inside) (h : Holding) (i : ℕ) (a : Arrival) (flow : ℕ) → holding_of f ≡ h → flow < length h.lists.queues → Goes f.arrivals.items i a flow
-    → queue_at h.lists flow ≡ a.waiting ∷ queue_of (remove f.arrivals.items i) flow
-head_seen f h i a flow seen within goes =
-    ap (λ (x : Holding). queue_at x.lists flow) (sym seen) ∙ get_or-queues_of f.arrivals.items f.count flow (below_seen f h flow seen within) ∙ goes.own
-
--- what it leaves
-pub rest_seen : (f : Inside) (h : Holding) (i : ℕ) (a : Arrival) (flow : ℕ) → holding_of f ≡ h → flow < length h.lists.queues → Goes f.arrivals.items i a flow
-    → record (holding_of f) { lists = record (holding_of f).lists { queues = queues_of (remove f.arrivals.items i) f.count } } ≡ record h { lists = with_queue h.lists flow (drop 1 (queue_at h.lists flow)) }
-rest_seen f h i a flow seen within goes =
-    ap (λ (qs : List (List Waiting)). record (holding_of f) { lists = record (holding_of f).lists { queues = qs } }) (queues_of-goes f.arrivals.items i a f.count flow (below_seen f h flow seen within) goes)
-    ∙ ap (λ (x : Holding). record x { lists = with_queue x.lists flow (drop 1 (queue_at x.lists flow)) }) seen
-
--- the lengths of all packets that wait are in range
-pub all_lengths_seen : (f : Inside) (h : Holding) → IsKept f → holding_of f ≡ h → All (All (λ (w : Waiting). IsLengthInRange w.packet.len)) h.lists.queues
-all_lengths_seen f h kept seen = All-from_get_or (All (λ (w : Waiting). IsLengthInRange w.packet.len)) h.lists.queues [] (λ flow within. lengths_seen f h flow kept seen within)
+-- the flow with the most bytes is the fattest
+pub fattest_seen : (queues : List (List Waiting)) (flow : ℕ) → HasMostBytes (map bytes_of queues) flow → IsFattest queues flow
+fattest_seen queues flow most = record {
+  within = omega (arith, most.within, length-map queues bytes_of);
+  waits = omega (arith, most.waits, bytes_seen queues flow);
+  greatest = λ other. omega (arith, most.greatest other, bytes_seen queues other, bytes_seen queues flow);
+  least = λ other below. omega (arith, most.least other below, bytes_seen queues other, bytes_seen queues flow);
+}

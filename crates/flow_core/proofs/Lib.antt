@@ -1,4 +1,8 @@
+pub mod Chained
+pub mod Chaining
+pub mod Climbing
 pub mod Keeping
+pub mod Linking
 pub mod Listing
-pub mod Queueing
-pub mod Scanning
+pub mod Winning
+pub mod WinnersKeeping

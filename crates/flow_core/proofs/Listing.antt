@@ -1,11 +1,10 @@
 -- Lists of flow numbers in which no number stands twice.
-use Rattle.std.proofs.Common.{◌≡◌, ◌≢◌, ℕ, ◌<◌, ◌≤◌, suc, Bool, false, eqb, Decides, IsTrue, ◌↔◌, IfSome, List, [], ◌∷◌, ◌++◌, length, get_or, drop, take, slice_get, Contains, refl, sym, ap, ◌∙◌, ⊎_elim, append_assoc, append-nil, length-append, arith}
-use Rattle.std.specs.List.{AllByRecursion, IsAnyAnswer, IsDistinct}
+use Rattle.std.proofs.Common.{◌≡◌, ◌≢◌, ℕ, ◌<◌, ◌≤◌, suc, false, eqb, List, [], ◌∷◌, ◌++◌, length, get_or, drop, take, Contains, sym, ◌∙◌, ⊎_elim, append_assoc, append-nil, arith}
+use Rattle.std.specs.List.{AllByRecursion, IsDistinct}
 use Rattle.std.specs.List.Sorted.{IsPermutation}
-use Rattle.std.proofs.lemmas.Bool.{cases_eq, eq-eqb, ne_eqb, eqb-true, eqb-false, false≢true}
-use Rattle.std.proofs.lemmas.Bool.Decides.{Decides-eqb}
+use Rattle.std.proofs.lemmas.Bool.{cases_eq, eq-eqb, ne_eqb, eqb-true, eqb-false}
 use Rattle.std.proofs.lemmas.List.{get_or_default}
-use Rattle.std.proofs.lemmas.List.Elements.{All-cons, All-contains, All-from_recursion, Contains-append_cases, Contains-append_right, Decides-contains, contains_decides, recursion_from_All}
+use Rattle.std.proofs.lemmas.List.Elements.{All-cons, All-contains, All-from_recursion, recursion_from_All}
 use Rattle.std.proofs.lemmas.List.Sorted.{All-permutation, IsPermutation-append_left, IsPermutation-append_right, IsPermutation-middle, IsPermutation-sym, IsPermutation-to_front}
 use Rattle.std.proofs.lemmas.Map.Keys.{IsDistinct-IsPermutation}
 use Rattle.std.proofs.lemmas.Map.Steps.{length-le_from_distinct_below}
@@ -76,11 +75,6 @@ add_new n flow new old within absent are =
     (IsPermutation-sym ((new ++ flow ∷ []) ++ old) (flow ∷ (new ++ old)) (IsPermutation-append_left old (new ++ flow ∷ []) (flow ∷ new) (IsPermutation-to_front new flow)))
     (one_more n flow (new ++ old) within absent are)
 
--- there is room for it
-pub length-add_new : (n flow : ℕ) (new old : List ℕ) → flow < n → ¬ Contains (new ++ old) flow → AreFlows n (new ++ old) → length new < n
-length-add_new n flow new old within absent are =
-    omega (arith, length-le_flows n ((new ++ flow ∷ []) ++ old) (add_new n flow new old within absent are), length-append (new ++ flow ∷ []) old, length-append new (flow ∷ []))
-
 -- the first of the new ones becomes the last of the old ones
 pub new_to_old : (n : ℕ) (new old : List ℕ) → AreFlows n (new ++ old) → AreFlows n (drop 1 new ++ (old ++ take 1 new))
 new_to_old n [] old are = rw (append-nil old) are
@@ -102,37 +96,3 @@ pub leave_old : (n : ℕ) (new old : List ℕ) → AreFlows n (new ++ old) → A
 leave_old n new [] are = are
 leave_old n new (flow ∷ old) are =
     rest_of n flow (new ++ old) (permuted n (new ++ flow ∷ old) (flow ∷ (new ++ old)) (IsPermutation-middle new flow old) are)
-
--- the first of the new ones and of the old ones
-pub head_new_within : (n : ℕ) (new old : List ℕ) → AreFlows n (new ++ old) → IfSome (slice_get new 0) (λ flow. flow < n)
-head_new_within n [] old are = tt
-head_new_within n (flow ∷ new) old are = are.within 0 0 (omega arith)
-
-pub head_old_within : (n : ℕ) (new old : List ℕ) → AreFlows n (new ++ old) → IfSome (slice_get old 0) (λ flow. flow < n)
-head_old_within n new [] are = tt
-head_old_within n new (flow ∷ old) are =
-    All-contains (λ (f : ℕ). f < n) (new ++ flow ∷ old) flow are.within (Contains-append_right new (flow ∷ old) flow (0, omega arith, refl))
-
--- the old list has room for it
-pub length-new_to_old : (n : ℕ) (new old : List ℕ) → 0 < length new → AreFlows n (new ++ old) → length old < n
-length-new_to_old n new old waits are = omega (arith, length-le_flows n (new ++ old) are, length-append new old)
-
--- what is taken off the front
-pub taken : (listed : List ℕ) (flow : ℕ) → 0 < length listed → flow ≡ get_or listed 0 flow → flow ∷ [] ≡ take 1 listed
-taken [] flow waits read = absurd (omega arith)
-taken (first ∷ rest) flow waits read = let e : flow ≡ first = read in ap (λ (f : ℕ). f ∷ []) e
-
--- whether a list has a flow, as a search of it finds
-has : (listed : List ℕ) (flow : ℕ) (found : Bool) → IsAnyAnswer (λ (other : ℕ) (b : Bool). eqb other flow ≡ b) listed found → Decides found (Contains listed flow)
-has listed flow found answer = Decides-contains listed flow found (contains_decides eqb Decides-eqb listed flow found answer)
-
--- whether a flow is in one of the lists, where it isn't among the new ones
-pub has_old : (new old : List ℕ) (flow : ℕ) (found : Bool) → IsAnyAnswer (λ (other : ℕ) (b : Bool). eqb other flow ≡ b) new false → IsAnyAnswer (λ (other : ℕ) (b : Bool). eqb other flow ≡ b) old found
-    → IsTrue found ↔ Contains (new ++ old) flow
-has_old new old flow found among_new among_old = (
-  λ t. Contains-append_right new old flow ((has old flow found among_old).0 t),
-  λ h. ⊎_elim
-      (λ (in_new : Contains new flow). absurd (false≢true ((has new flow false among_new).1 in_new)))
-      (λ (in_old : Contains old flow). (has old flow found among_old).1 in_old)
-      (Contains-append_cases new old flow h),
-)

@@ -1,6 +1,13 @@
-pub mod Arrivals
+pub mod Chains
 pub mod Fattest
 pub mod FlowLists
 pub mod Kept
+pub mod Links
 pub mod Listed
+pub mod ListedFlows
+pub mod NewAndOld
 pub mod Pulling
+pub mod Queues
+pub mod WinnerNodes
+pub mod Winners
+pub mod WinnersKept

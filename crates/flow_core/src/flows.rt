@@ -3,8 +3,10 @@ ghost use Rattle.packet_core.specs.Packets.{IsLengthInRange};
 ghost use Rattle.flow_core.specs.Fattest.{IsFattest, bytes_at};
 ghost use Rattle.flow_core.specs.FlowLists.{AreListed, no_flows, queue_at, waiting_in, with_queue};
 
-use crate::arrivals::{Arrival, MAX_WAITING, bytes_of, first_of, len_of};
+use crate::chains::{Chains, MAX_WAITING};
 use crate::line::Line;
+use crate::listed_flows::ListedFlows;
+use crate::winner_tree::WinnerTree;
 use packet_core::Waiting;
 use std::alloc::{AllocError, Global};
 use std::marker::Model;
@@ -17,14 +19,13 @@ pub const MAX_FLOWS: u32 = 65_536;
 
 /// The queues of all flows, the list of new flows and the list of old flows (RFC 8290, sections 4 and 5). A
 /// flow is called by its number, from 0. Room for pushes is taken ahead, so that only `try_new` and `reserve`
-/// take memory.
+/// take memory. What a call costs doesn't grow with the packets that wait, and a push and a pop walk one path of
+/// a tree over the flows.
 #[derive(Debug, Drop)]
 pub struct Flows {
-    arrivals: Vec<Arrival>,
-    new_flows: Vec<u32>,
-    old_flows: Vec<u32>,
-    count: u32,
-    room: u64,
+    chains: Chains,
+    listed: ListedFlows,
+    winners: WinnerTree,
 }
 
 impl Model for Flows {
@@ -48,11 +49,9 @@ impl Flows {
         ensures { IfOk result (λ f. f.lists ≡ no_flows flows) }
     {
         Ok(Flows {
-            arrivals: Vec::new(alloc),
-            new_flows: Vec::with_capacity(alloc, flows as usize)?,
-            old_flows: Vec::with_capacity(alloc, flows as usize)?,
-            count: flows,
-            room: 0,
+            chains: Chains::try_new(alloc, flows)?,
+            listed: ListedFlows::try_new(alloc, flows)?,
+            winners: WinnerTree::try_new(alloc, flows)?,
         })
     }
 
@@ -66,11 +65,7 @@ impl Flows {
         ensures err { OnErr result (self.new ≡ self.old) }
         ensures missing { OnErr result (self.old.room < pushes) }
     {
-        self.arrivals.reserve(pushes as usize)?;
-        if self.room < pushes {
-            self.room = pushes;
-        }
-        Ok(())
+        self.chains.reserve(pushes)
     }
 
     /// A packet comes to the end of a flow's queue. It takes one of the room, and no memory.
@@ -81,10 +76,9 @@ impl Flows {
         ensures lists { self.new.lists ≡ with_queue self.old.lists flow (queue_at self.old.lists flow ++ waiting ∷ []) }
         ensures room { self.new.room + 1 ≡ self.old.room }
     {
-        // Its length is in range: seen here once, for the sums of all later calls.
-        let _ = waiting.packet.len();
-        self.room -= 1;
-        self.arrivals.push_reserved(Arrival { flow, waiting });
+        let bytes = u64::from(waiting.packet.len());
+        self.chains.push(flow, waiting);
+        self.winners.add(flow, bytes);
     }
 
     /// Takes the packet at the head of a flow's queue. None where the flow is empty.
@@ -93,8 +87,9 @@ impl Flows {
         ensures head { result ≡ slice_get (queue_at self.old.lists flow) 0 }
         ensures rest { self.new ≡ record self.old { lists = with_queue self.old.lists flow (drop 1 (queue_at self.old.lists flow)) } }
     {
-        let place = first_of(&self.arrivals, flow)?;
-        Some(self.arrivals.remove(place).waiting)
+        let waiting = self.chains.pop(flow)?;
+        self.winners.take(flow, u64::from(waiting.packet.len()));
+        Some(waiting)
     }
 
     /// The lengths of the packets that wait in a flow, added up, in bytes.
@@ -103,7 +98,7 @@ impl Flows {
         ensures value { result ≡ bytes_at self.now.lists.queues flow }
         ensures lengths { All (λ w. IsLengthInRange w.packet.len) (queue_at self.now.lists flow) }
     {
-        bytes_of(&self.arrivals, flow)
+        self.winners.bytes(flow)
     }
 
     /// How many packets wait in a flow.
@@ -112,7 +107,7 @@ impl Flows {
         ensures value { result ≡ length (queue_at self.now.lists flow) }
         ensures size { result ≤ MAX_WAITING }
     {
-        len_of(&self.arrivals, flow)
+        self.chains.len(flow)
     }
 
     /// How many packets wait, in all flows together.
@@ -120,7 +115,7 @@ impl Flows {
         ensures value { result ≡ waiting_in self.now.lists }
         ensures size { result ≤ MAX_WAITING }
     {
-        self.arrivals.len() as u64
+        self.chains.total_len()
     }
 
     /// The flow with the most bytes, and of those that have as many the one of the least number. None where no
@@ -129,16 +124,7 @@ impl Flows {
         ensures none { IsNone result ↔ (waiting_in self.now.lists ≡ 0) }
         ensures fattest { IfSome result (IsFattest self.now.lists.queues) }
     {
-        let mut most = 0;
-        let mut fattest = None;
-        for flow in 0..self.flows() {
-            let bytes = self.bytes(flow);
-            if most < bytes {
-                most = bytes;
-                fattest = Some(flow);
-            }
-        }
-        fattest
+        self.winners.winner()
     }
 
     /// How many flows there are, from 1 to 65,536.
@@ -150,7 +136,7 @@ impl Flows {
         ensures few_listed { length self.now.lists.new_flows + length self.now.lists.old_flows ≤ result }
         ensures lengths { All (All (λ w. IsLengthInRange w.packet.len)) self.now.lists.queues }
     {
-        self.count
+        self.listed.flows()
     }
 
     /// The flow at the head of the list of new flows. None where that list is empty.
@@ -159,7 +145,7 @@ impl Flows {
         ensures within { IfSome result (λ flow. flow < length self.now.lists.queues) }
         ensures listed { AreListed self.now.lists }
     {
-        self.new_flows.first().copied()
+        self.listed.head_new()
     }
 
     /// The flow at the head of the list of old flows. None where that list is empty.
@@ -168,7 +154,7 @@ impl Flows {
         ensures within { IfSome result (λ flow. flow < length self.now.lists.queues) }
         ensures listed { AreListed self.now.lists }
     {
-        self.old_flows.first().copied()
+        self.listed.head_old()
     }
 
     /// Whether a flow is in one of the lists.
@@ -176,7 +162,7 @@ impl Flows {
         ensures value { IsTrue result ↔ Contains (self.now.lists.new_flows ++ self.now.lists.old_flows) flow }
         ensures listed { AreListed self.now.lists }
     {
-        self.new_flows.contains(&flow) || self.old_flows.contains(&flow)
+        self.listed.listed(flow)
     }
 
     /// A flow that is in no list comes to the end of the list of new flows (RFC 8290, section 4.1). It takes no
@@ -186,7 +172,7 @@ impl Flows {
         requires absent { ¬ Contains (self.old.lists.new_flows ++ self.old.lists.old_flows) flow }
         ensures { self.new ≡ record self.old { lists = record self.old.lists { new_flows = self.old.lists.new_flows ++ flow ∷ [] } } }
     {
-        self.new_flows.push_reserved(flow);
+        self.listed.add_new(flow);
     }
 
     /// The first of the new flows becomes the last of the old ones (RFC 8290, section 4.2). It takes no memory.
@@ -194,8 +180,7 @@ impl Flows {
         requires { 0 < length self.old.lists.new_flows }
         ensures { self.new ≡ record self.old { lists = record self.old.lists { new_flows = drop 1 self.old.lists.new_flows; old_flows = self.old.lists.old_flows ++ take 1 self.old.lists.new_flows } } }
     {
-        let flow = self.new_flows.remove(0);
-        self.old_flows.push_reserved(flow);
+        self.listed.new_to_old();
     }
 
     /// The first of the old flows becomes the last of them (RFC 8290, section 4.2). It takes no memory.
@@ -203,8 +188,7 @@ impl Flows {
         requires { 0 < length self.old.lists.old_flows }
         ensures { self.new ≡ record self.old { lists = record self.old.lists { old_flows = drop 1 self.old.lists.old_flows ++ take 1 self.old.lists.old_flows } } }
     {
-        let first = self.old_flows.remove(0);
-        self.old_flows.push_reserved(first);
+        self.listed.rotate_old();
     }
 
     /// The first of the old flows leaves the list (RFC 8290, section 4.2). It takes no memory.
@@ -212,7 +196,7 @@ impl Flows {
         requires { 0 < length self.old.lists.old_flows }
         ensures { self.new ≡ record self.old { lists = record self.old.lists { old_flows = drop 1 self.old.lists.old_flows } } }
     {
-        let _ = self.old_flows.remove(0);
+        self.listed.leave_old();
     }
 
     /// A flow's queue as a line that CoDel pulls from. Once it is let go, the flow's queue is what the pulls
@@ -225,7 +209,7 @@ impl Flows {
         ensures size { length (queue_at self.old.lists flow) ≤ MAX_WAITING }
     {
         // So few packets wait in a flow as in all of them.
-        let _ = &self.arrivals;
+        let _ = &self.chains;
         Line { flows: self, flow }
     }
 }

@@ -1,17 +1,27 @@
 //! The queues of all flows, the list of new flows and the list of old flows (RFC 8290, sections 4 and 5).
 //!
-//! The body is the plain first one: one list of all waiting packets in order of arrival, two lists of flow
-//! numbers, and a scan for the fattest flow.
+//! All packets that wait stand in one slab, chained flow by flow (`chains`). Both lists are chains through one
+//! table with a link for each flow (`listed_flows`). A tree of winners over the flows' byte counts has the fattest
+//! flow at its root (`winner_tree`). So a call costs the same whatever waits, and a packet that comes or goes costs
+//! one path of that tree besides.
 #![tactic(auto)]
 
-mod arrivals;
+#[cfg(test)]
+mod chain_tests;
+mod chains;
 mod flows;
 mod line;
+mod listed_flows;
+#[cfg(test)]
+mod listed_tests;
 #[cfg(test)]
 mod serving;
 #[cfg(test)]
 mod tests;
+#[cfg(test)]
+mod winner_tests;
+mod winner_tree;
 
-pub use arrivals::MAX_WAITING;
+pub use chains::MAX_WAITING;
 pub use flows::{Flows, MAX_FLOWS, Memory};
 pub use line::Line;

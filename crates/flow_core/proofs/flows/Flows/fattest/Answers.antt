@@ -1,17 +1,21 @@
-use Rattle.std.proofs.Common.{◌≡◌, length, arith}
-use Rattle.flow_core.proofs.Scanning.{Scanned, none_waits, scanned_all}
+use Rattle.std.proofs.Common.{ℕ, map}
+use Rattle.std.proofs.lemmas.Option.{IfSome_then}
+use Rattle.codel_core.specs.Queue.{bytes_of}
+use Rattle.flow_core.specs.Winners.{HasMostBytes}
+use Rattle.flow_core.proofs.Keeping.{fattest_seen, no_bytes, none_waits}
 use Rattle.flow_core.proofs.flows.Flows.fattest.Goals as goal
 
 pub returns-clause-none : goal.returns-clause-none
 returns-clause-none c =
-    let h = c.args.self.now in
-    let all : c.loop-flow.flow ≡ length h.lists.queues = omega (arith, c.flows-flow-end.ensures.value) in
-    let scanned : Scanned h.lists.queues (length h.lists.queues) c.loop-flow.most c.loop-flow.fattest = rw (← all) c.loop-flow.invariant in
-    none_waits h.lists.queues c.loop-flow.most c.loop-flow.fattest c.flows-flow-end.ensures.lengths scanned
+    let kept = c.self.invariant in
+    let none = rw kept.bytes at c.winner.ensures.none in
+    rw (← c.self.view_is) (
+      λ is. none_waits c.self.inside.chains.queues kept.lengths (none.0 is),
+      λ empty. none.1 (no_bytes c.self.inside.chains.queues kept.lengths empty),
+    )
 
 pub returns-clause-fattest : goal.returns-clause-fattest
 returns-clause-fattest c =
-    let h = c.args.self.now in
-    let all : c.loop-flow.flow ≡ length h.lists.queues = omega (arith, c.flows-flow-end.ensures.value) in
-    let scanned : Scanned h.lists.queues (length h.lists.queues) c.loop-flow.most c.loop-flow.fattest = rw (← all) c.loop-flow.invariant in
-    scanned_all h.lists.queues c.loop-flow.most c.loop-flow.fattest scanned
+    let kept = c.self.invariant in
+    let winner = rw kept.bytes at c.winner.ensures.winner in
+    rw (← c.self.view_is) (IfSome_then c.winner.result winner (λ (flow : ℕ) (most : HasMostBytes (map bytes_of c.self.inside.chains.queues) flow). fattest_seen c.self.inside.chains.queues flow most))

@@ -1,31 +1,29 @@
-use Rattle.std.proofs.Common.{◌≡◌, eqb, position, Some, None, refl, rules}
-use Rattle.flow_core.specs.declared.arrivals.Arrival.{Arrival}
-use Rattle.flow_core.proofs.Keeping.{empty_seen, head_seen, nothing_goes, rest_seen}
-use Rattle.flow_core.proofs.Queueing.{found_goes}
+use Rattle.std.proofs.Common.{◌≡◌, ◌-◌, Some, [], length, get_or, map, drop, slice_get, sym, ◌∙◌, arith}
+use Rattle.std.proofs.lemmas.List.{length-drop, length-set}
+use Rattle.std.proofs.lemmas.List.Elements.{All-drop, All-set}
+use Rattle.std.proofs.lemmas.List.Sums.{sum_by-set}
+use Rattle.packet_core.specs.Packets.{IsLengthInRange}
+use Rattle.packet_core.specs.declared.packet.Waiting.{Waiting}
+use Rattle.codel_core.specs.Queue.{bytes_of}
+use Rattle.flow_core.proofs.Keeping.{AreInRange, bytes_behind, bytes_seen, bytes_set, in_range_at}
 use Rattle.flow_core.proofs.flows.Flows.pop.Goals as goal
 
-pub returns-in_err-place-clause-head : goal.returns-in_err-place-clause-head
-returns-in_err-place-clause-head c =
-    let f = c.self.inside in
-    let found : position (λ (a : Arrival). eqb a.flow c.args.flow) f.arrivals.items ≡ None = search rules in
-    rw (c.from_residual.ensures, empty_seen f c.args.self.now c.args.flow c.self.view_is c.requires found) refl
-
-pub returns-in_err-place-clause-rest : goal.returns-in_err-place-clause-rest
-returns-in_err-place-clause-rest c =
-    let f = c.self.inside in
-    let found : position (λ (a : Arrival). eqb a.flow c.args.flow) f.arrivals.items ≡ None = search rules in
-    nothing_goes c.args.self.now c.args.flow (empty_seen f c.args.self.now c.args.flow c.self.view_is c.requires found)
-
-pub returns-clause-head : goal.returns-clause-head
-returns-clause-head c =
-    let f = c.self.inside in
-    let found : position (λ (a : Arrival). eqb a.flow c.args.flow) f.arrivals.items ≡ Some c.in_ok-place.place = search rules in
-    let goes = found_goes f.arrivals.items c.in_ok-place.place c.remove.result c.args.flow found c.remove.ensures.value in
-    rw (head_seen f c.args.self.now c.in_ok-place.place c.remove.result c.args.flow c.self.view_is c.requires goes) refl
-
-pub returns-clause-rest : goal.returns-clause-rest
-returns-clause-rest c =
-    let f = c.self.inside in
-    let found : position (λ (a : Arrival). eqb a.flow c.args.flow) f.arrivals.items ≡ Some c.in_ok-place.place = search rules in
-    let goes = found_goes f.arrivals.items c.in_ok-place.place c.remove.result c.args.flow found c.remove.ensures.value in
-    rw c.remove.ensures.items (rest_seen f c.args.self.now c.in_ok-place.place c.remove.result c.args.flow c.self.view_is c.requires goes)
+pub invariant_of-self-2 : goal.invariant_of-self-2
+invariant_of-self-2 c =
+    let kept = c.self.invariant in
+    let queues = c.self.inside.chains.queues in
+    let flow = c.args.flow in
+    let queue = get_or queues flow [] in
+    let within = rw (← c.self.view_is) at c.requires in
+    let head : Some c.in_ok-waiting.waiting ≡ slice_get queue 0 = sym c.in_ok-waiting.was ∙ c.pop.ensures.head in
+    let count = length-set queues flow (drop 1 queue) in
+    let bytes : get_or (map bytes_of queues) flow 0 - c.from.result ≡ bytes_of (drop 1 queue) =
+    omega (arith, bytes_seen queues flow, bytes_behind queue c.in_ok-waiting.waiting head, c.from.ensures, c.len.ensures.value) in
+    rw c.pop.ensures.rest (record {
+      least = omega (arith, kept.least, count);
+      most = omega (arith, kept.most, count);
+      flows = kept.flows ∙ sym count;
+      bytes = rw (c.take.ensures.bytes, kept.bytes) (bytes_set queues flow (drop 1 queue) _ bytes);
+      lengths = All-set AreInRange queues flow (drop 1 queue) (All-drop (λ (x : Waiting). IsLengthInRange x.packet.len) 1 queue (in_range_at queues flow kept.lengths)) kept.lengths;
+      few = omega (arith, sum_by-set length queues flow (drop 1 queue) [] within, length-drop 1 queue, kept.few);
+    })

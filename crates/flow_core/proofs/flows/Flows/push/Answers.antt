@@ -1,37 +1,37 @@
-use Rattle.std.proofs.Common.{◌<◌, List, arith, ap}
-use Rattle.std.proofs.lemmas.List.Elements.{All-push}
+use Rattle.std.proofs.Common.{◌≡◌, ◌+◌, [], ◌∷◌, ◌++◌, length, get_or, map, sym, ◌∙◌, arith}
+use Rattle.std.proofs.lemmas.List.{length-append, length-set}
+use Rattle.std.proofs.lemmas.List.Elements.{All-push, All-set}
+use Rattle.std.proofs.lemmas.List.Sums.{sum_by-set, sum_by_push}
 use Rattle.packet_core.specs.Packets.{IsLengthInRange}
 use Rattle.packet_core.specs.declared.packet.Waiting.{Waiting}
-use Rattle.flow_core.specs.declared.arrivals.Arrival.{Arrival}
-use Rattle.flow_core.specs.FlowLists.{FlowLists}
-use Rattle.flow_core.proofs.Keeping.{below_seen, waiting_seen}
-use Rattle.flow_core.proofs.Queueing.{queues_of-push}
+use Rattle.codel_core.specs.Queue.{bytes_of}
+use Rattle.flow_core.proofs.Keeping.{AreInRange, bytes_seen, bytes_set, few_at, few_bytes, in_range_at}
 use Rattle.flow_core.proofs.flows.Flows.push.Goals as goal
+
+pub add-requires-clause-fits : goal.add-requires-clause-fits
+add-requires-clause-fits c =
+    let kept = c.self.invariant in
+    let queues = c.self.inside.chains.queues in
+    rw (kept.bytes, bytes_seen queues c.args.flow) (omega (arith, few_bytes queues c.args.flow kept.lengths, few_at queues c.args.flow, kept.few, c.from-bytes.ensures, c.len.ensures.value, c.len.ensures.range))
 
 pub invariant_of-self : goal.invariant_of-self
 invariant_of-self c =
-    let f = c.self.inside in
     let kept = c.self.invariant in
-    let a : Arrival = record { flow = c.args.flow; waiting = c.args.waiting } in
-    let below = below_seen f c.args.self.now c.args.flow c.self.view_is c.requires.flow in
-    let in_range : IsLengthInRange c.args.waiting.packet.len = rw c.len.ensures.value at c.len.ensures.range in
-    let room = rw (← c.self.view_is) at c.requires.room in
-    record {
-      least = kept.least;
-      most = kept.most;
-      to_flows = rw c.push_reserved.ensures.items (All-push (λ (b : Arrival). b.flow < f.count) f.arrivals.items a kept.to_flows below);
-      lengths = rw c.push_reserved.ensures.items (All-push (λ (b : Arrival). IsLengthInRange b.waiting.packet.len) f.arrivals.items a kept.lengths in_range);
-      few = omega (arith, c.push_reserved.ensures.len, waiting_seen f c.args.self.now kept c.self.view_is, c.requires.size);
-      room = omega (arith, c.push_reserved.ensures.len, c.push_reserved.ensures.capacity, kept.room, room);
-      listed = kept.listed;
-      new_room = kept.new_room;
-      old_room = kept.old_room;
-    }
-
-pub returns-clause-lists : goal.returns-clause-lists
-returns-clause-lists c =
-    let f = c.self.inside in
-    let a : Arrival = record { flow = c.args.flow; waiting = c.args.waiting } in
-    let below = below_seen f c.args.self.now c.args.flow c.self.view_is c.requires.flow in
-    rw (c.push_reserved.ensures.items, ← c.self.view_is)
-    (ap (λ (qs : List (List Waiting)). let l : FlowLists = record { queues = qs; new_flows = f.new_flows.items; old_flows = f.old_flows.items } in l) (queues_of-push f.arrivals.items a f.count below))
+    let queues = c.self.inside.chains.queues in
+    let flow = c.args.flow in
+    let w = c.args.waiting in
+    let queue = get_or queues flow [] in
+    let range : IsLengthInRange w.packet.len = rw c.len.ensures.value at c.len.ensures.range in
+    let within = rw (← c.self.view_is) at c.requires.flow in
+    let size = rw (← c.self.view_is) at c.requires.size in
+    let count = length-set queues flow (queue ++ w ∷ []) in
+    let bytes : get_or (map bytes_of queues) flow 0 + c.from-bytes.result ≡ bytes_of (queue ++ w ∷ []) =
+    omega (arith, bytes_seen queues flow, c.from-bytes.ensures, c.len.ensures.value, sum_by_push (λ (x : Waiting). x.packet.len) queue w) in
+    rw c.push.ensures.queues (record {
+      least = omega (arith, kept.least, count);
+      most = omega (arith, kept.most, count);
+      flows = kept.flows ∙ sym count;
+      bytes = rw (c.add.ensures.bytes, kept.bytes) (bytes_set queues flow (queue ++ w ∷ []) _ bytes);
+      lengths = All-set AreInRange queues flow (queue ++ w ∷ []) (All-push (λ (x : Waiting). IsLengthInRange x.packet.len) queue w (in_range_at queues flow kept.lengths) range) kept.lengths;
+      few = omega (arith, sum_by-set length queues flow (queue ++ w ∷ []) [] within, length-append queue (w ∷ []), size);
+    })

@@ -1,0 +1,31 @@
+use Rattle.std.proofs.Common.{◌≡◌, ℕ, ◌≤◌, ◌∙◌, [], replicate, vec_len, rules, arith}
+use Rattle.flow_core.proofs.Climbing.{most_leaves, shifted}
+use Rattle.flow_core.proofs.Winning.{no_bytes, same_winners}
+use Rattle.flow_core.proofs.winner_tree.WinnerTree.try_new.Goals as goal
+
+pub overflow_shl-levels : goal.overflow_shl-levels
+overflow_shl-levels c = let small : c.levels_over-levels.result ≤ 16 = c.levels_over-levels.ensures.least 16 (omega arith) in omega arith
+
+pub first_winners-requires-clause-doubled : goal.first_winners-requires-clause-doubled
+first_winners-requires-clause-doubled c =
+    let small : c.levels_over-levels.result ≤ 16 = c.levels_over-levels.ensures.least 16 (omega arith) in
+    record { exponent = c.levels_over-levels.result; power = shifted c.levels_over-levels.result small }
+
+pub first_winners-requires-clause-most : goal.first_winners-requires-clause-most
+first_winners-requires-clause-most c =
+    let small : c.levels_over-levels.result ≤ 16 = c.levels_over-levels.ensures.least 16 (omega arith) in
+    rw (shifted c.levels_over-levels.result small) (most_leaves c.levels_over-levels.result small)
+
+pub invariant_of-result : goal.invariant_of-result
+invariant_of-result c =
+    let none : c.in_ok-vec.field-0.items ≡ replicate {A = ℕ} c.args.flows 0 = search rules in
+    let flows : vec_len c.in_ok-vec.field-0 ≡ c.args.flows = search rules in
+    let made = c.in_ok-first_winners.ensures {u = tt} in
+    let small : c.levels_over-levels.result ≤ 16 = c.levels_over-levels.ensures.least 16 (omega arith) in
+    record {
+      least = omega arith;
+      most = omega arith;
+      levels = rw flows c.levels_over-levels.ensures;
+      leaves = made.leaves ∙ shifted c.levels_over-levels.result small;
+      winners = rw none (same_winners [] (replicate {A = ℕ} c.args.flows 0) c.in_ok-first_winners.field-0.items (no_bytes c.args.flows) made.winners);
+    }

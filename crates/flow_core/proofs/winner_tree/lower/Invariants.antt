@@ -1,0 +1,8 @@
+use Rattle.flow_core.proofs.Winning.{Climbs}
+use Rattle.flow_core.proofs.winner_tree.lower.Given as goal
+
+abbrev pub invariant-loop-node : goal.invariant-loop-node
+invariant-loop-node l = Climbs l.bytes l.fn.winners l.winners l.flow l.node l.fn.comparisons l.comparisons
+
+abbrev pub decreases-loop-node : goal.decreases-loop-node
+decreases-loop-node l = l.node

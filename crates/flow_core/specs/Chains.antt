@@ -1,0 +1,89 @@
+-- How one slab and the ends of each flow's chain give the queues, and what they keep.
+use Rattle.std.specs.Prelude.{◌≡◌, ◌⊎◌, ℕ, zero, suc, ◌≤◌, List, [], ◌∷◌, ◌++◌, All, Option, Some, None, get_or, length, map, sum_by, vec_len}
+use Rattle.slab.specs.Slab.{Slab, HasRoomFor, get, slab_len}
+use Rattle.packet_core.specs.declared.packet.Waiting.{Waiting}
+use Rattle.flow_core.specs.declared.chains.TheConstants.{MAX_WAITING}
+use Rattle.flow_core.specs.declared.chains.Chain.{Chain}
+use Rattle.flow_core.specs.declared.chains.Chains.TheInside.{Inside}
+use Rattle.flow_core.specs.declared.chains.Link.{Link}
+use Rattle.flow_core.specs.declared.flows.TheConstants.{MAX_FLOWS}
+use Rattle.flow_core.specs.Queues.{Queues}
+
+-- the packet of a slot, and the key of the one behind it
+abbrev pub packet_of : Option Link → List Waiting
+packet_of None = []
+packet_of (Some link) = link.waiting ∷ []
+
+abbrev pub next_of : Option Link → Option ℕ
+next_of None = None
+next_of (Some link) = link.next
+
+-- the packets from that key on, each behind the one before it, so many at most
+abbrev pub packets_from : Slab Link → ℕ → Option ℕ → List Waiting
+packets_from slots zero next = []
+packets_from slots (suc n) None = []
+packets_from slots (suc n) (Some key) = packet_of (get slots key) ++ packets_from slots n (next_of (get slots key))
+
+-- the packets of a flow
+abbrev pub packets_of : Slab Link → Option Chain → List Waiting
+packets_of slots None = []
+packets_of slots (Some chain) = packets_from slots chain.len (Some chain.first)
+
+-- the queues as callers see them
+abbrev pub queues_of : Inside → Queues
+queues_of c = record {
+  queues = map (packets_of c.slots) c.chains.items;
+  room = c.room;
+}
+
+-- a packet and the key of its slot
+pub record Placed : Type 0 where
+  pub key : ℕ
+  pub waiting : Waiting
+
+-- the key of the first one
+abbrev pub first_key : List Placed → Option ℕ
+first_key [] = None
+first_key (placed ∷ rest) = Some placed.key
+
+-- the key of the last one, where one is the first and the others are behind it
+abbrev pub last_key : Placed → List Placed → ℕ
+last_key placed [] = placed.key
+last_key placed (next ∷ rest) = last_key next rest
+
+-- the ends of a flow that has these packets
+abbrev pub ends_of : List Placed → Option Chain
+ends_of [] = None
+ends_of (placed ∷ rest) = Some (record { first = placed.key; last = last_key placed rest; len = length (placed ∷ rest) })
+
+-- each one's slot has it, with the key of the one behind it
+abbrev pub AreLinked : Slab Link → List Placed → Type 0
+AreLinked slots [] = Unit {0}
+AreLinked slots (placed ∷ rest) =
+    (get slots placed.key ≡ Some (record { waiting = placed.waiting; next = first_key rest })) × AreLinked slots rest
+
+-- one of them stands in that slot
+abbrev pub HasKey : List Placed → ℕ → Type 0
+HasKey [] key = ⊥
+HasKey (placed ∷ rest) key = (placed.key ≡ key) ⊎ HasKey rest key
+
+-- no two of them stand in one slot
+abbrev pub AreApart : List Placed → Type 0
+AreApart [] = Unit {0}
+AreApart (placed ∷ rest) = (¬ HasKey rest placed.key) × AreApart rest
+
+-- The packets of each flow stand in slots of their own, linked from the first to the last, and nothing else stands in the slab.
+pub record AreChainsOf (slots : Slab Link) (chains : List (Option Chain)) : Type 0 where
+  pub placed : List (List Placed)
+  pub ends : chains ≡ map ends_of placed
+  pub linked : All (AreLinked slots) placed
+  pub once : All AreApart placed
+  pub apart : (flow other key : ℕ) → HasKey (get_or placed flow []) key → HasKey (get_or placed other []) key → flow ≡ other
+  pub counted : slab_len slots ≡ sum_by length placed
+
+-- The same with few enough flows and packets, and with memory for the next pushes.
+pub record AreChained (c : Inside) : Type 0 where
+  pub chains : AreChainsOf c.slots c.chains.items
+  pub flows : vec_len c.chains ≤ MAX_FLOWS
+  pub few : slab_len c.slots ≤ MAX_WAITING
+  pub room : HasRoomFor c.slots c.room

@@ -1,0 +1,265 @@
+//! The bytes that wait in each flow, and the flow that has the most, in a tree of winners. A change of one flow's
+//! bytes is a walk from its leaf towards the root, and the winner of all flows is read at the root.
+ghost use Rattle.std.specs.Prelude.{◌≡◌, ℕ, [], ◌+◌, ◌-◌, ◌*◌, ◌%◌, ◌^◌, ◌<◌, ◌≤◌, ◌↔◌, All, IfOk, IfSome, IsNone, length, min, replicate, slice_index, slice_set, vec_len};
+ghost use Rattle.flow_core.specs.Winners.{CountsFew, HasMostBytes, IsLevels};
+ghost use Rattle.flow_core.specs.WinnerNodes.{AreWinners, HasFallen, HasGrown, HasLeaves, IsPowerOfTwo};
+
+use crate::flows::{MAX_FLOWS, Memory};
+use std::alloc::Global;
+use std::marker::Model;
+
+/// The bytes of each flow, and the flow with the most bytes (RFC 8290, section 4.1: packets are dropped from it
+/// at overload). All memory is taken by `try_new`.
+#[derive(Debug, Drop)]
+pub(crate) struct WinnerTree {
+    bytes: Vec<u64>,
+    // The winner among the flows below each inner node. Node 1 is the root, 2 * n and 2 * n + 1 are the nodes below
+    // node n, and place 0 is of no use. A flow's leaf takes no place: its node is the list's length and the flow's
+    // number, added.
+    winners: Vec<u32>,
+    levels: u32,
+    comparisons: u64,
+}
+
+impl Model for WinnerTree {
+    ghost use Rattle.flow_core.specs.Winners.{ByteCounts};
+
+    ghost Value = { ByteCounts };
+
+    ghost use Rattle.flow_core.specs.WinnersKept.{counts_of, IsKept};
+
+    ghost view = { counts_of };
+
+    ghost invariant = { IsKept };
+}
+
+impl WinnerTree {
+    /// That many flows, from 1 to 65,536, with no bytes.
+    pub(crate) fn try_new(alloc: Global, flows: u32) -> Result<WinnerTree, Memory>
+        requires least { 1 ≤ flows }
+        requires most { flows ≤ MAX_FLOWS }
+        ensures { IfOk result (λ t. t ≡ record { bytes = replicate flows 0; comparisons = 0 }) }
+    {
+        let levels = levels_over(flows);
+        Ok(WinnerTree {
+            bytes: vec![in alloc; 0; flows as usize]?,
+            winners: first_winners(alloc, 1 << levels)?,
+            levels,
+            comparisons: 0,
+        })
+    }
+
+    /// Bytes come to a flow.
+    pub(crate) fn add(&mut self, flow: u32, bytes: u64)
+        requires flow { flow < length self.old.bytes }
+        requires fits { slice_index self.old.bytes flow + bytes < 2 ^ 64 }
+        ensures bytes { self.new.bytes ≡ slice_set self.old.bytes flow (slice_index self.old.bytes flow + bytes) }
+        ensures few_comparisons { CountsFew (length self.old.bytes) self.old.comparisons self.new.comparisons }
+        ensures compares { 2 ≤ length self.old.bytes → min (self.old.comparisons + 1) u64.MAX ≤ self.new.comparisons }
+    {
+        self.bytes[flow as usize] += bytes;
+        raise(&self.bytes, &mut self.winners, &mut self.comparisons, flow);
+    }
+
+    /// Bytes leave a flow.
+    pub(crate) fn take(&mut self, flow: u32, bytes: u64)
+        requires flow { flow < length self.old.bytes }
+        requires there { bytes ≤ slice_index self.old.bytes flow }
+        ensures bytes { self.new.bytes ≡ slice_set self.old.bytes flow (slice_index self.old.bytes flow - bytes) }
+        ensures few_comparisons { CountsFew (length self.old.bytes) self.old.comparisons self.new.comparisons }
+    {
+        self.bytes[flow as usize] -= bytes;
+        lower(&self.bytes, &mut self.winners, &mut self.comparisons, flow);
+    }
+
+    /// How many flows there are, from 1 to 65,536.
+    pub(crate) fn flows(&self) -> u32
+        ensures value { result ≡ length self.now.bytes }
+        ensures least { 1 ≤ result }
+        ensures most { result ≤ MAX_FLOWS }
+    {
+        self.bytes.len() as u32
+    }
+
+    /// The bytes of a flow.
+    pub(crate) fn bytes(&self, flow: u32) -> u64
+        requires { flow < length self.now.bytes }
+        ensures { result ≡ slice_index self.now.bytes flow }
+    {
+        self.bytes[flow as usize]
+    }
+
+    /// The flow with the most bytes, and of those that have as many the one of the least number. None where no
+    /// flow has any. It compares nothing.
+    pub(crate) fn winner(&self) -> Option<u32>
+        ensures none { IsNone result ↔ All (λ b. b ≡ 0) self.now.bytes }
+        ensures winner { IfSome result (HasMostBytes self.now.bytes) }
+    {
+        // The one flow of a tree with no inner node is flow 0.
+        let root = self.winners.get(1).copied().unwrap_or(0);
+        if self.bytes[root as usize] > 0 {
+            Some(root)
+        } else {
+            None
+        }
+    }
+
+    /// The levels of the tree above its leaves: 0 for one flow, 10 for 1,024, 16 for 65,536.
+    pub(crate) fn levels(&self) -> u32
+        ensures { IsLevels (length self.now.bytes) result }
+    {
+        self.levels
+    }
+
+    /// How often two counts of bytes were compared since `clear_comparisons`, or since `try_new` before its first
+    /// call. At `u64::MAX` it stays there.
+    pub(crate) fn comparisons(&self) -> u64
+        ensures { result ≡ self.now.comparisons }
+    {
+        self.comparisons
+    }
+
+    /// No comparison has been made.
+    pub(crate) fn clear_comparisons(&mut self)
+        ensures { self.new ≡ record self.old { comparisons = 0 } }
+    {
+        self.comparisons = 0;
+    }
+}
+
+// The least number of doublings of one leaf that gives each flow a leaf.
+fn levels_over(flows: u32) -> u32
+    requires least { 1 ≤ flows }
+    requires most { flows ≤ MAX_FLOWS }
+    ensures { IsLevels flows result }
+{
+    let mut levels = 0;
+    let mut leaves = 1;
+    while leaves < flows {
+        leaves *= 2;
+        levels += 1;
+    }
+    levels
+}
+
+// The winners in a tree of so many leaves, where no flow has bytes.
+fn first_winners(alloc: Global, leaves: usize) -> Result<Vec<u32>, Memory>
+    requires doubled { IsPowerOfTwo leaves }
+    requires most { leaves ≤ MAX_FLOWS }
+    ensures leaves { IfOk result (λ w. vec_len w ≡ leaves) }
+    ensures winners { IfOk result (λ w. AreWinners [] w.items) }
+{
+    let mut winners = vec![in alloc; 0; leaves]?;
+    let mut node = leaves;
+    while node > 1 {
+        node -= 1;
+        winners[node] = left_winner(&winners, node);
+    }
+    Ok(winners)
+}
+
+// The winner at the left one of the nodes below an inner node.
+fn left_winner(winners: &[u32], node: usize) -> u32
+    requires node { node < length winners.now }
+    requires most { length winners.now ≤ MAX_FLOWS }
+    ensures inner { 2 * node < length winners.now → result ≡ slice_index winners.now (2 * node) }
+    ensures leaf { length winners.now ≤ 2 * node → result + length winners.now ≡ 2 * node }
+{
+    let left = 2 * node;
+    if left < winners.len() {
+        winners[left]
+    } else {
+        (left - winners.len()) as u32
+    }
+}
+
+// The bytes of a flow, 0 for a leaf that has none.
+fn bytes_of(bytes: &[u64], flow: u32) -> u64
+    ensures { result ≡ slice_index bytes.now flow }
+{
+    bytes.get(flow as usize).copied().unwrap_or(0)
+}
+
+// Which of two flows has more bytes: where they have as many, the left one, whose number is less. Each comparison of
+// two counts is made here, and counted.
+fn better(bytes: &[u64], comparisons: &mut u64, left: u32, right: u32) -> u32
+    ensures right { slice_index bytes.now left < slice_index bytes.now right → result ≡ right }
+    ensures left { slice_index bytes.now right ≤ slice_index bytes.now left → result ≡ left }
+    ensures counted { comparisons.new ≡ min (comparisons.old + 1) u64.MAX }
+    ensures none_lost { comparisons.old ≤ comparisons.new }
+{
+    *comparisons = comparisons.saturating_add(1);
+    if bytes_of(bytes, left) < bytes_of(bytes, right) {
+        right
+    } else {
+        left
+    }
+}
+
+// The better one of a flow and the flow beside it, below the same node.
+fn better_of_pair(bytes: &[u64], comparisons: &mut u64, flow: u32) -> u32
+    requires { flow + 1 < 2 ^ 32 }
+    ensures right { let left = flow - flow % 2 in slice_index bytes.now left < slice_index bytes.now (left + 1) → result ≡ left + 1 }
+    ensures left { let left = flow - flow % 2 in slice_index bytes.now (left + 1) ≤ slice_index bytes.now left → result ≡ left }
+    ensures counted { comparisons.new ≡ min (comparisons.old + 1) u64.MAX }
+    ensures none_lost { comparisons.old ≤ comparisons.new }
+{
+    let left = flow - flow % 2;
+    better(bytes, comparisons, left, left + 1)
+}
+
+// A flow's count grew: it wins at each node above its leaf, up to the first where another flow still does.
+fn raise(bytes: &[u64], winners: &mut [u32], comparisons: &mut u64, flow: u32)
+    requires flow { flow < length bytes.now }
+    requires leaves { HasLeaves (length bytes.now) (length winners.old) }
+    requires grown { HasGrown bytes.now winners.old flow }
+    ensures winners { AreWinners bytes.now winners.new }
+    ensures none_lost { comparisons.old ≤ comparisons.new }
+    ensures few { (levels : ℕ) → length winners.old ≡ 2 ^ levels → comparisons.new ≤ comparisons.old + levels }
+    ensures compares { 2 ≤ length winners.old → min (comparisons.old + 1) u64.MAX ≤ comparisons.new }
+{
+    let mut node = (winners.len() + flow as usize) / 2;
+    // One flow has no node above its leaf.
+    if node == 0 {
+        return;
+    }
+    let pair = better_of_pair(bytes, comparisons, flow);
+    // Another flow still wins here, or this one won at the root already: no node changes.
+    if pair != flow || winners[1] == flow {
+        return;
+    }
+    winners[node] = flow;
+    while node > 1 {
+        node /= 2;
+        // Where it won already it still does, with nothing to compare.
+        if winners[node] != flow {
+            if better(bytes, comparisons, winners[2 * node], winners[2 * node + 1]) != flow {
+                return;
+            }
+            winners[node] = flow;
+        }
+    }
+}
+
+// A flow's count fell: each node above its leaf gets its winner anew, up to the first where another flow won.
+fn lower(bytes: &[u64], winners: &mut [u32], comparisons: &mut u64, flow: u32)
+    requires flow { flow < length bytes.now }
+    requires leaves { HasLeaves (length bytes.now) (length winners.old) }
+    requires fallen { HasFallen bytes.now winners.old flow }
+    ensures winners { AreWinners bytes.now winners.new }
+    ensures none_lost { comparisons.old ≤ comparisons.new }
+    ensures few { (levels : ℕ) → length winners.old ≡ 2 ^ levels → comparisons.new ≤ comparisons.old + levels }
+{
+    let mut node = (winners.len() + flow as usize) / 2;
+    if node == 0 || winners[node] != flow {
+        return;
+    }
+    winners[node] = better_of_pair(bytes, comparisons, flow);
+    while node > 1 {
+        node /= 2;
+        if winners[node] != flow {
+            return;
+        }
+        winners[node] = better(bytes, comparisons, winners[2 * node], winners[2 * node + 1]);
+    }
+}
