@@ -8,16 +8,10 @@ use trace_core::run;
 /// The most flows that there may be.
 const FLOWS: u32 = 65_536;
 
-/// How many packets come, each to a flow of its own. Today a step takes longer the more packets wait.
-const PACKETS: u32 = 4_096;
-
-/// How far the flows of two packets in turn are apart.
-const APART: u32 = FLOWS / PACKETS;
-
 /// The length of a packet, and that of all packets, in bytes.
 const LENGTH: u32 = 100;
 
-const BYTES: u32 = PACKETS * LENGTH;
+const BYTES: u32 = FLOWS * LENGTH;
 
 /// The greatest limit and the greatest number of flows.
 fn greatest() -> ParamFields {
@@ -27,14 +21,13 @@ fn greatest() -> ParamFields {
     fields
 }
 
-/// The packets, the last one for the last flow, then a dequeue for each packet, and one more.
+/// A packet for each flow, then a dequeue for each packet, and one more.
 fn trace_of_flows(alloc: Global) -> Result<String, AllocError> {
     let mut trace = String::new(alloc);
-    for id in 0..PACKETS {
-        let dport = id * APART + (APART - 1);
+    for dport in 0..FLOWS {
         writeln!(trace, "enq,0,17,10.0.0.1,10.0.0.2,5000,{dport},{LENGTH},0")?;
     }
-    for _ in 0..=PACKETS {
+    for _ in 0..=FLOWS {
         trace.push_str("deq,1\n")?;
     }
     Ok(trace)
@@ -43,20 +36,18 @@ fn trace_of_flows(alloc: Global) -> Result<String, AllocError> {
 /// What the run of that trace gives: the packets are sent in the order in which they came.
 fn report_of_flows(alloc: Global) -> Result<String, AllocError> {
     let mut report = String::new(alloc);
-    for id in 0..PACKETS {
-        let flow = id * APART + (APART - 1);
-        writeln!(report, "accepted,{id},{flow}")?;
+    for id in 0..FLOWS {
+        writeln!(report, "accepted,{id},{id}")?;
     }
-    for id in 0..PACKETS {
+    for id in 0..FLOWS {
         writeln!(report, "sent,{id},0")?;
     }
     writeln!(report, "idle")?;
     writeln!(
         report,
-        "totals,{PACKETS},{BYTES},{PACKETS},{BYTES},0,0,0,0,0,0,open"
+        "totals,{FLOWS},{BYTES},{FLOWS},{BYTES},0,0,0,0,0,0,open"
     )?;
-    for id in 0..PACKETS {
-        let flow = id * APART + (APART - 1);
+    for flow in 0..FLOWS {
         writeln!(
             report,
             "tuple,17,10.0.0.1,10.0.0.2,5000,{flow},{flow},1,1,0,0"
