@@ -1,5 +1,5 @@
 -- What stands behind a subcommand.
-use Rattle.std.proofs.Common.{◌≡◌, List, Option, Some, None, option_map, rules, refl, sym}
+use Rattle.std.proofs.Common.{◌≡◌, List, Option, Some, None, option_map, rules}
 use Rattle.clap.specs.Words.{Row, Text}
 use Rattle.fqsim.specs.CommandLine.{rows_of_entered}
 

@@ -21,7 +21,8 @@ Exit status:
      was written to standard output";
 
 /// What the subcommand does, in a line.
-pub const TRACE_SUMMARY: &str = "Read a trace from standard input, write the report to standard output";
+pub const TRACE_SUMMARY: &str =
+    "Read a trace from standard input, write the report to standard output";
 
 /// What the subcommand does.
 pub const TRACE_DESCRIPTION: &str = "\

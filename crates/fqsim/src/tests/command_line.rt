@@ -18,11 +18,7 @@ fn expect_idle(rt: &(impl Abort + AllocGlobal), words: &[&str]) -> Result<(), Fa
 }
 
 /// Runs the program with these words on a trace that is wrong, too, and compares what is told of the words.
-fn expect_told(
-    rt: &(impl Abort + AllocGlobal),
-    words: &[&str],
-    faults: &str,
-) -> Result<(), Fail> {
+fn expect_told(rt: &(impl Abort + AllocGlobal), words: &[&str], faults: &str) -> Result<(), Fail> {
     expect_from(rt, words, &mut "foo\n".as_bytes(), 2, "", faults)
 }
 
@@ -150,7 +146,10 @@ fn wrong_parameters_refused(rt: HostRuntime) -> Result<(), Fail> {
         ("rate 5", "fqsim: parameter word 1: UnknownWord\n"),
         ("target", "fqsim: parameter word 1: MissingValue\n"),
         ("target 5.0ms", "fqsim: parameter word 2: NotANumber\n"),
-        ("ecn limit 1 locked", "fqsim: parameter word 4: UnknownWord\n"),
+        (
+            "ecn limit 1 locked",
+            "fqsim: parameter word 4: UnknownWord\n",
+        ),
         ("classify port", "fqsim: parameter word 2: UnknownWord\n"),
         ("", "fqsim: parameter word 1: UnknownWord\n"),
     ] {

@@ -93,13 +93,7 @@ fn failed_writes_of_help_refused(rt: HostRuntime) -> Result<(), Fail> {
     let mut told = Vec::new(rt.alloc());
     let mut trace = "deq,0\n".as_bytes();
     let mut room = &mut taken[..];
-    let ended = program(
-        rt.alloc(),
-        &["--help"],
-        &mut trace,
-        &mut room,
-        &mut told,
-    );
+    let ended = program(rt.alloc(), &["--help"], &mut trace, &mut room, &mut told);
     assert_eq!(rt; str::from_utf8(&told)?, "fqsim: write\n");
     assert_eq!(rt; str::from_utf8(&taken)?, "Run a");
     assert_eq!(rt; ended, 1);

@@ -1,8 +1,8 @@
-use Rattle.std.proofs.Common.{rules, ap, sym, refl, subst, codes, map, option_map, unwrap_or, true, is_some, ◌≡◌, ◌∙◌, List, [], ℕ}
+use Rattle.std.proofs.Common.{rules, ap, sym, subst, codes, map, option_map, unwrap_or, is_some, ◌≡◌, ◌∙◌, List, []}
 use Rattle.std.proofs.lemmas.Result.{IfErr-weaker, IfOk-weaker}
 use Rattle.clap.specs.Words.{App, Text, all_of, app_of, fault_of, first_of, is_simple, is_simple_and_free, subcommand_of}
 use Rattle.clap.specs.Simple.{built}
-use Rattle.fqsim.specs.CommandLine.{parameter_words, program_line, rows_behind, rows_of_entered, seed_text, trace_rows}
+use Rattle.fqsim.specs.CommandLine.{parameter_words, rows_behind, rows_of_entered, seed_text, trace_rows}
 use Rattle.fqsim.specs.declared.command_line.TraceRequest.{TraceRequest}
 use Rattle.fqsim.proofs.Lines.{help_asked_of, line_is_free, line_is_simple, line_needs_subcommand, memory_is_no_mistake, mistake_made_in, rows_there, subcommand_is_there}
 use Rattle.fqsim.proofs.command_line.parse.Goals as goal
@@ -32,7 +32,7 @@ returns-in_ok-trace_request-in-Ok-clause-seed c trace same =
     let line = c.in_ok-command.ensures in
     let entered = (c.in-Ok.ensures.matches (ap is_simple line ∙ line_is_simple)).1 in
     let rows : rows_behind c.in-Ok.matches ≡ trace_rows words =
-        ap rows_of_entered entered ∙ ap (λ (l : App). rows_of_entered (subcommand_of l words)) line in
+    ap rows_of_entered entered ∙ ap (λ (l : App). rows_of_entered (subcommand_of l words)) line in
     let this : c.in_ok-trace_request-in-Ok.field-0 ≡ trace = search (rules, same) in
     subst (λ (t : TraceRequest). option_map (λ s. s.now) t.seed ≡ seed_text words) this
     (c.in_ok-trace_request-in-Ok.ensures.seed ∙ ap (first_of (codes "seed")) rows)
@@ -43,7 +43,7 @@ returns-in_ok-trace_request-in-Ok-clause-parameters c trace same =
     let line = c.in_ok-command.ensures in
     let entered = (c.in-Ok.ensures.matches (ap is_simple line ∙ line_is_simple)).1 in
     let rows : rows_behind c.in-Ok.matches ≡ trace_rows words =
-        ap rows_of_entered entered ∙ ap (λ (l : App). rows_of_entered (subcommand_of l words)) line in
+    ap rows_of_entered entered ∙ ap (λ (l : App). rows_of_entered (subcommand_of l words)) line in
     let this : c.in_ok-trace_request-in-Ok.field-0 ≡ trace = search (rules, same) in
     subst (λ (t : TraceRequest). map (λ w. w.now) t.parameters.items ≡ parameter_words words) this
     (c.in_ok-trace_request-in-Ok.ensures.parameters ∙ ap (λ found. unwrap_or (all_of (codes "PARAM") found) []) rows)

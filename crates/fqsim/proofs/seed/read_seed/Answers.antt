@@ -1,7 +1,6 @@
-use Rattle.std.proofs.Common.{◌≡◌, ◌<◌, ◌≤◌, ◌*◌, ◌+◌, ◌∙◌, option_map, length, Some, None, rules, arith, ap, sym}
+use Rattle.std.proofs.Common.{◌≡◌, ◌<◌, ◌≤◌, ◌*◌, ◌+◌, length, rules, arith, sym}
 use Rattle.std.proofs.Math.ListN.{get_or}
 use Rattle.std.specs.Char.{digit_value}
-use Rattle.fqsim.specs.Seeds.{seed_of}
 use Rattle.fqsim.proofs.Digits.{goes_on, pair_without_high, pair_without_low, read_whole, refused_at}
 use Rattle.fqsim.proofs.seed.read_seed.Goals as goal
 
