@@ -53,8 +53,9 @@ from left to right, and of a parameter given twice the last one holds.
 
   Words                 Range                  Default
   limit PACKETS         1 to 1048576 packets   10240 packets
-                        More waiting packets than this in all: the flow with the
-                        most bytes loses half of its packets, 64 at most.
+                        Where more packets wait than this, in all flows, the
+                        flow with the most bytes loses half of its packets, at
+                        least 1 and at most 64.
   flows NUMBER          1 to 65536             1024
                         The flows that packets are sorted into.
   quantum BYTES         1 to 1000000 bytes     1514 bytes
@@ -72,9 +73,9 @@ from left to right, and of a parameter given twice the last one holds.
                         Whether packets of senders that take part in ECN are
                         marked in place of being dropped by CoDel.
   classify hash|dport                          hash
-                        How a packet's flow is found: from a hash of seed and
-                        five-tuple, or from the destination port, each modulo
-                        the number of flows.
+                        How a packet's flow is found: from a SHA-256 hash of
+                        seed and five-tuple, or from the destination port, each
+                        modulo the number of flows.
 
 A TIME is a whole number and its unit: us, usec, usecs, ms, msec, msecs, s, sec
 or secs; without a unit, microseconds. Other numbers have no unit.
@@ -125,7 +126,7 @@ Exit status:
   0  The report or the help was written.
   1  The machine failed. On standard error stands 'fqsim: row ROW: Read',
      'fqsim: row ROW: Memory', 'fqsim: memory' or 'fqsim: write'. After a failed
-     write standard output has the front of the report, else nothing.
+     write standard output has the front of the text, else nothing.
   2  Something is wrong that was given, and nothing was written to standard
      output. On standard error stands a text on the command line, 'fqsim: seed',
      'fqsim: parameter word PLACE: NAME' (places count the parameter words from
