@@ -1,1 +1,4 @@
-pub mod Setup
+pub mod CommandLine
+pub mod Faults
+pub mod Runs
+pub mod Seeds

@@ -2,8 +2,10 @@
 //! standard output.
 #![tactic(auto)]
 
+mod command_line;
+mod manual;
 mod program;
-mod setup;
+mod seed;
 #[cfg(test)]
 mod tests;
 
@@ -14,7 +16,7 @@ use std::process::ExitCode;
 fn main(rt: HostRuntime) -> ExitCode {
     let status = match with_arguments(&rt) {
         Ok(status) => status,
-        Err(fault) => tell(&mut rt.stderr(), fault),
+        Err(fault) => tell(&mut rt.stderr(), &fault),
     };
     ExitCode::from(status)
 }

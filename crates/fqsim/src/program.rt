@@ -1,57 +1,75 @@
-ghost use Rattle.std.specs.Prelude.{◌≡◌, ◌≢◌, ◌≤◌, ◌↔◌, ◌⊎◌, ℕ, List, IfErr, IfSome, OnOk};
+ghost use Rattle.std.specs.Prelude.{◌≡◌, ◌≢◌, ◌≤◌, ◌↔◌, ℕ, Err, IfErr, IfOk, IsErr, IsErrOf, None, OnOk, Some, map, option_map, take};
+ghost use Rattle.std.specs.Result.{IsOkUnless};
 ghost use Rattle.std.specs.Io.KnownBytes.{Appends, Keeps};
-ghost use Rattle.trace_core.specs.Report.{IsReportOf};
-ghost use Rattle.trace_core.specs.declared.trace_run.RunFault.TheVariants as run_fault;
-ghost use Rattle.fqsim.specs.Setup.{one_flow};
+ghost use Rattle.packet_core.specs.Words.{params_of_words};
+ghost use Rattle.fqsim.specs.Faults.{IsFaultOn, IsRunFault, command_fault_told, run_fault_told, status_of, trace_status};
+ghost use Rattle.fqsim.specs.Runs.{Answers, IsRunFor};
+ghost use Rattle.fqsim.specs.Seeds.{seed_given};
+ghost use Rattle.fqsim.specs.declared.program.ProgramFault.{ProgramFault};
 ghost use Rattle.fqsim.specs.declared.program.ProgramFault.TheVariants as program_fault;
 
-use crate::setup::{ZERO_SEED, one_flow};
+use crate::command_line::{CommandFault, Request, parse};
+use crate::seed::{ZERO_SEED, read_seed};
+use packet_core::{ParamFault, Seed, read_params};
 use std::alloc::{AllocError, AllocFailed, Global};
 use std::io::{self, ErrorKind, Read, Write};
 use thiserror::Error;
 use trace_core::{RunFault, TraceFault, TraceFaultKind, run};
 
-/// The status of a run that went well.
+/// The status of a run that went well, and that of help.
 const SUCCESS: u8 = 0;
 
 /// The status where the machine failed: memory, a read or a write.
 const MACHINE_FAULT: u8 = 1;
 
-/// The status where the words or the trace are wrong.
+/// The status where something is wrong that was given: the words or the trace.
 const INPUT_FAULT: u8 = 2;
 
 /// Why the program failed.
-#[derive(Clone, Copy, Debug, PartialEq, Eq, Error)]
+#[derive(Debug, Drop, Error)]
 pub enum ProgramFault {
-    /// The words aren't those that the program takes.
-    #[error("words")]
-    Words,
-    /// The run failed.
+    /// The words aren't those of a command line. The text says what is wrong, in whole lines.
     #[error("{0}")]
-    Run(RunFault),
+    CommandLine(String),
+    /// A word isn't UTF-8.
+    #[error("a word isn't UTF-8")]
+    NotUtf8,
+    /// The seed isn't 32 hexadecimal digits.
+    #[error("seed")]
+    Seed,
+    /// A parameter word is wrong.
+    #[error("{0}")]
+    Params(ParamFault),
+    /// The trace wasn't read.
+    #[error("{0}")]
+    Trace(TraceFault),
+    /// A growth was refused, beside those of the reading of a trace.
+    #[error("memory")]
+    Memory,
+    /// A write failed or took nothing. What was written is the front of the report or of the help.
+    #[error("write")]
+    Write,
 }
 
 impl ProgramFault {
-    /// The status that the program ends with: 2 for wrong words or a wrong trace, and else 1.
-    pub fn status(self) -> u8
-        ensures range { (1 ≤ result) × (result ≤ 2) }
-        ensures words { self ≡ program_fault.Words → result ≡ 2 }
-        ensures trace { (fault : TraceFault) → self ≡ program_fault.Run (run_fault.Trace fault) → (result ≡ 1 ↔ (fault.what ≡ TraceFaultKind.Read) ⊎ (fault.what ≡ TraceFaultKind.Memory)) }
-        ensures memory { self ≡ program_fault.Run run_fault.Memory → result ≡ 1 }
-        ensures write { self ≡ program_fault.Run run_fault.Write → result ≡ 1 }
+    /// The status that the program ends with: 1 where the machine failed, and 2 where what was given is wrong.
+    pub fn status(&self) -> u8
+        ensures { result ≡ status_of self.now }
     {
         match self {
-            ProgramFault::Words => INPUT_FAULT,
-            ProgramFault::Run(RunFault::Trace(fault)) => trace_status(fault),
-            ProgramFault::Run(RunFault::Memory | RunFault::Write) => MACHINE_FAULT,
+            ProgramFault::CommandLine(_)
+            | ProgramFault::NotUtf8
+            | ProgramFault::Seed
+            | ProgramFault::Params(_) => INPUT_FAULT,
+            ProgramFault::Trace(fault) => trace_status(fault),
+            ProgramFault::Memory | ProgramFault::Write => MACHINE_FAULT,
         }
     }
 }
 
 /// The status that goes with a fault of the trace.
-fn trace_status(fault: TraceFault) -> u8
-    ensures range { (1 ≤ result) × (result ≤ 2) }
-    ensures machine { result ≡ 1 ↔ (fault.what ≡ TraceFaultKind.Read) ⊎ (fault.what ≡ TraceFaultKind.Memory) }
+fn trace_status(fault: &TraceFault) -> u8
+    ensures { result ≡ trace_status fault.now.what }
 {
     match fault.what {
         TraceFaultKind::Read | TraceFaultKind::Memory => MACHINE_FAULT,
@@ -59,39 +77,66 @@ fn trace_status(fault: TraceFault) -> u8
     }
 }
 
-impl From<RunFault> for ProgramFault {
-    ghost from_gives = { λ fault e. e ≡ program_fault.Run fault };
+impl From<CommandFault> for ProgramFault {
+    ghost from_gives = { λ fault e. e ≡ command_fault_told fault };
 
-    fn from(fault: RunFault) -> ProgramFault {
-        ProgramFault::Run(fault)
-    }
-}
-
-impl From<AllocError> for ProgramFault {
-    fn from(_: AllocError) -> ProgramFault {
-        ProgramFault::Run(RunFault::Memory)
-    }
-}
-
-impl<T: Drop> From<AllocFailed<T>> for ProgramFault {
-    fn from(_: AllocFailed<T>) -> ProgramFault {
-        ProgramFault::Run(RunFault::Memory)
-    }
-}
-
-/// What is wrong where the words can't be had: one that is no text is none that the program takes.
-impl From<io::Error> for ProgramFault {
-    fn from(error: io::Error) -> ProgramFault {
-        match error.kind() {
-            ErrorKind::OutOfMemory => ProgramFault::Run(RunFault::Memory),
-            _ => ProgramFault::Words,
+    fn from(fault: CommandFault) -> ProgramFault {
+        match fault {
+            CommandFault::Mistake(text) => ProgramFault::CommandLine(text),
+            CommandFault::Memory => ProgramFault::Memory,
         }
     }
 }
 
-/// The whole program over the words behind its name. It reads a trace, writes the report of the run of FQ-CoDel
-/// with the standard parameters and one flow, and tells a fault in one line on `faults`. It answers the status that
-/// the program ends with.
+impl From<ParamFault> for ProgramFault {
+    ghost from_gives = { λ fault e. e ≡ program_fault.Params fault };
+
+    fn from(fault: ParamFault) -> ProgramFault {
+        ProgramFault::Params(fault)
+    }
+}
+
+impl From<RunFault> for ProgramFault {
+    ghost from_gives = { λ fault e. e ≡ run_fault_told fault };
+
+    fn from(fault: RunFault) -> ProgramFault {
+        match fault {
+            RunFault::Trace(fault) => ProgramFault::Trace(fault),
+            RunFault::Memory => ProgramFault::Memory,
+            RunFault::Write => ProgramFault::Write,
+        }
+    }
+}
+
+impl From<AllocError> for ProgramFault {
+    ghost from_gives = { λ _ e. e ≡ program_fault.Memory };
+
+    fn from(_: AllocError) -> ProgramFault {
+        ProgramFault::Memory
+    }
+}
+
+impl<T: Drop> From<AllocFailed<T>> for ProgramFault {
+    ghost from_gives = { λ _ e. e ≡ program_fault.Memory };
+
+    fn from(_: AllocFailed<T>) -> ProgramFault {
+        ProgramFault::Memory
+    }
+}
+
+/// Why the words can't be had.
+impl From<io::Error> for ProgramFault {
+    fn from(error: io::Error) -> ProgramFault {
+        match error.kind() {
+            ErrorKind::OutOfMemory => ProgramFault::Memory,
+            _ => ProgramFault::NotUtf8,
+        }
+    }
+}
+
+/// The whole program over the words behind its name. It reads a trace and writes the report of its run, or writes
+/// help where the words ask for that, and tells a fault on `faults`. It answers the status that the program ends
+/// with.
 pub fn program<R: Read, W: Write, F: Write>(
     alloc: Global,
     words: &[&str],
@@ -99,47 +144,92 @@ pub fn program<R: Read, W: Write, F: Write>(
     writer: &mut W,
     faults: &mut F,
 ) -> u8
-    // With the status 0 the writer holds what it held, and then the report of the input.
-    ensures report { result ≡ 0 → IfSome (R.remaining reader.old) (λ bytes. (text : List ℕ) × IsReportOf one_flow ZERO_SEED bytes text × Appends (W.contents writer.old) (W.contents writer.new) text) }
+    // With the status 0 the writer holds what it held, and then the report of the input with the seed and the
+    // parameters of the words, where these are those of a run. Else they ask for help, and a text is written.
+    ensures answer { result ≡ 0 → Answers (map (λ w. w.now) words.now) (R.remaining reader.old) (W.contents writer.old) (W.contents writer.new) }
 
-    // With the status 2, that of wrong words or a wrong trace, nothing was written.
+    // Any other status is that of a fault that these words and this input have.
+    ensures fault { (result ≢ 0) → (fault : ProgramFault) × IsFaultOn (map (λ w. w.now) words.now) (R.remaining reader.old) fault × (result ≡ status_of fault) }
+
+    // With the status 2, where something that was given is wrong, nothing was written.
     ensures input_fault { result ≡ 2 → Keeps (W.contents writer.old) (W.contents writer.new) }
     ensures range { result ≤ 2 }
 {
-    match simulate(alloc, words, reader, writer) {
+    match answer(alloc, words, reader, writer) {
         Ok(()) => SUCCESS,
-        Err(fault) => tell(faults, fault),
+        Err(fault) => tell(faults, &fault),
     }
 }
 
-/// Runs the trace where the words are those that the program takes.
-fn simulate<R: Read, W: Write>(
+/// Does what the words ask for.
+fn answer<R: Read, W: Write>(
     alloc: Global,
     words: &[&str],
     reader: &mut R,
     writer: &mut W,
 ) -> Result<(), ProgramFault>
-    ensures report { OnOk result (IfSome (R.remaining reader.old) (λ bytes. (text : List ℕ) × IsReportOf one_flow ZERO_SEED bytes text × Appends (W.contents writer.old) (W.contents writer.new) text)) }
-    ensures untouched { IfErr result (λ fault. (fault ≢ program_fault.Run run_fault.Write) → Keeps (W.contents writer.old) (W.contents writer.new)) }
+    ensures answer { OnOk result (Answers (map (λ w. w.now) words.now) (R.remaining reader.old) (W.contents writer.old) (W.contents writer.new)) }
+    ensures fault { IfErr result (λ fault. IsFaultOn (map (λ w. w.now) words.now) (R.remaining reader.old) fault) }
+    ensures untouched { IfErr result (λ fault. (fault ≢ program_fault.Write) → Keeps (W.contents writer.old) (W.contents writer.new)) }
 {
-    match words {
-        ["trace", "classify", "dport", "flows", "1"] => Ok(run(
-            alloc,
-            one_flow(),
-            ZERO_SEED,
-            reader,
-            writer,
-        )?),
-        _ => Err(ProgramFault::Words),
+    match parse(alloc, words)? {
+        Request::Trace(trace) => simulate(alloc, trace.seed, &trace.parameters, reader, writer),
+        Request::Help(text) => show(writer, text.as_str()),
     }
 }
 
-/// Writes the line of a fault, and answers its status. Where the line can't be written there is nowhere left to
-/// say so, and it is passed over.
-pub fn tell<F: Write>(faults: &mut F, fault: ProgramFault) -> u8
-    ensures range { (1 ≤ result) × (result ≤ 2) }
-    ensures write { fault ≡ program_fault.Run run_fault.Write → result ≡ 1 }
+/// Writes the text of help.
+fn show<W: Write>(writer: &mut W, text: &str) -> Result<(), ProgramFault>
+    ensures whole { OnOk result (Appends (W.contents writer.old) (W.contents writer.new) text.now) }
+    ensures fault { IsOkUnless result program_fault.Write }
 {
-    let _ = writeln!(faults, "fqsim: {fault}");
+    match writer.write_all(text.as_bytes()) {
+        Ok(()) => Ok(()),
+        Err(_) => Err(ProgramFault::Write),
+    }
+}
+
+/// Reads a trace, makes its run with the seed of that text and the parameters of those words, and writes the report.
+/// The seed is read first, then the parameters, then the trace.
+fn simulate<R: Read, W: Write>(
+    alloc: Global,
+    seed: Option<&str>,
+    parameters: &[&str],
+    reader: &mut R,
+    writer: &mut W,
+) -> Result<(), ProgramFault>
+    ensures report { OnOk result (IsRunFor (option_map (λ s. s.now) seed.entry) (map (λ w. w.now) parameters.now) (R.remaining reader.old) (λ text. Appends (W.contents writer.old) (W.contents writer.new) text)) }
+    ensures seed { IsErrOf result program_fault.Seed ↔ (seed_given (option_map (λ s. s.now) seed.entry) ≡ None) }
+    ensures params { (fault : ParamFault) → IsErrOf result (program_fault.Params fault) ↔ (seed_given (option_map (λ s. s.now) seed.entry) ≢ None) × (params_of_words (map (λ w. w.now) parameters.now) ≡ Err fault) }
+    ensures fault { IfErr result (λ fault. IsRunFault (option_map (λ s. s.now) seed.entry) (map (λ w. w.now) parameters.now) (R.remaining reader.old) fault) }
+    ensures front { result ≡ Err program_fault.Write → IsRunFor (option_map (λ s. s.now) seed.entry) (map (λ w. w.now) parameters.now) (R.remaining reader.old) (λ text. (count : ℕ) × Appends (W.contents writer.old) (W.contents writer.new) (take count text)) }
+    ensures untouched { IfErr result (λ fault. (fault ≢ program_fault.Write) → Keeps (W.contents writer.old) (W.contents writer.new)) }
+{
+    let seed = seed_given(seed)?;
+    let params = read_params(parameters)?;
+    Ok(run(alloc, params, seed, reader, writer)?)
+}
+
+/// The seed of a text, and the standard one where there is none.
+fn seed_given(text: Option<&str>) -> Result<Seed, ProgramFault>
+    ensures ok { IfOk result (λ seed. seed_given (option_map (λ s. s.now) text.entry) ≡ Some seed.0) }
+    ensures err { IsErr result → seed_given (option_map (λ s. s.now) text.entry) ≡ None }
+    ensures fault { IsOkUnless result program_fault.Seed }
+{
+    match text {
+        Some(text) => read_seed(text).ok_or(ProgramFault::Seed),
+        None => Ok(ZERO_SEED),
+    }
+}
+
+/// Tells a fault, and answers its status. Where it can't be written there is nowhere left to say so, and it is passed
+/// over.
+pub fn tell<F: Write>(faults: &mut F, fault: &ProgramFault) -> u8
+    ensures { result ≡ status_of fault.now }
+{
+    let _ = match fault {
+        ProgramFault::CommandLine(text) => write!(faults, "{text}"),
+        _ => writeln!(faults, "fqsim: {fault}"),
+    };
     fault.status()
 }

@@ -1,4 +1,6 @@
 mod codel;
+mod command_line;
+mod help;
 mod many_flows;
 mod overflows;
 mod queue_runs;
@@ -13,16 +15,24 @@ mod tuple_rows;
 mod turn_runs;
 mod turns;
 mod verdicts;
-mod words;
 
 use crate::program::program;
+use packet_core::{Params, read_params};
 use std::io::Read;
 use std::process::Abort;
 use std::str;
 use std::test::Fail;
 
-/// The words that the program takes.
+/// The words of a run with one flow and otherwise the standard parameters.
 const WORDS: [&str; 5] = ["trace", "classify", "dport", "flows", "1"];
+
+/// The parameters of those words.
+fn one_flow() -> Result<Params, Fail> {
+    match read_params(&WORDS[1..]) {
+        Ok(params) => Ok(params),
+        Err(_) => Err(Fail::from("the words of one flow")),
+    }
+}
 
 /// Runs the program on a trace that comes from a reader, and compares what it writes and how it ends.
 fn expect_from<R: Read>(

@@ -1,4 +1,5 @@
-use crate::setup::{ZERO_SEED, one_flow};
+use super::one_flow;
+use crate::seed::ZERO_SEED;
 use packet_core::{Ecn, FiveTuple, Ip, Packet};
 use sched_core::{Answer, Refusal, Step, run_steps};
 use std::test::Fail;
@@ -34,7 +35,7 @@ fn run_steps_gives_own_events(rt: HostRuntime) -> Result<(), Fail> {
         Step::Dequeue { moment: 3 },
         Step::Close { moment: 4 },
     ];
-    let ran = run_steps(rt.alloc(), one_flow(), ZERO_SEED, &steps)?;
+    let ran = run_steps(rt.alloc(), one_flow()?, ZERO_SEED, &steps)?;
     let expected = [
         (Answer::Accepted, 0, 1),
         (Answer::Closed, 1, 2),

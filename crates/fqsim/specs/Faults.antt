@@ -1,0 +1,65 @@
+-- Why the program fails, and what status it ends with then.
+use Rattle.std.specs.Prelude.{◌≡◌, ◌≢◌, ℕ, List, IfSome, IsOk, Option, None, Err, ⊤}
+use Rattle.packet_core.specs.Words.{params_of_words}
+use Rattle.trace_core.specs.Traces.{IsFaultOf}
+use Rattle.trace_core.specs.declared.reader.TraceFaultKind.{TraceFaultKind}
+use Rattle.trace_core.specs.declared.reader.TraceFaultKind.TheVariants as trace_fault
+use Rattle.trace_core.specs.declared.trace_run.RunFault.{RunFault}
+use Rattle.trace_core.specs.declared.trace_run.RunFault.TheVariants as run_fault
+use Rattle.fqsim.specs.CommandLine.{AsksForRun, IsMistake, parameter_words, seed_text}
+use Rattle.fqsim.specs.Seeds.{seed_given}
+use Rattle.fqsim.specs.declared.command_line.CommandFault.{CommandFault}
+use Rattle.fqsim.specs.declared.command_line.CommandFault.TheVariants as command_fault
+use Rattle.fqsim.specs.declared.program.ProgramFault.{ProgramFault}
+use Rattle.fqsim.specs.declared.program.ProgramFault.TheVariants as program_fault
+
+-- the status for a fault of the trace: 1 where the machine failed, and 2 where the trace is wrong
+abbrev pub trace_status : TraceFaultKind → ℕ
+trace_status trace_fault.Read = 1
+trace_status trace_fault.Memory = 1
+trace_status _ = 2
+
+-- the status for a fault: 1 where the machine failed, and 2 where something that was given is wrong
+abbrev pub status_of : ProgramFault → ℕ
+status_of (program_fault.CommandLine text) = 2
+status_of program_fault.NotUtf8 = 2
+status_of program_fault.Seed = 2
+status_of (program_fault.Params fault) = 2
+status_of (program_fault.Trace fault) = trace_status fault.what
+status_of program_fault.Memory = 1
+status_of program_fault.Write = 1
+
+-- The fault is one of a run of the input, with the seed of that text and the parameters of those words. The seed is
+-- looked at first, then the parameters, then the input.
+abbrev pub IsRunFault : Option (List ℕ) → List (List ℕ) → Option (List ℕ) → ProgramFault → Type 0
+IsRunFault seed words input program_fault.Seed = seed_given seed ≡ None
+IsRunFault seed words input (program_fault.Params fault) = (seed_given seed ≢ None) × (params_of_words words ≡ Err fault)
+IsRunFault seed words input (program_fault.Trace fault) =
+    (seed_given seed ≢ None) × IsOk (params_of_words words) × IfSome input (λ bytes. IsFaultOf bytes fault)
+IsRunFault seed words input program_fault.Memory = ⊤
+IsRunFault seed words input program_fault.Write = ⊤
+IsRunFault seed words input (program_fault.CommandLine text) = ⊥
+IsRunFault seed words input program_fault.NotUtf8 = ⊥
+
+-- the fault is one of these words and this input
+abbrev pub IsFaultOn : List (List ℕ) → Option (List ℕ) → ProgramFault → Type 0
+IsFaultOn words input (program_fault.CommandLine text) = IsMistake words
+IsFaultOn words input program_fault.NotUtf8 = ⊥
+IsFaultOn words input program_fault.Seed = AsksForRun words × IsRunFault (seed_text words) (parameter_words words) input program_fault.Seed
+IsFaultOn words input (program_fault.Params fault) =
+    AsksForRun words × IsRunFault (seed_text words) (parameter_words words) input (program_fault.Params fault)
+IsFaultOn words input (program_fault.Trace fault) =
+    AsksForRun words × IsRunFault (seed_text words) (parameter_words words) input (program_fault.Trace fault)
+IsFaultOn words input program_fault.Memory = ⊤
+IsFaultOn words input program_fault.Write = ⊤
+
+-- the fault of the program for one of the command line
+abbrev pub command_fault_told : CommandFault → ProgramFault
+command_fault_told (command_fault.Mistake text) = program_fault.CommandLine text
+command_fault_told command_fault.Memory = program_fault.Memory
+
+-- the fault of the program for one of the run
+abbrev pub run_fault_told : RunFault → ProgramFault
+run_fault_told (run_fault.Trace fault) = program_fault.Trace fault
+run_fault_told run_fault.Memory = program_fault.Memory
+run_fault_told run_fault.Write = program_fault.Write

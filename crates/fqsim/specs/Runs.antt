@@ -1,0 +1,30 @@
+-- What the program answers to a command line.
+use Rattle.std.specs.Prelude.{◌≡◌, ◌⊎◌, ℕ, List, IfSome, Option, Some, Ok}
+use Rattle.std.specs.Io.KnownBytes.{Appends}
+use Rattle.packet_core.specs.Words.{params_of_words}
+use Rattle.packet_core.specs.declared.flow.Seed.{Seed}
+use Rattle.packet_core.specs.declared.params.ParamFields.{ParamFields}
+use Rattle.trace_core.specs.Report.{IsReportOf}
+use Rattle.fqsim.specs.CommandLine.{AsksForHelp, AsksForRun, parameter_words, seed_text}
+use Rattle.fqsim.specs.Seeds.{seed_given}
+
+-- The text of the seed and the parameter words are good, and of the report of the input with that seed and those
+-- parameters this holds.
+pub record IsRunFor (seed_text : Option (List ℕ)) (parameter_words : List (List ℕ)) (input : Option (List ℕ)) (Wrote : List ℕ → Type 0) : Type 0 where
+  pub seed : Seed
+  pub params : ParamFields
+  pub seed_read : seed_given seed_text ≡ Some seed.0
+  pub params_read : params_of_words parameter_words ≡ Ok params
+  pub report : IfSome input (λ bytes. (text : List ℕ) × IsReportOf params seed bytes text × Wrote text)
+
+-- The words ask for a run, and its report was written behind what was there.
+abbrev pub AnswersRun : List (List ℕ) → Option (List ℕ) → Option (List ℕ) → Option (List ℕ) → Type 0
+AnswersRun words input old new = AsksForRun words × IsRunFor (seed_text words) (parameter_words words) input (λ text. Appends old new text)
+
+-- The words ask for help, and a text was written behind what was there.
+abbrev pub AnswersHelp : List (List ℕ) → Option (List ℕ) → Option (List ℕ) → Type 0
+AnswersHelp words old new = AsksForHelp words × (text : List ℕ) × Appends old new text
+
+-- what the program writes where nothing fails
+abbrev pub Answers : List (List ℕ) → Option (List ℕ) → Option (List ℕ) → Option (List ℕ) → Type 0
+Answers words input old new = AnswersRun words input old new ⊎ AnswersHelp words old new

@@ -1,0 +1,133 @@
+//! What the help of the program says, in lines of at most 80 columns.
+
+/// What the program is, in a line.
+pub const PROGRAM_SUMMARY: &str = "Run a trace of packets through the FQ-CoDel packet scheduler";
+
+/// What the program is.
+pub const PROGRAM_DESCRIPTION: &str = "\
+Run a trace of packets through the FQ-CoDel packet scheduler (RFC 8290, with
+CoDel of RFC 8289 and the ECN bits of RFC 3168), and report what became of each
+packet. The trace says at which moment each thing happens, so a run takes no
+time of its own, and the same trace always gives the same report.";
+
+/// What stands below the program's help.
+pub const PROGRAM_NOTES: &str = "\
+'fqsim trace --help' describes the parameters, the trace and the report.
+
+Exit status:
+  0  the report or the help was written
+  1  the machine failed: no memory, a failed read or a failed write
+  2  the command line, the seed, a parameter or the trace is wrong, and nothing
+     was written to standard output";
+
+/// What the subcommand does, in a line.
+pub const TRACE_SUMMARY: &str =
+    "Read a trace from standard input, write the report to standard output";
+
+/// What the subcommand does.
+pub const TRACE_DESCRIPTION: &str = "\
+Read a trace from standard input, make its steps with a new scheduler, and write
+the report to standard output. The whole trace is read, and the whole run made,
+before the first byte of the report is written.";
+
+/// What the seed is, in a line.
+pub const SEED_SUMMARY: &str = "Seed of the flow hash [default: 32 zeros]";
+
+/// What the seed is.
+pub const SEED_DESCRIPTION: &str = "\
+Seed of the flow hash: 32 hexadecimal digits, of either case
+[default: 32 zeros]";
+
+/// What the parameter words are, in a line.
+pub const PARAMETERS_SUMMARY: &str = "Parameters, as in 'limit 1000 target 5ms noecn'";
+
+/// What the parameter words are.
+pub const PARAMETERS_DESCRIPTION: &str = "\
+Parameters of the scheduler, as in 'limit 1000 target 5ms noecn',
+described below";
+
+/// The parameters, the formats and the statuses.
+pub const TRACE_NOTES: &str = "\
+Parameters, with the words of tc-fq_codel(8) where it has them. They are read
+from left to right, and of a parameter given twice the last one holds.
+
+  Words                 Range                  Default
+  limit PACKETS         1 to 1048576 packets   10240 packets
+                        Where more packets wait than this, in all flows, the
+                        flow with the most bytes loses half of its packets, at
+                        least 1 and at most 64.
+  flows NUMBER          1 to 65536             1024
+                        The flows that packets are sorted into.
+  quantum BYTES         1 to 1000000 bytes     1514 bytes
+                        What a flow sends before the next one has its turn.
+  mtu BYTES             0 to 65535 bytes       1514 bytes
+                        With at most this behind it in its flow, no packet is
+                        dropped by CoDel.
+  target TIME           0 to 1000000000us      5ms
+                        A packet that waited less than this isn't dropped by
+                        CoDel.
+  interval TIME         1us to 1000000000us    100ms
+                        How long packets wait for too long before CoDel drops
+                        the first one.
+  ecn | noecn                                  ecn
+                        Whether packets of senders that take part in ECN are
+                        marked in place of being dropped by CoDel.
+  classify hash|dport                          hash
+                        How a packet's flow is found: from a SHA-256 hash of
+                        seed and five-tuple, or from the destination port, each
+                        modulo the number of flows.
+
+A TIME is a whole number and its unit: us, usec, usecs, ms, msec, msecs, s, sec
+or secs; without a unit, microseconds. Other numbers have no unit.
+
+Trace, with one row for each step, its fields separated by commas:
+
+  enq,MOMENT,PROTO,SRC,DST,SPORT,DPORT,LEN,ECN   a packet comes in
+  deq,MOMENT                                     the device asks for a packet
+  close,MOMENT                                   no packet is accepted any more
+
+A MOMENT is in microseconds, below 2^60. PROTO is the protocol's number; SRC and
+DST are IPv4 addresses; SPORT and DPORT are ports (0 where there are none); LEN
+is 1 to 65535 bytes; ECN is the two bits as a number: 0 Not-ECT, 1 ECT(1),
+2 ECT(0), 3 CE. A trace has at most 1000000 rows and 134217728 bytes.
+
+Report, with the rows of each step in order:
+
+  accepted,ID,FLOW         a packet was accepted; ids count from 0
+  dropped,ID,overflow      a packet was dropped, since more than limit waited
+  dropped,ID,codel         a packet was dropped by CoDel
+  sent,ID,ECN              a packet was sent, with this ECN field
+  idle                     the device asked, and nothing waited
+  closed                   the scheduler was closed
+  refused,closed           the step came after the close
+  refused,backwards,LAST   the step's moment is below the last one, LAST
+
+and at the end
+
+  totals,ACCEPTED,ACCEPTED_BYTES,SENT,SENT_BYTES,DROPPED_CODEL,
+      DROPPED_OVERFLOW,DROPPED_BYTES,MARKED,QUEUED,QUEUED_BYTES,STATE
+                           the sums of the run in one row; STATE is open or
+                           closed
+  tuple,PROTO,SRC,DST,SPORT,DPORT,FLOW,ACCEPTED,SENT,DROPPED,QUEUED
+                           one row for each five-tuple, in order of its first
+                           accepted packet
+
+Example:
+
+  $ printf 'enq,0,17,10.0.0.1,10.0.0.2,5000,53,1000,0\\ndeq,3\\n' |
+        fqsim trace classify dport flows 1
+  accepted,0,0
+  sent,0,0
+  totals,1,1000,1,1000,0,0,0,0,0,0,open
+  tuple,17,10.0.0.1,10.0.0.2,5000,53,0,1,1,0,0
+
+Exit status:
+
+  0  The report or the help was written.
+  1  The machine failed. On standard error stands 'fqsim: row ROW: Read',
+     'fqsim: row ROW: Memory', 'fqsim: memory' or 'fqsim: write'. After a failed
+     write standard output has the front of the text, else nothing.
+  2  Something is wrong that was given, and nothing was written to standard
+     output. On standard error stands a text on the command line, 'fqsim: seed',
+     'fqsim: parameter word PLACE: NAME' (places count the parameter words from
+     1) or 'fqsim: row ROW: NAME' (rows count from 1).";
