@@ -11,6 +11,7 @@ use crate::lines::{Ids, OneOf, PlainLine};
 use crate::served::{Mark, Served};
 use crate::state::CodelState;
 use packet_core::{Ecn, EcnUse, FiveTuple, Ip, Packet, ParamFields, Params, Waiting};
+use std::alloc::Global;
 use std::process::Abort;
 use std::test::Fail;
 
@@ -121,6 +122,15 @@ fn waiting(id: u64, len: u32, ecn: Ecn) -> Result<Waiting, Fail> {
     })
 }
 
+/// So many packets of `len` bytes that came at 0, numbered from 0.
+fn arrivals(alloc: Global, count: u64, len: u32, ecn: Ecn) -> Result<Vec<Waiting>, Fail> {
+    let mut packets = Vec::new(alloc);
+    for id in 0..count {
+        packets.push(waiting(id, len, ecn)?)?;
+    }
+    Ok(packets)
+}
+
 fn fields(ecn: EcnUse) -> ParamFields {
     let mut fields = ParamFields::standard();
     fields.flows = 1;
@@ -160,10 +170,7 @@ const STOPPED: CodelState = CodelState {
 #[test]
 fn ten_packets_drop_and_send(rt: HostRuntime) -> Result<(), Fail> {
     let params = Params::try_new(fields(EcnUse::Drop))?;
-    let mut packets = Vec::new(rt.alloc());
-    for id in 0..10 {
-        packets.push(waiting(id, 1000, Ecn::NotEct)?)?;
-    }
+    let packets = arrivals(rt.alloc(), 10, 1000, Ecn::NotEct)?;
     let mut line = PlainLine::new(&packets);
     let mut ids = Ids::try_new(rt.alloc(), 20)?;
     let mut codel = Codel::new();
@@ -188,10 +195,7 @@ fn ten_packets_drop_and_send(rt: HostRuntime) -> Result<(), Fail> {
 #[test]
 fn marks_in_place_of_drops(rt: HostRuntime) -> Result<(), Fail> {
     let params = Params::try_new(fields(EcnUse::Mark))?;
-    let mut packets = Vec::new(rt.alloc());
-    for id in 0..10 {
-        packets.push(waiting(id, 1000, Ecn::Ect0)?)?;
-    }
+    let packets = arrivals(rt.alloc(), 10, 1000, Ecn::Ect0)?;
     let mut line = PlainLine::new(&packets);
     let mut ids = Ids::try_new(rt.alloc(), 20)?;
     let mut codel = Codel::new();
@@ -255,10 +259,7 @@ fn drop_burst(rt: HostRuntime) -> Result<(), Fail> {
     fields.interval = 1;
     fields.mtu = 0;
     let params = Params::try_new(fields)?;
-    let mut packets = Vec::new(rt.alloc());
-    for id in 0..7 {
-        packets.push(waiting(id, 100, Ecn::NotEct)?)?;
-    }
+    let packets = arrivals(rt.alloc(), 7, 100, Ecn::NotEct)?;
     let mut line = PlainLine::new(&packets);
     let mut ids = Ids::try_new(rt.alloc(), 20)?;
     let mut codel = Codel::new();
