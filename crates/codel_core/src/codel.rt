@@ -1,4 +1,4 @@
-ghost use Rattle.std.specs.Prelude.{◌≡◌, ◌^◌, ◌<◌, ◌≤◌, ◌↔◌, [], length, IsNone, None, false};
+ghost use Rattle.std.specs.Prelude.{◌≡◌, ◌^◌, ◌<◌, ◌≤◌, ◌↔◌, [], drop, length, slice_get, IsNone, None, Some, false};
 ghost use Rattle.packet_core.specs.Params.{IsIntervalInRange};
 ghost use Rattle.codel_core.specs.Schedule.{IsStateInRange, StaysInRange};
 ghost use Rattle.codel_core.specs.Verdict.{Serves};
@@ -80,6 +80,20 @@ impl Codel {
     }
 }
 
+/// Takes the head of a line that isn't empty.
+fn pull_waiting<L: Pull>(line: &mut L) -> Waiting
+    requires { 0 < length (L.items line.old) }
+    ensures head { Some result ≡ slice_get (L.items line.old) 0 }
+    ensures rest { L.items line.new ≡ drop 1 (L.items line.old) }
+    ensures step { L.pulled line.old 1 line.new }
+{
+    let Some(head) = line.pull() else {
+        unreachable!()
+    };
+    head
+}
+
+/// Serves as `Codel::serve` does, over the numbers alone.
 fn serve_from<L: Pull, S: DropSink>(
     state: &mut CodelState,
     line: &mut L,
@@ -111,26 +125,20 @@ fn serve_from<L: Pull, S: DropSink>(
             return Some(Served::marked(first));
         }
         sink.take(first);
-        let Some(second) = line.pull() else {
-            unreachable!()
-        };
+        let second = pull_waiting(line);
         judge(state, &second, line, now, params);
         enter(state, now, params);
         return Some(Served::unmarked(second));
     }
     let mut head = first;
     while state.drop_next <= now {
+        state.count += 1;
         if may_mark(params, &head) {
-            state.count += 1;
             state.drop_next += spacing(interval, state.count);
             return Some(Served::marked(head));
         }
         sink.take(head);
-        state.count += 1;
-        let Some(next) = line.pull() else {
-            unreachable!()
-        };
-        head = next;
+        head = pull_waiting(line);
         if !judge(state, &head, line, now, params) {
             state.dropping = false;
             return Some(Served::unmarked(head));

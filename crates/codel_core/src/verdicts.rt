@@ -11,6 +11,7 @@ use crate::lines::{Ids, OneOf, PlainLine};
 use crate::served::{Mark, Served};
 use crate::state::CodelState;
 use packet_core::{Ecn, EcnUse, FiveTuple, Ip, Packet, ParamFields, Params, Waiting};
+use std::alloc::Global;
 use std::process::Abort;
 use std::test::Fail;
 
@@ -121,6 +122,15 @@ fn waiting(id: u64, len: u32, ecn: Ecn) -> Result<Waiting, Fail> {
     })
 }
 
+/// So many packets of `len` bytes that came at 0, numbered from 0.
+fn arrivals(alloc: Global, count: u64, len: u32, ecn: Ecn) -> Result<Vec<Waiting>, Fail> {
+    let mut packets = Vec::new(alloc);
+    for id in 0..count {
+        packets.push(waiting(id, len, ecn)?)?;
+    }
+    Ok(packets)
+}
+
 fn fields(ecn: EcnUse) -> ParamFields {
     let mut fields = ParamFields::standard();
     fields.flows = 1;
@@ -128,109 +138,64 @@ fn fields(ecn: EcnUse) -> ParamFields {
     fields
 }
 
+/// The state of a queue whose packets have been late since 5000, before the first drop.
+const LATE: CodelState = CodelState {
+    first_above: Some(105000),
+    drop_next: 0,
+    count: 0,
+    lastcount: 0,
+    dropping: false,
+};
+
+/// The state of that queue while it drops, after so many drops.
+fn dropping(drop_next: u64, count: u64) -> CodelState {
+    CodelState {
+        first_above: Some(105000),
+        drop_next,
+        count,
+        lastcount: 1,
+        dropping: true,
+    }
+}
+
+/// The state of that queue after its fourth drop, behind which no other packet is late.
+const STOPPED: CodelState = CodelState {
+    first_above: None,
+    drop_next: 333445,
+    count: 4,
+    lastcount: 1,
+    dropping: false,
+};
+
 #[test]
 fn ten_packets_drop_and_send(rt: HostRuntime) -> Result<(), Fail> {
     let params = Params::try_new(fields(EcnUse::Drop))?;
-    let mut packets = Vec::new(rt.alloc());
-    for id in 0..10 {
-        packets.push(waiting(id, 1000, Ecn::NotEct)?)?;
-    }
+    let packets = arrivals(rt.alloc(), 10, 1000, Ecn::NotEct)?;
     let mut line = PlainLine::new(&packets);
     let mut ids = Ids::try_new(rt.alloc(), 20)?;
     let mut codel = Codel::new();
-    assert_eq!(rt;
-        told(serve_at(&rt, &mut codel, &mut line, 5000, &params, &mut ids)),
-        sent(0)
-    );
-    assert_eq!(rt; ids.ids.as_slice(), [].as_slice());
-    assert_eq!(rt;
-        codel.state(),
-        CodelState {
-            first_above: Some(105000),
-            drop_next: 0,
-            count: 0,
-            lastcount: 0,
-            dropping: false
-        }
-    );
-    assert_eq!(rt;
-        told(serve_at(&rt, &mut codel, &mut line, 105000, &params, &mut ids)),
-        sent(2)
-    );
-    assert_eq!(rt; ids.ids.as_slice(), [1].as_slice());
-    assert_eq!(rt;
-        codel.state(),
-        CodelState {
-            first_above: Some(105000),
-            drop_next: 205000,
-            count: 1,
-            lastcount: 1,
-            dropping: true
-        }
-    );
-    assert_eq!(rt;
-        told(serve_at(&rt, &mut codel, &mut line, 205000, &params, &mut ids)),
-        sent(4)
-    );
-    assert_eq!(rt; ids.ids.as_slice(), [1, 3].as_slice());
-    assert_eq!(rt;
-        codel.state(),
-        CodelState {
-            first_above: Some(105000),
-            drop_next: 275710,
-            count: 2,
-            lastcount: 1,
-            dropping: true
-        }
-    );
-    assert_eq!(rt;
-        told(serve_at(&rt, &mut codel, &mut line, 275710, &params, &mut ids)),
-        sent(6)
-    );
-    assert_eq!(rt; ids.ids.as_slice(), [1, 3, 5].as_slice());
-    assert_eq!(rt;
-        codel.state(),
-        CodelState {
-            first_above: Some(105000),
-            drop_next: 333445,
-            count: 3,
-            lastcount: 1,
-            dropping: true
-        }
-    );
-    assert_eq!(rt;
-        told(serve_at(&rt, &mut codel, &mut line, 333445, &params, &mut ids)),
-        sent(8)
-    );
-    assert_eq!(rt; ids.ids.as_slice(), [1, 3, 5, 7].as_slice());
-    let left = CodelState {
-        first_above: None,
-        drop_next: 333445,
-        count: 4,
-        lastcount: 1,
-        dropping: false,
-    };
-    assert_eq!(rt; codel.state(), left);
-    assert_eq!(rt;
-        told(serve_at(&rt, &mut codel, &mut line, 333446, &params, &mut ids)),
-        sent(9)
-    );
-    assert_eq!(rt;
-        told(serve_at(&rt, &mut codel, &mut line, 333447, &params, &mut ids)),
-        None
-    );
-    assert_eq!(rt; codel.state(), left);
-    assert_eq!(rt; ids.ids.as_slice(), [1, 3, 5, 7].as_slice());
+    let serves = [
+        (5000, sent(0), [].as_slice(), LATE),
+        (105000, sent(2), [1].as_slice(), dropping(205000, 1)),
+        (205000, sent(4), [1, 3].as_slice(), dropping(275710, 2)),
+        (275710, sent(6), [1, 3, 5].as_slice(), dropping(333445, 3)),
+        (333445, sent(8), [1, 3, 5, 7].as_slice(), STOPPED),
+        (333446, sent(9), [1, 3, 5, 7].as_slice(), STOPPED),
+        (333447, None, [1, 3, 5, 7].as_slice(), STOPPED),
+    ];
+    for (now, given, dropped, state) in serves {
+        let served = serve_at(&rt, &mut codel, &mut line, now, &params, &mut ids);
+        assert_eq!(rt; told(served), given, "at {now}");
+        assert_eq!(rt; ids.ids.as_slice(), dropped, "at {now}");
+        assert_eq!(rt; codel.state(), state, "at {now}");
+    }
     Ok(())
 }
 
 #[test]
 fn marks_in_place_of_drops(rt: HostRuntime) -> Result<(), Fail> {
     let params = Params::try_new(fields(EcnUse::Mark))?;
-    let mut packets = Vec::new(rt.alloc());
-    for id in 0..10 {
-        packets.push(waiting(id, 1000, Ecn::Ect0)?)?;
-    }
+    let packets = arrivals(rt.alloc(), 10, 1000, Ecn::Ect0)?;
     let mut line = PlainLine::new(&packets);
     let mut ids = Ids::try_new(rt.alloc(), 20)?;
     let mut codel = Codel::new();
@@ -294,10 +259,7 @@ fn drop_burst(rt: HostRuntime) -> Result<(), Fail> {
     fields.interval = 1;
     fields.mtu = 0;
     let params = Params::try_new(fields)?;
-    let mut packets = Vec::new(rt.alloc());
-    for id in 0..7 {
-        packets.push(waiting(id, 100, Ecn::NotEct)?)?;
-    }
+    let packets = arrivals(rt.alloc(), 7, 100, Ecn::NotEct)?;
     let mut line = PlainLine::new(&packets);
     let mut ids = Ids::try_new(rt.alloc(), 20)?;
     let mut codel = Codel::new();
@@ -328,6 +290,17 @@ fn drop_burst(rt: HostRuntime) -> Result<(), Fail> {
     Ok(())
 }
 
+/// The state of a queue that has begun to drop with that count, and has no late packet.
+fn begun(drop_next: u64, count: u64) -> CodelState {
+    CodelState {
+        first_above: None,
+        drop_next,
+        count,
+        lastcount: count,
+        dropping: true,
+    }
+}
+
 #[test]
 fn count_resumes_within_sixteen_intervals(rt: HostRuntime) -> Result<(), Fail> {
     let params = Params::try_new(fields(EcnUse::Drop))?;
@@ -343,29 +316,7 @@ fn count_resumes_within_sixteen_intervals(rt: HostRuntime) -> Result<(), Fail> {
         lastcount: 1,
         dropping: false,
     };
-    let ends = [
-        (
-            1933444,
-            CodelState {
-                first_above: None,
-                drop_next: 1991179,
-                count: 3,
-                lastcount: 3,
-                dropping: true,
-            },
-        ),
-        (
-            1933445,
-            CodelState {
-                first_above: None,
-                drop_next: 2033445,
-                count: 1,
-                lastcount: 1,
-                dropping: true,
-            },
-        ),
-    ];
-    for (now, after) in ends {
+    for (now, after) in [(1933444, begun(1991179, 3)), (1933445, begun(2033445, 1))] {
         let mut line = PlainLine::new(&packets);
         let mut ids = Ids::try_new(rt.alloc(), 20)?;
         let mut codel = Codel::from_state(before);

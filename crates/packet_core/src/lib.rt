@@ -1,5 +1,5 @@
-//! Packets as the scheduler sees them, its parameters and the choice of a packet's flow. Nothing in this
-//! crate takes memory.
+//! Packets as the scheduler sees them, its parameters, the words that say them and the choice of a packet's flow.
+//! Nothing in this crate takes memory.
 #![tactic(auto)]
 
 mod flow;

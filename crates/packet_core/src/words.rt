@@ -43,10 +43,11 @@ enum ParamWord {
 
 /// The parameters that words say (tc-fq_codel(8)), and the standard value of each that isn't said: `limit`, `flows`,
 /// `quantum` and `mtu` with a whole number, `target` and `interval` with a time, `classify` with `hash` or `dport`,
-/// `ecn` and `noecn`. A whole number is one or more digits. A time is digits and then a unit: `us`, `usec`, `usecs` or
-/// nothing for microseconds, `ms`, `msec`, `msecs`, `s`, `sec` or `secs`. The word behind a parameter with a value is
-/// its value, whatever it is. Words are read from left to right; a parameter that is given twice takes its last value,
-/// and the first fault is answered.
+/// `ecn` and `noecn`. A whole number is one or more digits. A time is digits and then a unit, in lower case: `us`,
+/// `usec`, `usecs` or nothing for microseconds, `ms`, `msec` or `msecs` for milliseconds, `s`, `sec` or `secs` for
+/// seconds. The word behind a parameter with a value is its value, whatever it is. Words are read from left to right; a
+/// parameter that is given twice takes its last value, and the first fault is answered: `ParamFault` says what each
+/// one means.
 pub fn read_params(words: &[&str]) -> Result<Params, ParamFault>
     ensures { result ≡ params_of_words (map (λ word. word.now) words.now) }
 {

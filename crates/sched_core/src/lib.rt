@@ -1,4 +1,5 @@
-//! The scheduler FQ-CoDel (RFC 8290): steps, the journal of what became of every packet, and running totals.
+//! The scheduler FQ-CoDel (RFC 8290): steps, the journal of what became of every packet, running totals and rows by
+//! five-tuple. An engine keeps the steps that it made too, and a run makes a list of steps, with an answer to each.
 #![tactic(auto)]
 
 mod account;

@@ -2,7 +2,7 @@
 //!
 //! A trace is comma-separated: one row for a packet that comes in, for a device that asks for one, and for the
 //! close. A report has one row for each thing that became of a packet and for each step that made nothing
-//! happen, and a last one with the totals.
+//! happen, then one with the totals, and at its end one for each five-tuple.
 #![tactic(auto)]
 
 mod reader;

@@ -8,49 +8,53 @@ use sched_core::{Answer, Cause, Event, FlowView, Mark};
 use std::process::Abort;
 use std::test::Fail;
 
+/// Ten packets that come at once, and dequeues at moments that CoDel drops at.
+const TEN_PACKETS: &str = "enq,0,17,10.0.0.1,10.0.0.2,5000,53,1000,0\n\
+    enq,0,17,10.0.0.1,10.0.0.2,5000,53,1000,0\n\
+    enq,0,17,10.0.0.1,10.0.0.2,5000,53,1000,0\n\
+    enq,0,17,10.0.0.1,10.0.0.2,5000,53,1000,0\n\
+    enq,0,17,10.0.0.1,10.0.0.2,5000,53,1000,0\n\
+    enq,0,17,10.0.0.1,10.0.0.2,5000,53,1000,0\n\
+    enq,0,17,10.0.0.1,10.0.0.2,5000,53,1000,0\n\
+    enq,0,17,10.0.0.1,10.0.0.2,5000,53,1000,0\n\
+    enq,0,17,10.0.0.1,10.0.0.2,5000,53,1000,0\n\
+    enq,0,17,10.0.0.1,10.0.0.2,5000,53,1000,0\n\
+    deq,5000\n\
+    deq,105000\n\
+    deq,205000\n\
+    deq,275710\n\
+    deq,333445\n\
+    deq,333446\n\
+    deq,333447\n";
+
+/// The report of those packets: every second one is dropped, up to the eighth.
+const TEN_PACKETS_REPORT: &str = "accepted,0,0\n\
+    accepted,1,0\n\
+    accepted,2,0\n\
+    accepted,3,0\n\
+    accepted,4,0\n\
+    accepted,5,0\n\
+    accepted,6,0\n\
+    accepted,7,0\n\
+    accepted,8,0\n\
+    accepted,9,0\n\
+    sent,0,0\n\
+    dropped,1,codel\n\
+    sent,2,0\n\
+    dropped,3,codel\n\
+    sent,4,0\n\
+    dropped,5,codel\n\
+    sent,6,0\n\
+    dropped,7,codel\n\
+    sent,8,0\n\
+    sent,9,0\n\
+    idle\n\
+    totals,10,10000,6,6000,4,0,4000,0,0,0,open\n\
+    tuple,17,10.0.0.1,10.0.0.2,5000,53,0,10,6,4,0\n";
+
 #[test]
 fn ten_packets_drop_and_send(rt: HostRuntime) -> Result<(), Fail> {
-    let trace = "enq,0,17,10.0.0.1,10.0.0.2,5000,53,1000,0\n\
-                 enq,0,17,10.0.0.1,10.0.0.2,5000,53,1000,0\n\
-                 enq,0,17,10.0.0.1,10.0.0.2,5000,53,1000,0\n\
-                 enq,0,17,10.0.0.1,10.0.0.2,5000,53,1000,0\n\
-                 enq,0,17,10.0.0.1,10.0.0.2,5000,53,1000,0\n\
-                 enq,0,17,10.0.0.1,10.0.0.2,5000,53,1000,0\n\
-                 enq,0,17,10.0.0.1,10.0.0.2,5000,53,1000,0\n\
-                 enq,0,17,10.0.0.1,10.0.0.2,5000,53,1000,0\n\
-                 enq,0,17,10.0.0.1,10.0.0.2,5000,53,1000,0\n\
-                 enq,0,17,10.0.0.1,10.0.0.2,5000,53,1000,0\n\
-                 deq,5000\n\
-                 deq,105000\n\
-                 deq,205000\n\
-                 deq,275710\n\
-                 deq,333445\n\
-                 deq,333446\n\
-                 deq,333447\n";
-    let report = "accepted,0,0\n\
-                  accepted,1,0\n\
-                  accepted,2,0\n\
-                  accepted,3,0\n\
-                  accepted,4,0\n\
-                  accepted,5,0\n\
-                  accepted,6,0\n\
-                  accepted,7,0\n\
-                  accepted,8,0\n\
-                  accepted,9,0\n\
-                  sent,0,0\n\
-                  dropped,1,codel\n\
-                  sent,2,0\n\
-                  dropped,3,codel\n\
-                  sent,4,0\n\
-                  dropped,5,codel\n\
-                  sent,6,0\n\
-                  dropped,7,codel\n\
-                  sent,8,0\n\
-                  sent,9,0\n\
-                  idle\n\
-                  totals,10,10000,6,6000,4,0,4000,0,0,0,open\n\
-                  tuple,17,10.0.0.1,10.0.0.2,5000,53,0,10,6,4,0\n";
-    let ran = expect_run(&rt, one_flow(), trace, report)?;
+    let ran = expect_run(&rt, one_flow(), TEN_PACKETS, TEN_PACKETS_REPORT)?;
     let outcomes = [
         outcome(Answer::Sent, 10, 11),
         outcome(Answer::Sent, 11, 13),
@@ -62,78 +66,76 @@ fn ten_packets_drop_and_send(rt: HostRuntime) -> Result<(), Fail> {
     ];
     expect_outcomes(&rt, &ran, 10, &outcomes);
     assert_eq!(rt; ran.engine.last_moment(), 333_447);
+    assert_eq!(rt; ran.engine.turns(), 1);
 
     // The third dequeue raises the credits of the flow, which owes 486 bytes.
-    let third = run_front(&rt, one_flow(), trace, 13)?;
+    let third = run_front(&rt, one_flow(), TEN_PACKETS, 13)?;
     assert_eq!(rt; third.engine.turns(), 2);
+    Ok(())
+}
 
-    // The fifth drops a packet before the last but one, and stops dropping there. So it stays.
-    let stopped = CodelState {
+#[test]
+fn drops_stop_before_the_last_packet(rt: HostRuntime) -> Result<(), Fail> {
+    // The fifth dequeue drops a packet before the last but one, and stops dropping there. So it stays.
+    let codel = CodelState {
         first_above: None,
         drop_next: 333_445,
         count: 4,
         lastcount: 1,
         dropping: false,
     };
-    let fifth = run_front(&rt, one_flow(), trace, 15)?;
-    expect_flow(
-        &rt,
-        &fifth,
-        0,
-        FlowView {
-            codel: stopped,
-            ..in_time(1, 1_000, -458)
-        },
-    );
-    assert_eq!(rt; ran.engine.turns(), 1);
-    expect_flow(
-        &rt,
-        &ran,
-        0,
-        FlowView {
-            codel: stopped,
-            ..in_time(0, 0, 56)
-        },
-    );
+    let fifth = run_front(&rt, one_flow(), TEN_PACKETS, 15)?;
+    let view = FlowView {
+        codel,
+        ..in_time(1, 1_000, -458)
+    };
+    expect_flow(&rt, &fifth, 0, view);
+    let whole = run_front(&rt, one_flow(), TEN_PACKETS, 17)?;
+    let view = FlowView {
+        codel,
+        ..in_time(0, 0, 56)
+    };
+    expect_flow(&rt, &whole, 0, view);
     Ok(())
 }
+
+/// Ten packets that can be marked, and dequeues at moments that CoDel marks at.
+const TEN_ECT_PACKETS: &str = "enq,0,17,10.0.0.1,10.0.0.2,5000,53,1000,2\n\
+    enq,0,17,10.0.0.1,10.0.0.2,5000,53,1000,2\n\
+    enq,0,17,10.0.0.1,10.0.0.2,5000,53,1000,2\n\
+    enq,0,17,10.0.0.1,10.0.0.2,5000,53,1000,2\n\
+    enq,0,17,10.0.0.1,10.0.0.2,5000,53,1000,2\n\
+    enq,0,17,10.0.0.1,10.0.0.2,5000,53,1000,2\n\
+    enq,0,17,10.0.0.1,10.0.0.2,5000,53,1000,2\n\
+    enq,0,17,10.0.0.1,10.0.0.2,5000,53,1000,2\n\
+    enq,0,17,10.0.0.1,10.0.0.2,5000,53,1000,2\n\
+    enq,0,17,10.0.0.1,10.0.0.2,5000,53,1000,2\n\
+    deq,5000\n\
+    deq,105000\n\
+    deq,205000\n";
+
+/// The report of those packets: two are marked.
+const MARKS_REPORT: &str = "accepted,0,0\n\
+    accepted,1,0\n\
+    accepted,2,0\n\
+    accepted,3,0\n\
+    accepted,4,0\n\
+    accepted,5,0\n\
+    accepted,6,0\n\
+    accepted,7,0\n\
+    accepted,8,0\n\
+    accepted,9,0\n\
+    sent,0,2\n\
+    sent,1,3\n\
+    sent,2,3\n\
+    totals,10,10000,3,3000,0,0,0,2,7,7000,open\n\
+    tuple,17,10.0.0.1,10.0.0.2,5000,53,0,10,3,0,7\n";
 
 #[test]
 fn marks_in_place_of_drops(rt: HostRuntime) -> Result<(), Fail> {
     let mut fields = one_flow();
     fields.ecn = EcnUse::Mark;
-    let ran = expect_run(
-        &rt,
-        fields,
-        "enq,0,17,10.0.0.1,10.0.0.2,5000,53,1000,2\n\
-         enq,0,17,10.0.0.1,10.0.0.2,5000,53,1000,2\n\
-         enq,0,17,10.0.0.1,10.0.0.2,5000,53,1000,2\n\
-         enq,0,17,10.0.0.1,10.0.0.2,5000,53,1000,2\n\
-         enq,0,17,10.0.0.1,10.0.0.2,5000,53,1000,2\n\
-         enq,0,17,10.0.0.1,10.0.0.2,5000,53,1000,2\n\
-         enq,0,17,10.0.0.1,10.0.0.2,5000,53,1000,2\n\
-         enq,0,17,10.0.0.1,10.0.0.2,5000,53,1000,2\n\
-         enq,0,17,10.0.0.1,10.0.0.2,5000,53,1000,2\n\
-         enq,0,17,10.0.0.1,10.0.0.2,5000,53,1000,2\n\
-         deq,5000\n\
-         deq,105000\n\
-         deq,205000\n",
-        "accepted,0,0\n\
-         accepted,1,0\n\
-         accepted,2,0\n\
-         accepted,3,0\n\
-         accepted,4,0\n\
-         accepted,5,0\n\
-         accepted,6,0\n\
-         accepted,7,0\n\
-         accepted,8,0\n\
-         accepted,9,0\n\
-         sent,0,2\n\
-         sent,1,3\n\
-         sent,2,3\n\
-         totals,10,10000,3,3000,0,0,0,2,7,7000,open\n\
-         tuple,17,10.0.0.1,10.0.0.2,5000,53,0,10,3,0,7\n",
-    )?;
+    let ran = expect_run(&rt, fields, TEN_ECT_PACKETS, MARKS_REPORT)?;
     let outcomes = [
         outcome(Answer::Sent, 10, 11),
         outcome(Answer::Sent, 11, 12),
@@ -155,15 +157,11 @@ fn marks_in_place_of_drops(rt: HostRuntime) -> Result<(), Fail> {
         lastcount: 1,
         dropping: true,
     };
-    expect_flow(
-        &rt,
-        &ran,
-        0,
-        FlowView {
-            codel,
-            ..in_time(7, 7_000, 28)
-        },
-    );
+    let view = FlowView {
+        codel,
+        ..in_time(7, 7_000, 28)
+    };
+    expect_flow(&rt, &ran, 0, view);
     Ok(())
 }
 
@@ -192,42 +190,43 @@ fn little_behind_no_drop(rt: HostRuntime) -> Result<(), Fail> {
     Ok(())
 }
 
+/// Seven packets that come at once, and a dequeue in each of three microseconds.
+const SEVEN_PACKETS: &str = "enq,0,17,10.0.0.1,10.0.0.2,5000,53,100,0\n\
+    enq,0,17,10.0.0.1,10.0.0.2,5000,53,100,0\n\
+    enq,0,17,10.0.0.1,10.0.0.2,5000,53,100,0\n\
+    enq,0,17,10.0.0.1,10.0.0.2,5000,53,100,0\n\
+    enq,0,17,10.0.0.1,10.0.0.2,5000,53,100,0\n\
+    enq,0,17,10.0.0.1,10.0.0.2,5000,53,100,0\n\
+    enq,0,17,10.0.0.1,10.0.0.2,5000,53,100,0\n\
+    deq,0\n\
+    deq,1\n\
+    deq,2\n";
+
+/// The report of those packets: the last dequeue drops three of them.
+const BURST_REPORT: &str = "accepted,0,0\n\
+    accepted,1,0\n\
+    accepted,2,0\n\
+    accepted,3,0\n\
+    accepted,4,0\n\
+    accepted,5,0\n\
+    accepted,6,0\n\
+    sent,0,0\n\
+    dropped,1,codel\n\
+    sent,2,0\n\
+    dropped,3,codel\n\
+    dropped,4,codel\n\
+    dropped,5,codel\n\
+    sent,6,0\n\
+    totals,7,700,3,300,4,0,400,0,0,0,open\n\
+    tuple,17,10.0.0.1,10.0.0.2,5000,53,0,7,3,4,0\n";
+
 #[test]
 fn drop_burst(rt: HostRuntime) -> Result<(), Fail> {
     let mut fields = one_flow();
     fields.target = 0;
     fields.interval = 1;
     fields.mtu = 0;
-    let ran = expect_run(
-        &rt,
-        fields,
-        "enq,0,17,10.0.0.1,10.0.0.2,5000,53,100,0\n\
-         enq,0,17,10.0.0.1,10.0.0.2,5000,53,100,0\n\
-         enq,0,17,10.0.0.1,10.0.0.2,5000,53,100,0\n\
-         enq,0,17,10.0.0.1,10.0.0.2,5000,53,100,0\n\
-         enq,0,17,10.0.0.1,10.0.0.2,5000,53,100,0\n\
-         enq,0,17,10.0.0.1,10.0.0.2,5000,53,100,0\n\
-         enq,0,17,10.0.0.1,10.0.0.2,5000,53,100,0\n\
-         deq,0\n\
-         deq,1\n\
-         deq,2\n",
-        "accepted,0,0\n\
-         accepted,1,0\n\
-         accepted,2,0\n\
-         accepted,3,0\n\
-         accepted,4,0\n\
-         accepted,5,0\n\
-         accepted,6,0\n\
-         sent,0,0\n\
-         dropped,1,codel\n\
-         sent,2,0\n\
-         dropped,3,codel\n\
-         dropped,4,codel\n\
-         dropped,5,codel\n\
-         sent,6,0\n\
-         totals,7,700,3,300,4,0,400,0,0,0,open\n\
-         tuple,17,10.0.0.1,10.0.0.2,5000,53,0,7,3,4,0\n",
-    )?;
+    let ran = expect_run(&rt, fields, SEVEN_PACKETS, BURST_REPORT)?;
     let outcomes = [
         outcome(Answer::Sent, 7, 8),
         outcome(Answer::Sent, 8, 10),
@@ -241,15 +240,11 @@ fn drop_burst(rt: HostRuntime) -> Result<(), Fail> {
         lastcount: 1,
         dropping: false,
     };
-    expect_flow(
-        &rt,
-        &ran,
-        0,
-        FlowView {
-            codel,
-            ..in_time(0, 0, 1_214)
-        },
-    );
+    let view = FlowView {
+        codel,
+        ..in_time(0, 0, 1_214)
+    };
+    expect_flow(&rt, &ran, 0, view);
     Ok(())
 }
 

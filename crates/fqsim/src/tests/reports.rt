@@ -127,3 +127,21 @@ fn sent_rows_tell_the_ecn_field(rt: HostRuntime) -> Result<(), Fail> {
          tuple,17,10.0.0.1,10.0.0.2,5000,53,0,4,4,0,0\n",
     )
 }
+
+#[test]
+fn two_five_tuples(rt: HostRuntime) -> Result<(), Fail> {
+    expect_report(
+        &rt,
+        "enq,0,17,10.0.0.1,10.0.0.2,5001,53,100,0\n\
+         enq,0,17,10.0.0.1,10.0.0.2,5000,53,100,0\n\
+         enq,0,17,10.0.0.1,10.0.0.2,5001,53,100,0\n\
+         deq,0\n",
+        "accepted,0,0\n\
+         accepted,1,0\n\
+         accepted,2,0\n\
+         sent,0,0\n\
+         totals,3,300,1,100,0,0,0,0,2,200,open\n\
+         tuple,17,10.0.0.1,10.0.0.2,5001,53,0,2,1,0,1\n\
+         tuple,17,10.0.0.1,10.0.0.2,5000,53,0,1,0,0,1\n",
+    )
+}

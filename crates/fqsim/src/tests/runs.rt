@@ -126,24 +126,25 @@ fn one_idle_dequeue(rt: HostRuntime) -> Result<(), Fail> {
     Ok(())
 }
 
+/// A close while a packet waits, and then a packet, a dequeue and a second close.
+const EARLY_CLOSE: &str = "enq,0,17,10.0.0.1,10.0.0.2,5000,53,1000,0\n\
+    close,1\n\
+    enq,2,17,10.0.0.1,10.0.0.2,5000,53,1000,0\n\
+    deq,3\n\
+    close,4\n";
+
+/// The report of that trace: what waits is sent, and nothing more is taken.
+const EARLY_CLOSE_REPORT: &str = "accepted,0,0\n\
+    closed\n\
+    refused,closed\n\
+    sent,0,0\n\
+    refused,closed\n\
+    totals,1,1000,1,1000,0,0,0,0,0,0,closed\n\
+    tuple,17,10.0.0.1,10.0.0.2,5000,53,0,1,1,0,0\n";
+
 #[test]
 fn closing_refuses_later_packets(rt: HostRuntime) -> Result<(), Fail> {
-    let ran = expect_run(
-        &rt,
-        one_flow(),
-        "enq,0,17,10.0.0.1,10.0.0.2,5000,53,1000,0\n\
-         close,1\n\
-         enq,2,17,10.0.0.1,10.0.0.2,5000,53,1000,0\n\
-         deq,3\n\
-         close,4\n",
-        "accepted,0,0\n\
-         closed\n\
-         refused,closed\n\
-         sent,0,0\n\
-         refused,closed\n\
-         totals,1,1000,1,1000,0,0,0,0,0,0,closed\n\
-         tuple,17,10.0.0.1,10.0.0.2,5000,53,0,1,1,0,0\n",
-    )?;
+    let ran = expect_run(&rt, one_flow(), EARLY_CLOSE, EARLY_CLOSE_REPORT)?;
     let outcomes = [
         outcome(Answer::Accepted, 0, 1),
         outcome(Answer::Closed, 1, 2),

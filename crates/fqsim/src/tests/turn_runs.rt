@@ -11,33 +11,34 @@ fn small_quantum() -> ParamFields {
     fields
 }
 
+/// Two packets of each of two flows, longer and shorter than the quantum.
+const TWO_FLOWS: &str = "enq,0,17,10.0.0.1,10.0.0.2,5000,1,500,0\n\
+    enq,0,17,10.0.0.1,10.0.0.2,5000,1,500,0\n\
+    enq,0,17,10.0.0.1,10.0.0.2,5000,2,200,0\n\
+    enq,0,17,10.0.0.1,10.0.0.2,5000,2,200,0\n\
+    deq,1\n\
+    deq,1\n\
+    deq,1\n\
+    deq,1\n\
+    deq,1\n";
+
+/// The report of those packets: the second flow sends both while the first one owes bytes.
+const TWO_FLOWS_REPORT: &str = "accepted,0,1\n\
+    accepted,1,1\n\
+    accepted,2,2\n\
+    accepted,3,2\n\
+    sent,0,0\n\
+    sent,2,0\n\
+    sent,3,0\n\
+    sent,1,0\n\
+    idle\n\
+    totals,4,1400,4,1400,0,0,0,0,0,0,open\n\
+    tuple,17,10.0.0.1,10.0.0.2,5000,1,1,2,2,0,0\n\
+    tuple,17,10.0.0.1,10.0.0.2,5000,2,2,2,2,0,0\n";
+
 #[test]
 fn small_quantum_two_flows(rt: HostRuntime) -> Result<(), Fail> {
-    let ran = expect_run(
-        &rt,
-        small_quantum(),
-        "enq,0,17,10.0.0.1,10.0.0.2,5000,1,500,0\n\
-         enq,0,17,10.0.0.1,10.0.0.2,5000,1,500,0\n\
-         enq,0,17,10.0.0.1,10.0.0.2,5000,2,200,0\n\
-         enq,0,17,10.0.0.1,10.0.0.2,5000,2,200,0\n\
-         deq,1\n\
-         deq,1\n\
-         deq,1\n\
-         deq,1\n\
-         deq,1\n",
-        "accepted,0,1\n\
-         accepted,1,1\n\
-         accepted,2,2\n\
-         accepted,3,2\n\
-         sent,0,0\n\
-         sent,2,0\n\
-         sent,3,0\n\
-         sent,1,0\n\
-         idle\n\
-         totals,4,1400,4,1400,0,0,0,0,0,0,open\n\
-         tuple,17,10.0.0.1,10.0.0.2,5000,1,1,2,2,0,0\n\
-         tuple,17,10.0.0.1,10.0.0.2,5000,2,2,2,2,0,0\n",
-    )?;
+    let ran = expect_run(&rt, small_quantum(), TWO_FLOWS, TWO_FLOWS_REPORT)?;
     let outcomes = [
         outcome(Answer::Sent, 4, 5),
         outcome(Answer::Sent, 5, 6),
@@ -82,32 +83,33 @@ fn exact_credits_use_up(rt: HostRuntime) -> Result<(), Fail> {
     Ok(())
 }
 
+/// A packet of an old flow, and then one of a new flow.
+const OLD_AND_NEW: &str = "enq,0,17,10.0.0.1,10.0.0.2,5000,1,100,0\n\
+    deq,0\n\
+    enq,0,17,10.0.0.1,10.0.0.2,5000,2,100,0\n\
+    deq,0\n\
+    enq,0,17,10.0.0.1,10.0.0.2,5000,1,100,0\n\
+    enq,0,17,10.0.0.1,10.0.0.2,5000,3,100,0\n\
+    deq,0\n\
+    deq,0\n";
+
+/// The report of those packets: the new flow sends first.
+const OLD_AND_NEW_REPORT: &str = "accepted,0,1\n\
+    sent,0,0\n\
+    accepted,1,2\n\
+    sent,1,0\n\
+    accepted,2,1\n\
+    accepted,3,3\n\
+    sent,3,0\n\
+    sent,2,0\n\
+    totals,4,400,4,400,0,0,0,0,0,0,open\n\
+    tuple,17,10.0.0.1,10.0.0.2,5000,1,1,2,2,0,0\n\
+    tuple,17,10.0.0.1,10.0.0.2,5000,2,2,1,1,0,0\n\
+    tuple,17,10.0.0.1,10.0.0.2,5000,3,3,1,1,0,0\n";
+
 #[test]
 fn old_flow_waits_for_new(rt: HostRuntime) -> Result<(), Fail> {
-    let ran = expect_run(
-        &rt,
-        small_quantum(),
-        "enq,0,17,10.0.0.1,10.0.0.2,5000,1,100,0\n\
-         deq,0\n\
-         enq,0,17,10.0.0.1,10.0.0.2,5000,2,100,0\n\
-         deq,0\n\
-         enq,0,17,10.0.0.1,10.0.0.2,5000,1,100,0\n\
-         enq,0,17,10.0.0.1,10.0.0.2,5000,3,100,0\n\
-         deq,0\n\
-         deq,0\n",
-        "accepted,0,1\n\
-         sent,0,0\n\
-         accepted,1,2\n\
-         sent,1,0\n\
-         accepted,2,1\n\
-         accepted,3,3\n\
-         sent,3,0\n\
-         sent,2,0\n\
-         totals,4,400,4,400,0,0,0,0,0,0,open\n\
-         tuple,17,10.0.0.1,10.0.0.2,5000,1,1,2,2,0,0\n\
-         tuple,17,10.0.0.1,10.0.0.2,5000,2,2,1,1,0,0\n\
-         tuple,17,10.0.0.1,10.0.0.2,5000,3,3,1,1,0,0\n",
-    )?;
+    let ran = expect_run(&rt, small_quantum(), OLD_AND_NEW, OLD_AND_NEW_REPORT)?;
     let outcomes = [
         outcome(Answer::Accepted, 4, 5),
         outcome(Answer::Accepted, 5, 6),

@@ -41,81 +41,48 @@ fn no_words_are_the_standard(rt: HostRuntime) {
 }
 
 #[test]
-fn each_word(rt: HostRuntime) {
-    let standard = ParamFields::standard();
-    says(
-        &rt,
-        &["limit", "5"],
-        ParamFields {
-            limit: 5,
-            ..standard
-        },
-    );
-    says(
-        &rt,
-        &["flows", "6"],
-        ParamFields {
-            flows: 6,
-            ..standard
-        },
-    );
-    says(
-        &rt,
-        &["quantum", "7"],
-        ParamFields {
-            quantum: 7,
-            ..standard
-        },
-    );
-    says(&rt, &["mtu", "8"], ParamFields { mtu: 8, ..standard });
-    says(
-        &rt,
-        &["target", "9"],
-        ParamFields {
-            target: 9,
-            ..standard
-        },
-    );
-    says(
-        &rt,
-        &["interval", "10"],
-        ParamFields {
-            interval: 10,
-            ..standard
-        },
-    );
-    says(
-        &rt,
-        &["noecn"],
-        ParamFields {
-            ecn: EcnUse::Drop,
-            ..standard
-        },
-    );
-    says(
-        &rt,
-        &["ecn"],
-        ParamFields {
-            ecn: EcnUse::Mark,
-            ..standard
-        },
-    );
-    says(
-        &rt,
-        &["classify", "dport"],
-        ParamFields {
-            classify: Classify::Dport,
-            ..standard
-        },
-    );
-    says(
-        &rt,
-        &["classify", "hash"],
-        ParamFields {
-            classify: Classify::Hash,
-            ..standard
-        },
-    );
+fn each_number_and_time(rt: HostRuntime) {
+    let mut fields = ParamFields::standard();
+    fields.limit = 5;
+    says(&rt, &["limit", "5"], fields);
+
+    fields = ParamFields::standard();
+    fields.flows = 6;
+    says(&rt, &["flows", "6"], fields);
+
+    fields = ParamFields::standard();
+    fields.quantum = 7;
+    says(&rt, &["quantum", "7"], fields);
+
+    fields = ParamFields::standard();
+    fields.mtu = 8;
+    says(&rt, &["mtu", "8"], fields);
+
+    fields = ParamFields::standard();
+    fields.target = 9;
+    says(&rt, &["target", "9"], fields);
+
+    fields = ParamFields::standard();
+    fields.interval = 10;
+    says(&rt, &["interval", "10"], fields);
+}
+
+#[test]
+fn each_use_of_ecn(rt: HostRuntime) {
+    for (word, ecn) in [("noecn", EcnUse::Drop), ("ecn", EcnUse::Mark)] {
+        let mut fields = ParamFields::standard();
+        fields.ecn = ecn;
+        says(&rt, &[word], fields);
+    }
+}
+
+#[test]
+fn each_way_to_classify(rt: HostRuntime) {
+    for (word, classify) in [("dport", Classify::Dport), ("hash", Classify::Hash)] {
+        let mut fields = ParamFields::standard();
+        fields.classify = classify;
+        says(&rt, &["classify", word], fields);
+    }
 }
 
 #[test]
