@@ -46,7 +46,10 @@ fn expect_flows(
     let [first, second, third] = flows;
     let report = format!(in rt.alloc();
         "accepted,0,{first}\naccepted,1,{second}\naccepted,2,{third}\n\
-         totals,3,300,0,0,0,0,0,0,3,300,open\n"
+         totals,3,300,0,0,0,0,0,0,3,300,open\n\
+         tuple,17,10.0.0.1,10.0.0.2,5000,53,{first},1,0,0,1\n\
+         tuple,17,10.0.0.1,10.0.0.2,5001,53,{second},1,0,0,1\n\
+         tuple,6,10.0.0.1,10.0.0.2,5000,53,{third},1,0,0,1\n"
     )?;
     let mut trace = "enq,0,17,10.0.0.1,10.0.0.2,5000,53,100,0\n\
          enq,0,17,10.0.0.1,10.0.0.2,5001,53,100,0\n\
@@ -69,7 +72,9 @@ fn parameters_are_taken_from_the_words(rt: HostRuntime) -> Result<(), Fail> {
         .as_bytes();
     let words = ["trace", "classify", "dport", "flows", "4", "limit", "1"];
     let report = "accepted,0,1\naccepted,1,2\ndropped,1,overflow\n\
-         totals,2,300,0,0,0,1,200,0,1,100,open\n";
+         totals,2,300,0,0,0,1,200,0,1,100,open\n\
+         tuple,17,10.0.0.1,10.0.0.2,5000,1,1,1,0,0,1\n\
+         tuple,17,10.0.0.1,10.0.0.2,5000,6,2,1,0,1,0\n";
     expect_from(&rt, &words, &mut trace, 0, report, "")
 }
 
