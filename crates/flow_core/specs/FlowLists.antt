@@ -8,10 +8,12 @@ pub record FlowLists : Type 0 where
   pub new_flows : List ℕ
   pub old_flows : List ℕ
 
--- the same as callers see it, with the number of pushes that take no memory
+-- the same as callers see it, with the number of pushes that take no memory, and how often two flows' bytes were compared since the last
+-- clear
 pub record Holding : Type 0 where
   pub lists : FlowLists
   pub room : ℕ
+  pub comparisons : ℕ
 
 -- no packet, and no flow in a list
 abbrev pub no_flows : ℕ → FlowLists

@@ -16,6 +16,7 @@ holding_of f = record {
     old_flows = f.listed.old_flows;
   };
   room = f.chains.room;
+  comparisons = f.winners.comparisons;
 }
 
 -- The chains, the lists and the tree are of the same flows, the tree has the bytes of each queue, and each packet has a length in range.

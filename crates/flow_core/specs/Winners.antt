@@ -1,5 +1,5 @@
 -- The bytes that wait in each flow, and which flow has the most of them.
-use Rattle.std.specs.Prelude.{ℕ, ◌+◌, ◌^◌, ◌<◌, ◌≤◌, List, length, slice_index}
+use Rattle.std.specs.Prelude.{ℕ, ◌+◌, ◌*◌, ◌^◌, ◌<◌, ◌≤◌, List, length, slice_index}
 
 -- The bytes of each flow, that of flow 0 first, and how often two such counts were compared since the last clear.
 pub record ByteCounts : Type 0 where
@@ -18,7 +18,8 @@ pub record IsLevels (flows levels : ℕ) : Type 0 where
   pub enough : flows ≤ 2 ^ levels
   pub least : (fewer : ℕ) → flows ≤ 2 ^ fewer → levels ≤ fewer
 
--- From one count of comparisons to the next none was lost, and no more came than a tree over so many flows has levels.
-pub record CountsFew (flows old new : ℕ) : Type 0 where
+-- From one count of comparisons to the next none was lost, and for each of so many changes of one flow's bytes no more came than a tree
+-- over so many flows has levels.
+pub record CountsFew (flows changes old new : ℕ) : Type 0 where
   pub none_lost : old ≤ new
-  pub most : (levels : ℕ) → IsLevels flows levels → new ≤ old + levels
+  pub most : (levels : ℕ) → IsLevels flows levels → new ≤ old + changes * levels

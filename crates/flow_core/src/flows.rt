@@ -1,7 +1,8 @@
-ghost use Rattle.std.specs.Prelude.{◌≡◌, ◌+◌, ◌^◌, ◌<◌, ◌≤◌, ◌↔◌, [], ◌∷◌, ◌++◌, All, Contains, IfOk, IfSome, IsNone, IsTrue, OnErr, OnOk, drop, length, slice_get, take};
+ghost use Rattle.std.specs.Prelude.{◌≡◌, ◌+◌, ◌^◌, ◌<◌, ◌≤◌, ◌↔◌, [], ◌∷◌, ◌++◌, All, Contains, IfOk, IfSome, IsNone, IsTrue, OnErr, OnOk, drop, length, min, slice_get, take};
 ghost use Rattle.packet_core.specs.Packets.{IsLengthInRange};
 ghost use Rattle.flow_core.specs.Fattest.{IsFattest, bytes_at};
 ghost use Rattle.flow_core.specs.FlowLists.{AreListed, no_flows, queue_at, waiting_in, with_queue};
+ghost use Rattle.flow_core.specs.Winners.{CountsFew, IsLevels};
 
 use crate::chains::{Chains, MAX_WAITING};
 use crate::line::Line;
@@ -46,7 +47,7 @@ impl Flows {
     pub fn try_new(alloc: Global, flows: u32) -> Result<Flows, Memory>
         requires least { 1 ≤ flows }
         requires most { flows ≤ MAX_FLOWS }
-        ensures { IfOk result (λ f. f.lists ≡ no_flows flows) }
+        ensures { IfOk result (λ f. (f.lists ≡ no_flows flows) × (f.comparisons ≡ 0)) }
     {
         Ok(Flows {
             chains: Chains::try_new(alloc, flows)?,
@@ -64,28 +65,35 @@ impl Flows {
         ensures ok { OnOk result (pushes ≤ self.new.room) }
         ensures err { OnErr result (self.new ≡ self.old) }
         ensures missing { OnErr result (self.old.room < pushes) }
+        ensures comparisons { self.new.comparisons ≡ self.old.comparisons }
     {
         self.chains.reserve(pushes)
     }
 
-    /// A packet comes to the end of a flow's queue. It takes one of the room, and no memory.
+    /// A packet comes to the end of a flow's queue. It takes one of the room, and no memory. It makes at most `levels`
+    /// comparisons, and one at least where there are two flows or more.
     pub fn push(&mut self, flow: u32, waiting: Waiting)
         requires flow { flow < length self.old.lists.queues }
         requires room { 0 < self.old.room }
         requires size { waiting_in self.old.lists < MAX_WAITING }
         ensures lists { self.new.lists ≡ with_queue self.old.lists flow (queue_at self.old.lists flow ++ waiting ∷ []) }
         ensures room { self.new.room + 1 ≡ self.old.room }
+        ensures few_comparisons { CountsFew (length self.old.lists.queues) 1 self.old.comparisons self.new.comparisons }
+        ensures compares { 2 ≤ length self.old.lists.queues → min (self.old.comparisons + 1) u64.MAX ≤ self.new.comparisons }
     {
         let bytes = u64::from(waiting.packet.len());
         self.chains.push(flow, waiting);
         self.winners.add(flow, bytes);
     }
 
-    /// Takes the packet at the head of a flow's queue. None where the flow is empty.
+    /// Takes the packet at the head of a flow's queue, with at most `levels` comparisons. None, with no comparison,
+    /// where the flow is empty.
     pub fn pop(&mut self, flow: u32) -> Option<Waiting>
         requires { flow < length self.old.lists.queues }
         ensures head { result ≡ slice_get (queue_at self.old.lists flow) 0 }
-        ensures rest { self.new ≡ record self.old { lists = with_queue self.old.lists flow (drop 1 (queue_at self.old.lists flow)) } }
+        ensures rest { self.new ≡ record self.old { lists = with_queue self.old.lists flow (drop 1 (queue_at self.old.lists flow)); comparisons = self.new.comparisons } }
+        ensures few_comparisons { CountsFew (length self.old.lists.queues) 1 self.old.comparisons self.new.comparisons }
+        ensures none_compares { IsNone result → self.new.comparisons ≡ self.old.comparisons }
     {
         let waiting = self.chains.pop(flow)?;
         self.winners.take(flow, u64::from(waiting.packet.len()));
@@ -137,6 +145,30 @@ impl Flows {
         ensures lengths { All (All (λ w. IsLengthInRange w.packet.len)) self.now.lists.queues }
     {
         self.listed.flows()
+    }
+
+    /// The levels of the tree over the flows, from which the fattest one is read: the least number of doublings of one
+    /// that gives as many as there are flows. It is 0 for one flow, 10 for 1,024 and 16 for 65,536.
+    pub fn levels(&self) -> u32
+        ensures { IsLevels (length self.now.lists.queues) result }
+    {
+        self.winners.levels()
+    }
+
+    /// How often the bytes of two flows were compared since `clear_comparisons`, or since `try_new` before its first
+    /// call. A push, and a pop that gives a packet, make at most `levels` comparisons, and no other call makes any.
+    /// At `u64::MAX` the number stays there.
+    pub fn comparisons(&self) -> u64
+        ensures { result ≡ self.now.comparisons }
+    {
+        self.winners.comparisons()
+    }
+
+    /// Counts the comparisons from 0 again.
+    pub fn clear_comparisons(&mut self)
+        ensures { self.new ≡ record self.old { comparisons = 0 } }
+    {
+        self.winners.clear_comparisons();
     }
 
     /// The flow at the head of the list of new flows. None where that list is empty.

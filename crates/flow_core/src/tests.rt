@@ -3,7 +3,7 @@
 ghost use Rattle.std.specs.Prelude.{◌+◌, ◌^◌, ◌<◌};
 
 use crate::serving::serve_flow;
-use crate::{Flows, MAX_WAITING, Memory};
+use crate::{Flows, MAX_FLOWS, MAX_WAITING, Memory};
 use codel_core::{Codel, DropSink};
 use packet_core::{Ecn, EcnUse, FiveTuple, Ip, Packet, ParamFields, Params, Waiting};
 use std::process::Abort;
@@ -239,6 +239,49 @@ fn as_many_pushes_as_reserved(rt: HostRuntime) -> Result<(), Fail> {
     }
     assert_eq!(rt; flows.total_len(), 100);
     assert_eq!(rt; size(&rt, &flows, 0), (34, 51000));
+    Ok(())
+}
+
+#[test]
+fn a_push_into_either_of_two_flows_compares(rt: HostRuntime) -> Result<(), Fail> {
+    for flow in 0..2 {
+        let mut flows = Flows::try_new(rt.alloc(), 2)?;
+        assert_eq!(rt; flows.comparisons(), 0);
+        for id in 0..3 {
+            flows.clear_comparisons();
+            assert_eq!(rt; flows.comparisons(), 0);
+            push(&rt, &mut flows, flow, id, 100)?;
+            assert_eq!(rt; flows.comparisons(), 1);
+            assert_eq!(rt; flows.fattest(), Some(flow));
+            assert_eq!(rt; flows.comparisons(), 1);
+        }
+    }
+    Ok(())
+}
+
+#[test]
+fn pops_compare_where_there_is_a_packet(rt: HostRuntime) -> Result<(), Fail> {
+    let mut flows = Flows::try_new(rt.alloc(), 4)?;
+    push_all(&rt, &mut flows, &[(1, 100), (2, 1500)])?;
+    flows.clear_comparisons();
+    assert_eq!(rt; pop(&rt, &mut flows, 3), None);
+    assert_eq!(rt; flows.comparisons(), 0);
+    // Flow 2 falls below flow 1: both nodes above it get their winners anew.
+    assert_eq!(rt; pop(&rt, &mut flows, 2), Some(1));
+    assert_eq!(rt; flows.comparisons(), 2);
+    assert_eq!(rt; pop(&rt, &mut flows, 2), None);
+    assert_eq!(rt; flows.comparisons(), 2);
+    Ok(())
+}
+
+#[test]
+fn levels_over_the_flows(rt: HostRuntime) -> Result<(), Fail> {
+    for (count, levels) in [(1, 0), (2, 1), (3, 2), (1024, 10), (65536, 16)] {
+        assert!(rt; count >= 1);
+        assert!(rt; count <= MAX_FLOWS);
+        let flows = Flows::try_new(rt.alloc(), count)?;
+        assert_eq!(rt; flows.levels(), levels);
+    }
     Ok(())
 }
 

@@ -54,7 +54,7 @@ impl WinnerTree {
         requires flow { flow < length self.old.bytes }
         requires fits { slice_index self.old.bytes flow + bytes < 2 ^ 64 }
         ensures bytes { self.new.bytes ≡ slice_set self.old.bytes flow (slice_index self.old.bytes flow + bytes) }
-        ensures few_comparisons { CountsFew (length self.old.bytes) self.old.comparisons self.new.comparisons }
+        ensures few_comparisons { CountsFew (length self.old.bytes) 1 self.old.comparisons self.new.comparisons }
         ensures compares { 2 ≤ length self.old.bytes → min (self.old.comparisons + 1) u64.MAX ≤ self.new.comparisons }
     {
         self.bytes[flow as usize] += bytes;
@@ -66,7 +66,7 @@ impl WinnerTree {
         requires flow { flow < length self.old.bytes }
         requires there { bytes ≤ slice_index self.old.bytes flow }
         ensures bytes { self.new.bytes ≡ slice_set self.old.bytes flow (slice_index self.old.bytes flow - bytes) }
-        ensures few_comparisons { CountsFew (length self.old.bytes) self.old.comparisons self.new.comparisons }
+        ensures few_comparisons { CountsFew (length self.old.bytes) 1 self.old.comparisons self.new.comparisons }
     {
         self.bytes[flow as usize] -= bytes;
         lower(&self.bytes, &mut self.winners, &mut self.comparisons, flow);

@@ -66,9 +66,9 @@ some_from_map f (Some x) y e = (x, refl, (let same : y ≡ f x = cc in same))
 -- a flow whose queue was served, and whose credits are lessened
 pub flow_from_queue : (p : ParamFields) (now flow : ℕ) (old : Held) (codel codel' : CodelState) (book book' : Book) (s : Served) (flows' : Holding) (credits' : ℤ)
     → codel ≡ (account_at old.queues flow).codel
-    → ServesQueue p now flow (record { lists = old.queues.lists; room = old.room }) codel book (Some s) flows' codel' book'
+    → ServesQueue p now flow (record { lists = old.queues.lists; room = old.room; comparisons = old.comparisons }) codel book (Some s) flows' codel' book'
     → credits' ≡ (account_at old.queues flow).credits -ℤ pos s.waiting.packet.len
-    → ServesFlow p now flow old book (Some s) (record { queues = record { lists = flows'.lists; accounts = set old.queues.accounts flow (record { credits = credits'; codel = codel' }) }; arrived = old.arrived; room = flows'.room }) book'
+    → ServesFlow p now flow old book (Some s) (record { queues = record { lists = flows'.lists; accounts = set old.queues.accounts flow (record { credits = credits'; codel = codel' }) }; arrived = old.arrived; room = flows'.room; comparisons = flows'.comparisons }) book'
 flow_from_queue p now flow old codel codel' book book' s flows' credits' was q credits =
     let found = some_from_map (served q.mark) (slice_get (queue_at old.queues.lists flow) q.drops) s q.given in
     let len : s.waiting.packet.len ≡ found.0.packet.len = ap (λ (v : Served). v.waiting.packet.len) found.2 in
@@ -80,6 +80,7 @@ flow_from_queue p now flow old codel codel' book book' s flows' credits' was q c
       decides = rw (← was) q.decides;
       given = q.given;
       none = q.none;
-      rest = rw (q.rest, credits_are) refl;
+      rest = rw credits_are (ap (λ (h : Holding). record { queues = record { lists = h.lists; accounts = set old.queues.accounts flow (record { credits = spent ((account_at old.queues flow).credits) (slice_get (queue_at old.queues.lists flow) q.drops); codel = codel' }) }; arrived = old.arrived; room = h.room; comparisons = h.comparisons }) q.rest);
+      few_comparisons = q.few_comparisons;
       journal = q.journal;
     }

@@ -1,7 +1,7 @@
 -- How an acceptance keeps the flows and their journal.
 use Rattle.std.proofs.Common.{◌≡◌, ℕ, suc, ◌+◌, ◌-◌, ◌<◌, false, List, [], ◌∷◌, ◌++◌, drop, take, map, get_or, set, length, sum_by, None, refl, sym, ap, subst, ◌∙◌, arith, append_assoc, append-nil, length-append}
 use Rattle.std.specs.List.{AllByRecursion}
-use Rattle.std.proofs.lemmas.List.{length-map, length_push, take-append-drop}
+use Rattle.std.proofs.lemmas.List.{length-map, length-set, length_push, take-append-drop}
 use Rattle.std.proofs.lemmas.List.Elements.{recursion_from_All}
 use Rattle.std.proofs.lemmas.List.Sums.{sum_by-set}
 use Rattle.packet_core.specs.Packets.{PacketParts}
@@ -9,6 +9,7 @@ use Rattle.packet_core.specs.declared.flow.Seed.{Seed}
 use Rattle.packet_core.specs.declared.packet.Waiting.{Waiting}
 use Rattle.packet_core.specs.declared.params.ParamFields.{ParamFields}
 use Rattle.flow_core.specs.FlowLists.{queue_at}
+use Rattle.flow_core.specs.Winners.{CountsFew}
 use Rattle.sched_core.specs.declared.event.Cause.TheVariants as cause
 use Rattle.sched_core.specs.declared.event.Event.{Event}
 use Rattle.sched_core.specs.declared.event.Event.TheVariants.{Accepted}
@@ -25,11 +26,12 @@ use Rattle.sched_core.specs.History.{AreCounts, IsHistory}
 use Rattle.sched_core.specs.Kept.{IsBookKept}
 use Rattle.sched_core.specs.Overflow.{Overflow, batch_size}
 use Rattle.sched_core.specs.Overflow.Overflow.{fits, exceeds}
-use Rattle.sched_core.specs.Schedulers.{IsAdvanced}
+use Rattle.sched_core.specs.Schedulers.{ComparesFew, IsAdvanced}
 use Rattle.sched_core.specs.State.{refusal_of}
 use Rattle.sched_core.specs.Statistics.{length_named}
 use Rattle.sched_core.specs.Steps.{Admits, drop_event}
 use Rattle.sched_core.proofs.Appending.{all_found}
+use Rattle.sched_core.proofs.Comparing.{counts_on, few_compared}
 use Rattle.sched_core.proofs.Counting.{count_drops-accepted, counts_accept, counts_drops}
 use Rattle.sched_core.proofs.FairFifo.{arrives, fair_is_fifo}
 use Rattle.sched_core.proofs.FqCodel.{policy_drops}
@@ -160,12 +162,22 @@ module _ (p : ParamFields) (seed : Seed) (held mid new : Held) (book book' : Boo
             counts = counts_are;
           }
 
-    pub is_admitted : refusal_of (state_of held last false) (Enqueue moment lane packet) ≡ None → (turns room0 room : ℕ)
-        → IsAdvanced (record { params = p; seed = seed; standing = record { state = state_of held last false; events = book.events }; turns = turns; room = room0 }) (Enqueue moment lane packet) answer.Accepted
-        (record { params = p; seed = seed; standing = record { state = state_of new moment false; events = book'.events }; turns = turns; room = room })
-    is_admitted open' turns room0 room = record {
+    pub is_admitted : refusal_of (state_of held last false) (Enqueue moment lane packet) ≡ None → (turns before after room0 room : ℕ)
+        → IsAdvanced (record { params = p; seed = seed; standing = record { state = state_of held last false; events = book.events }; turns = turns; comparisons = before; room = room0 }) (Enqueue moment lane packet) answer.Accepted
+        (record { params = p; seed = seed; standing = record { state = state_of new moment false; events = book'.events }; turns = turns; comparisons = after; room = room })
+    is_admitted open' turns before after room0 room = record {
       advances = record { fits = open'; made = made d; makes = (refl, admits_of); journal = events_are };
       params = refl;
       seed = refl;
       turns = refl;
     }
+
+    -- the comparisons since the arrival
+    pub few_admitted : length held.queues.lists.queues ≡ p.flows → CountsFew (length held.queues.lists.queues) 1 0 mid.comparisons → (turns before room0 room : ℕ)
+        → ComparesFew (record { params = p; seed = seed; standing = record { state = state_of held last false; events = book.events }; turns = turns; comparisons = before; room = room0 })
+        (record { params = p; seed = seed; standing = record { state = state_of new moment false; events = book'.events }; turns = turns; comparisons = new.comparisons; room = room })
+    few_admitted flows came turns before room0 room =
+        let lost = packets_of d.batches in
+        let mid_flows : length mid.queues.lists.queues ≡ p.flows = ap (λ (s : FairQueues). length s.lists.queues) listed ∙ length-set held.queues.lists.queues flow (queue_at held.queues.lists flow ++ w ∷ []) ∙ flows in
+        let events : length book'.events ≡ length book.events + (1 + length lost) = omega (arith, ap length events_are, length-append book.events (made d), length-map lost (drop_event moment cause.Overflow)) in
+        few_compared _ _ (1 + length lost) events (counts_on p.flows 1 (length lost) 0 mid.comparisons new.comparisons (rw flows at came) (rw mid_flows at d.few_comparisons))

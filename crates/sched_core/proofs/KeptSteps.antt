@@ -17,7 +17,7 @@ use Rattle.sched_core.specs.declared.event.Event.{Event}
 use Rattle.sched_core.specs.declared.event.Event.TheVariants.{Sent, Closed}
 use Rattle.sched_core.specs.declared.run.Answer.TheVariants as answer
 use Rattle.sched_core.specs.declared.step.Step.TheVariants.{Dequeue, Close}
-use Rattle.sched_core.specs.Backlogs.{Held, ServesChain, shown_service}
+use Rattle.sched_core.specs.Backlogs.{Held, ServesChain, leaving, shown_service}
 use Rattle.sched_core.specs.Books.{Book, count_drops, count_sent, with_event}
 use Rattle.sched_core.specs.Disciplines.{given_packet, heads}
 use Rattle.sched_core.specs.FairQueueing.{dropped_in, given_in}
@@ -28,7 +28,7 @@ use Rattle.sched_core.specs.Happened.{acceptance_of, acceptances, fate_ids, is_a
 use Rattle.sched_core.specs.History.{AreCounts, IsHistory}
 use Rattle.sched_core.specs.Kept.{IsBookKept, closes_left}
 use Rattle.sched_core.specs.Calls.{sent_at}
-use Rattle.sched_core.specs.Schedulers.{IsServed}
+use Rattle.sched_core.specs.Schedulers.{ComparesFew, IsServed}
 use Rattle.sched_core.specs.State.{State, refusal_of}
 use Rattle.sched_core.specs.Statistics.{length_named}
 use Rattle.sched_core.specs.Steps.{Serves, dequeue_answer, drop_event, sent_events}
@@ -36,6 +36,7 @@ use Rattle.sched_core.specs.Turns.{Chain, Service, Turn}
 use Rattle.sched_core.specs.Turns.Turn.{used_up, emptied_new, emptied_old, serving}
 use Rattle.sched_core.proofs.FairFifo.{fair_is_fifo, queues_stay, split_at, within_from_packet}
 use Rattle.sched_core.proofs.Chains.{chain_bound}
+use Rattle.sched_core.proofs.Comparing.{few_compared}
 use Rattle.sched_core.proofs.Counting.{count_drops-accepted, counts_close, counts_drops, counts_send}
 use Rattle.sched_core.proofs.FqCodel.{policy_drops}
 use Rattle.sched_core.proofs.FqCodelRuns.{chain_as_many, flow_below}
@@ -132,6 +133,15 @@ module _ (p : ParamFields) (seed : Seed) where
       counts_send (count_drops cause.Codel book.counts s.dropped) (book.events ++ map (drop_event moment cause.Codel) s.dropped) s.given.waiting.id moment (sent_ecn s.given.mark s.given.waiting.packet.ecn) s.given.mark s.given.waiting.packet.len
       (rw (acceptances_stay book.events moment cause.Codel s.dropped) parts.1.0) dropped
 
+  -- the number of its events
+  length_of_serve : (book : Book) (moment : ℕ) (service : Option Service) → length ((with_sent (with_drops book moment cause.Codel (dropped_in service)) moment (option_map shown_service service)).events) ≡ length book.events + (length (dropped_in service) + length (given_packet (given_in service)))
+  length_of_serve book moment None = rw (append-nil book.events) (omega arith)
+  length_of_serve book moment (Some s) =
+      let all = length_push (book.events ++ map (drop_event moment cause.Codel) s.dropped) (Sent s.given.waiting.id moment (sent_ecn s.given.mark s.given.waiting.packet.ecn) s.given.mark) in
+      let drops = length-append book.events (map (drop_event moment cause.Codel) s.dropped) in
+      let each = length-map s.dropped (drop_event moment cause.Codel) in
+      omega arith
+
   -- a dequeue
   pub kept_serves : (held held' : Held) (book book' : Book) (last moment turns room : ℕ) (closed : Bool) (answer : Option Served) → ServesChain p moment held book turns answer held' book' → held'.arrived ≡ held.arrived → held'.room ≡ held.room → refusal_of (state_of held last closed) (Dequeue moment) ≡ None
       → IsBookKept p seed held book last closed room → IsBookKept p seed held' (with_sent book' moment answer) moment closed room
@@ -165,14 +175,6 @@ module _ (p : ParamFields) (seed : Seed) where
         counts = counts;
       })
     where
-      length_of_serve : (book : Book) (moment : ℕ) (service : Option Service) → length ((with_sent (with_drops book moment cause.Codel (dropped_in service)) moment (option_map shown_service service)).events) ≡ length book.events + (length (dropped_in service) + length (given_packet (given_in service)))
-      length_of_serve book moment None = rw (append-nil book.events) (omega arith)
-      length_of_serve book moment (Some s) =
-          let all = length_push (book.events ++ map (drop_event moment cause.Codel) s.dropped) (Sent s.given.waiting.id moment (sent_ecn s.given.mark s.given.waiting.packet.ecn) s.given.mark) in
-          let drops = length-append book.events (map (drop_event moment cause.Codel) s.dropped) in
-          let each = length-map s.dropped (drop_event moment cause.Codel) in
-          omega arith
-
       accepted_of_serve : (book : Book) (moment : ℕ) (service : Option Service) → (with_sent (with_drops book moment cause.Codel (dropped_in service)) moment (option_map shown_service service)).counts.accepted ≡ book.counts.accepted
       accepted_of_serve book moment None = refl
       accepted_of_serve book moment (Some s) = count_drops-accepted cause.Codel book.counts s.dropped
@@ -185,10 +187,10 @@ module _ (p : ParamFields) (seed : Seed) where
       flows_stay turns now old service new c = chain_as_many (fq_codel_policy p) (policy_drops p) turns now old service new c
 
   -- what is answered to a dequeue
-  pub is_served : (held held' : Held) (book book' : Book) (last moment turns0 turns room : ℕ) (closed : Bool) (answer : Option Served) (s : ServesChain p moment held book turns answer held' book') → held'.arrived ≡ held.arrived → AreSound held.queues → 0 < p.quantum → refusal_of (state_of held last closed) (Dequeue moment) ≡ None
-      → IsServed (record { params = p; seed = seed; standing = record { state = state_of held last closed; events = book.events }; turns = turns0; room = room }) moment (option_map (λ (s : Service). sent_at moment s.given) s.service)
-      (record { params = p; seed = seed; standing = record { state = state_of held' moment closed; events = (with_sent book' moment answer).events }; turns = turns; room = room })
-  is_served held held' book book' last moment turns0 turns room closed answer s arrived sound some fits =
+  pub is_served : (held held' : Held) (book book' : Book) (last moment turns0 turns before after room : ℕ) (closed : Bool) (answer : Option Served) (s : ServesChain p moment held book turns answer held' book') → held'.arrived ≡ held.arrived → AreSound held.queues → 0 < p.quantum → refusal_of (state_of held last closed) (Dequeue moment) ≡ None
+      → IsServed (record { params = p; seed = seed; standing = record { state = state_of held last closed; events = book.events }; turns = turns0; comparisons = before; room = room }) moment (option_map (λ (s : Service). sent_at moment s.given) s.service)
+      (record { params = p; seed = seed; standing = record { state = state_of held' moment closed; events = (with_sent book' moment answer).events }; turns = turns; comparisons = after; room = room })
+  is_served held held' book book' last moment turns0 turns before after room closed answer s arrived sound some fits =
       let sent = ap (with_sent book' moment) s.given ∙ ap (λ b. with_sent b moment (option_map shown_service s.service)) s.journal in
       record {
         gives = record {
@@ -213,6 +215,14 @@ module _ (p : ParamFields) (seed : Seed) where
       told None = refl
       told (Some s) = refl
 
+  -- the comparisons of a dequeue
+  pub few_served : (held held' : Held) (book book' : Book) (last moment turns0 turns before room : ℕ) (closed : Bool) (answer : Option Served) → ServesChain p moment held book turns answer held' book' → length held.queues.lists.queues ≡ p.flows → held.comparisons ≡ 0
+      → ComparesFew (record { params = p; seed = seed; standing = record { state = state_of held last closed; events = book.events }; turns = turns0; comparisons = before; room = room })
+      (record { params = p; seed = seed; standing = record { state = state_of held' moment closed; events = (with_sent book' moment answer).events }; turns = turns; comparisons = held'.comparisons; room = room })
+  few_served held held' book book' last moment turns0 turns before room closed answer s flows zero_before =
+      let sent = ap (with_sent book' moment) s.given ∙ ap (λ b. with_sent b moment (option_map shown_service s.service)) s.journal in
+      few_compared _ _ (leaving s.service) (ap (λ (b : Book). length b.events) sent ∙ length_of_serve book moment s.service) (rw (flows, zero_before) at s.few_comparisons)
+
   -- an answer that is there, and one that is not
   pub told_none : (moment : ℕ) (service : Option Service) → None ≡ option_map shown_service service → None ≡ option_map (λ (s : Service). sent_at moment s.given) service
   told_none moment None e = refl
@@ -235,6 +245,21 @@ module _ (p : ParamFields) (seed : Seed) where
           let one : length (given_packet (given_in s.service)) ≡ 1 = ap (λ (o : Option Service). length (given_packet (given_in o))) is in
           let space = h.space in
           omega arith
+
+  -- what is kept says nothing of comparisons
+  pub kept_counted : (held : Held) (book : Book) (last room comparisons : ℕ) (closed : Bool) → IsBookKept p seed held book last closed room → IsBookKept p seed (record held { comparisons = comparisons }) book last closed room
+  kept_counted held book last room comparisons closed h = record {
+    some = h.some;
+    flows = h.flows;
+    space = h.space;
+    reserved = h.reserved;
+    long = h.long;
+    accepted = h.accepted;
+    few = h.few;
+    soon = h.soon;
+    history = h.history;
+    counts = h.counts;
+  }
 
   -- a close
   pub kept_closes : (held : Held) (book : Book) (last moment room : ℕ) (closed : Bool) → refusal_of (state_of held last closed) (Close moment) ≡ None → IsBookKept p seed held book last closed room

@@ -19,6 +19,7 @@ pub mod NewFirst
 pub mod Sound
 pub mod Waiting
 pub mod FqCodelRuns
+pub mod Comparing
 pub mod Held
 pub mod Dropping
 pub mod Listing

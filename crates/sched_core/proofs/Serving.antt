@@ -1,11 +1,12 @@
 -- The turns of a dequeue, one after another.
-use Rattle.std.proofs.Common.{◌≡◌, ℕ, suc, ◌+◌, ◌<◌, ◌≤◌, ◌^◌, Option, Some, None, IsNone, IsSome, option_map, refl, sym, ap, subst, ◌∙◌, inl, inr, arith}
+use Rattle.std.proofs.Common.{◌≡◌, ℕ, suc, ◌+◌, ◌<◌, ◌≤◌, ◌^◌, length, Option, Some, None, IsNone, IsSome, option_map, refl, sym, ap, subst, ◌∙◌, inl, inr, arith}
 use Rattle.std.proofs.lemmas.Bool.{false≢true}
 use Rattle.packet_core.specs.declared.params.ParamFields.{ParamFields}
 use Rattle.codel_core.specs.declared.served.Served.{Served}
+use Rattle.flow_core.specs.Winners.{CountsFew}
 use Rattle.sched_core.specs.declared.backlog.Head.{Head as ShownHead}
 use Rattle.sched_core.specs.declared.event.Cause.TheVariants as cause
-use Rattle.sched_core.specs.Backlogs.{Held, MakesTurn, ServesChain, shown_head, shown_service}
+use Rattle.sched_core.specs.Backlogs.{Held, MakesTurn, ServesChain, leaving, shown_head, shown_service}
 use Rattle.sched_core.specs.Books.{Book}
 use Rattle.sched_core.specs.FairQueueing.{dropped_in}
 use Rattle.sched_core.specs.FairQueues.{AreSound, FairQueues, Head, head_of}
@@ -14,6 +15,7 @@ use Rattle.sched_core.specs.FqCodel.{fq_codel_policy}
 use Rattle.sched_core.specs.TurnBound.{turns_at_most}
 use Rattle.sched_core.specs.Turns.{Chain, Service, Turn}
 use Rattle.sched_core.proofs.Chains.{turn_lowers}
+use Rattle.sched_core.proofs.Comparing.{counts_behind, counts_none}
 use Rattle.sched_core.proofs.FairFifo.{queues_stay}
 use Rattle.sched_core.proofs.FqCodel.{policy_drops}
 
@@ -28,6 +30,7 @@ pub record IsOnChain (p : ParamFields) (now : ℕ) (old : Held) (book : Book) (t
   pub few : turns_at_most p.quantum old.queues ≤ 2 ^ 40
   pub sound : AreSound cur.queues
   pub head : next ≡ option_map shown_head (head_of cur.queues)
+  pub few_comparisons : CountsFew (length old.queues.lists.queues) 0 old.comparisons cur.comparisons
 
 module _ (p : ParamFields) (now : ℕ) (old : Held) (book : Book) where
   -- no turn yet
@@ -42,6 +45,7 @@ module _ (p : ParamFields) (now : ℕ) (old : Held) (book : Book) where
     few = few p.quantum some;
     sound = sound;
     head = head;
+    few_comparisons = counts_none (length old.queues.lists.queues) old.comparisons old.comparisons refl;
   }
 
   none_is : (answer : Option Served) → IsNone answer → answer ≡ None
@@ -71,6 +75,7 @@ module _ (p : ParamFields) (now : ℕ) (old : Held) (book : Book) where
           few = on.few;
           sound = sound;
           head = head;
+          few_comparisons = counts_behind (length old.queues.lists.queues) 0 old.comparisons cur.comparisons new.comparisons on.few_comparisons (rw (ap length on.queues, none) at t.few_comparisons);
         },
         omega arith,
       )
@@ -86,6 +91,7 @@ module _ (p : ParamFields) (now : ℕ) (old : Held) (book : Book) where
         chain = on.goes_on 1 (Some s) new.queues (inl (refl, s, refl, subst (λ o. Turn (fq_codel_policy p) now cur.queues o new.queues) is t.turn));
         given = t.given ∙ ap (option_map shown_service) is;
         journal = t.journal ∙ ap (λ o. with_drops book' now cause.Codel (dropped_in o)) is ∙ ap (λ (b : Book). with_drops b now cause.Codel s.dropped) on.journal;
+        few_comparisons = counts_behind (length old.queues.lists.queues) (leaving (Some s)) old.comparisons cur.comparisons new.comparisons on.few_comparisons (rw (ap length on.queues, is) at t.few_comparisons);
       }
 
   -- no flow is listed
@@ -98,6 +104,7 @@ module _ (p : ParamFields) (now : ℕ) (old : Held) (book : Book) where
         chain = subst (λ n. Chain (fq_codel_policy p) now old.queues n None cur.queues) e (on.goes_on 0 None cur.queues (unlisted, refl, refl));
         given = refl;
         journal = on.journal ∙ drops_none book now cause.Codel;
+        few_comparisons = on.few_comparisons;
       }
     where
       no_head : (h : Option Head) → None ≡ option_map shown_head h → h ≡ None

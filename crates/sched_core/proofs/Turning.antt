@@ -1,5 +1,5 @@
 -- What the code does in a turn is a turn of the definition.
-use Rattle.std.proofs.Common.{◌≡◌, ℕ, ◌+◌, [], drop, take, set, Option, Some, None, IfSome, IsNone, option_map, slice_get, ℤ, pos, ◌-ℤ◌, ◌≤ℤ◌, ◌<ℤ◌, refl, sym, ap, subst, ◌∙◌}
+use Rattle.std.proofs.Common.{◌≡◌, ℕ, ◌+◌, [], drop, length, min, take, set, arith, Option, Some, None, IfSome, IsNone, option_map, slice_get, ℤ, pos, ◌-ℤ◌, ◌≤ℤ◌, ◌<ℤ◌, refl, sym, ap, subst, ◌∙◌}
 use Rattle.std.proofs.lemmas.List.{set-get_or}
 use Rattle.packet_core.specs.declared.packet.Waiting.{Waiting}
 use Rattle.packet_core.specs.declared.params.ParamFields.{ParamFields}
@@ -9,6 +9,7 @@ use Rattle.codel_core.specs.declared.served.Mark.{Mark}
 use Rattle.codel_core.specs.declared.served.Served.{Served}
 use Rattle.codel_core.specs.declared.state.CodelState.{CodelState}
 use Rattle.flow_core.specs.FlowLists.{queue_at, with_queue}
+use Rattle.flow_core.specs.Winners.{CountsFew}
 use Rattle.sched_core.specs.declared.backlog.FlowList.{FlowList}
 use Rattle.sched_core.specs.declared.backlog.FlowList.TheVariants.{New, Old}
 use Rattle.sched_core.specs.declared.backlog.Head.{Head as ShownHead}
@@ -20,6 +21,7 @@ use Rattle.sched_core.specs.Fating.{drops_none, with_drops}
 use Rattle.sched_core.specs.FqCodel.{fq_codel_policy}
 use Rattle.sched_core.specs.Turns.{Service, Turn}
 use Rattle.sched_core.specs.Turns.Turn.{used_up, emptied_new, emptied_old, serving}
+use Rattle.sched_core.proofs.Comparing.{counts_none, found_leaves}
 use Rattle.sched_core.proofs.Held.{some_from_map}
 
 -- nothing is dropped of an empty queue
@@ -45,11 +47,12 @@ module _ (p : ParamFields) (now : ℕ) (old : Held) (shown : ShownHead) (at : op
         journal = drops_none book now cause.Codel;
         arrived = ap (λ (n : Held). n.arrived) new_is;
         room = ap (λ (n : Held). n.room) new_is;
+        few_comparisons = counts_none (length old.queues.lists.queues) old.comparisons new.comparisons (ap (λ (n : Held). n.comparisons) new_is);
       }
 
   -- a flow without packets: only its CoDel state changes
-  abbrev emptied_by : CodelState → Held
-  emptied_by codel = record old { queues = record { lists = old.queues.lists; accounts = set old.queues.accounts shown.flow (record (account_at old.queues shown.flow) { codel = codel }) } }
+  abbrev emptied_by : CodelState → ℕ → Held
+  emptied_by codel comparisons = record old { queues = record { lists = old.queues.lists; accounts = set old.queues.accounts shown.flow (record (account_at old.queues shown.flow) { codel = codel }) }; comparisons = comparisons }
 
   pub emptied_turn : (mid new : Held) (book book' : Book) (answer : Option Served) → pos 0 <ℤ (account_at old.queues shown.flow).credits → ServesFlow p now shown.flow old book answer mid book' → IsNone answer
       → IfSome (head_of mid.queues) (λ h. new ≡ with_lists mid (emptied_lists mid.queues h)) → MakesTurn p now old book answer new book'
@@ -59,10 +62,12 @@ module _ (p : ParamFields) (now : ℕ) (old : Held) (shown : ShownHead) (at : op
       let empty : queue_at old.queues.lists shown.flow ≡ [] = s.none.0 none in
       let decides = rw empty at s.decides in
       let zero_drops : s.drops ≡ 0 = nothing_dropped p now ((account_at old.queues shown.flow).codel) s.drops s.mark s.codel decides.verdict in
+      let none_left : min (s.drops + 1) (length (queue_at old.queues.lists shown.flow)) ≡ 0 = omega (arith, ap length empty) in
       let queues_stay : set old.queues.lists.queues shown.flow [] ≡ old.queues.lists.queues = ap (set old.queues.lists.queues shown.flow) (sym empty) ∙ set-get_or old.queues.lists.queues shown.flow [] in
-      let mid_is : mid ≡ record old { queues = record { lists = old.queues.lists; accounts = set old.queues.accounts shown.flow (record (account_at old.queues shown.flow) { codel = s.codel }) } } = rw (s.rest, empty, zero_drops) (λ i. record { queues = record { lists = record { queues = queues_stay i; new_flows = old.queues.lists.new_flows; old_flows = old.queues.lists.old_flows }; accounts = set old.queues.accounts shown.flow (record (account_at old.queues shown.flow) { codel = s.codel }) }; arrived = old.arrived; room = old.room }) in
-      let left' : IfSome (head_of old.queues) (λ h. new ≡ with_lists (emptied_by s.codel) (emptied_lists (emptied_by s.codel).queues h)) = subst (λ (m : Held). IfSome (head_of m.queues) (λ h. new ≡ with_lists m (emptied_lists m.queues h))) mid_is gone in
-      let new_is : new ≡ with_lists (emptied_by s.codel) (emptied_lists (emptied_by s.codel).queues found.0) = subst (λ o. IfSome o (λ h. new ≡ with_lists (emptied_by s.codel) (emptied_lists (emptied_by s.codel).queues h))) found.1 left' in
+      let rest = rw (empty, zero_drops) at s.rest in
+      let mid_is : mid ≡ emptied_by s.codel mid.comparisons = rest ∙ (λ i. record { queues = record { lists = record { queues = queues_stay i; new_flows = old.queues.lists.new_flows; old_flows = old.queues.lists.old_flows }; accounts = set old.queues.accounts shown.flow (record (account_at old.queues shown.flow) { codel = s.codel }) }; arrived = old.arrived; room = old.room; comparisons = mid.comparisons }) in
+      let left' : IfSome (head_of old.queues) (λ h. new ≡ with_lists (emptied_by s.codel mid.comparisons) (emptied_lists (emptied_by s.codel mid.comparisons).queues h)) = subst (λ (m : Held). IfSome (head_of m.queues) (λ h. new ≡ with_lists m (emptied_lists m.queues h))) mid_is gone in
+      let new_is : new ≡ with_lists (emptied_by s.codel mid.comparisons) (emptied_lists (emptied_by s.codel mid.comparisons).queues found.0) = subst (λ o. IfSome o (λ h. new ≡ with_lists (emptied_by s.codel mid.comparisons) (emptied_lists (emptied_by s.codel mid.comparisons).queues h))) found.1 left' in
       let verdict : Decides p now [] (account_at old.queues shown.flow).codel 0 s.mark s.codel = subst (λ k. Decides p now [] (account_at old.queues shown.flow).codel k s.mark s.codel) zero_drops decides in
       let given : answer ≡ option_map (served s.mark) (slice_get [] s.drops) = rw empty at s.given in
       let told : book' ≡ with_drops book now cause.Codel [] = s.journal ∙ ap (λ q. with_drops book now cause.Codel (take s.drops q)) empty ∙ ap (λ k. with_drops book now cause.Codel (take k [])) zero_drops in
@@ -73,10 +78,11 @@ module _ (p : ParamFields) (now : ℕ) (old : Held) (shown : ShownHead) (at : op
         journal = told;
         arrived = ap (λ (n : Held). n.arrived) new_is;
         room = ap (λ (n : Held). n.room) new_is;
+        few_comparisons = rw (ap (λ (n : Held). n.comparisons) new_is) (subst (λ k. CountsFew (length old.queues.lists.queues) k old.comparisons mid.comparisons) none_left s.few_comparisons);
       }
     where
       by_list : (h : Head) → head_of old.queues ≡ Some h → shown.flow ≡ h.flow → pos 0 <ℤ (account_at old.queues shown.flow).credits → queue_at old.queues.lists shown.flow ≡ [] → (mark : Mark) (codel : CodelState) → Decides p now [] (account_at old.queues shown.flow).codel 0 mark codel
-          → (from : FlowList) → h.from ≡ from → new.queues ≡ (with_lists (emptied_by codel) (lists_by from (emptied_by codel).queues h)).queues → Turn (fq_codel_policy p) now old.queues None new.queues
+          → (from : FlowList) → h.from ≡ from → new.queues ≡ (with_lists (emptied_by codel mid.comparisons) (lists_by from (emptied_by codel mid.comparisons).queues h)).queues → Turn (fq_codel_policy p) now old.queues None new.queues
       by_list h at' flow some empty mark codel verdict New is e =
           emptied_new h at' is (subst (λ f. pos 0 <ℤ (account_at old.queues f).credits) flow some) (subst (λ f. queue_at old.queues.lists f ≡ []) flow empty) mark codel (subst (λ f. Decides p now [] (account_at old.queues f).codel 0 mark codel) flow verdict) refl
           (e ∙ ap (λ f. record { lists = to_old old.queues h; accounts = set old.queues.accounts f (record (account_at old.queues f) { codel = codel }) }) flow)
@@ -110,4 +116,5 @@ module _ (p : ParamFields) (now : ℕ) (old : Held) (shown : ShownHead) (at : op
             journal = s.journal;
             arrived = ap (λ (n : Held). n.arrived) s.rest;
             room = ap (λ (n : Held). n.room) s.rest;
+            few_comparisons = subst (λ k. CountsFew (length old.queues.lists.queues) k old.comparisons new.comparisons) (found_leaves (queue_at old.queues.lists shown.flow) s.drops w is) s.few_comparisons;
           }

@@ -20,6 +20,7 @@ scheduler_of s = record {
     events = s.journal.events;
   };
   turns = s.turns;
+  comparisons = s.backlog.comparisons;
   room = s.room;
 }
 

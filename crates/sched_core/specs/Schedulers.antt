@@ -1,6 +1,7 @@
-use Rattle.std.specs.Prelude.{◌≡◌, ℕ, ◌≤◌, [], Option, option_map}
+use Rattle.std.specs.Prelude.{◌≡◌, ℕ, ◌-◌, ◌*◌, ◌≤◌, [], length, Option, option_map}
 use Rattle.packet_core.specs.declared.flow.Seed.{Seed}
 use Rattle.packet_core.specs.declared.params.ParamFields.{ParamFields}
+use Rattle.flow_core.specs.Winners.{IsLevels}
 use Rattle.sched_core.specs.declared.run.Answer.{Answer}
 use Rattle.sched_core.specs.declared.step.Sent.{Sent}
 use Rattle.sched_core.specs.declared.step.Step.{Step}
@@ -13,13 +14,14 @@ use Rattle.sched_core.specs.State.{opening_state}
 use Rattle.sched_core.specs.TurnBound.{turns_at_most}
 use Rattle.sched_core.specs.Turns.{Chain, Service}
 
--- A scheduler as callers see it: what it was made with, its state and its journal, the turns of the last dequeue that wasn't refused, and
--- how many enqueues more take no memory.
+-- A scheduler as callers see it: what it was made with, its state and its journal, the turns of the last dequeue that wasn't refused, the
+-- comparisons of two flows' bytes in the last step that wasn't refused, and how many enqueues more take no memory.
 pub record Scheduler : Type 0 where
   pub params : ParamFields
   pub seed : Seed
   pub standing : Standing FairQueues
   pub turns : ℕ
+  pub comparisons : ℕ
   pub room : ℕ
 
 -- before the first step
@@ -29,6 +31,7 @@ new_scheduler p seed = record {
   seed = seed;
   standing = record { state = opening_state (no_queues p.flows); events = [] };
   turns = 0;
+  comparisons = 0;
   room = 0;
 }
 
@@ -59,3 +62,9 @@ pub record IsServed (old : Scheduler) (moment : ℕ) (sent : Option Sent) (new :
   pub params : new.params ≡ old.params
   pub seed : new.seed ≡ old.seed
   pub room : new.room ≡ old.room
+
+-- A step compared the bytes of two flows at most as often, for each event of its own, as a tree over the flows has levels.
+pub record ComparesFew (old new : Scheduler) : Type 0 where
+  pub levels : ℕ
+  pub over_flows : IsLevels old.params.flows levels
+  pub most : new.comparisons ≤ levels * (length new.standing.events - length old.standing.events)

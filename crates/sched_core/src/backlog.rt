@@ -1,6 +1,7 @@
-ghost use Rattle.std.specs.Prelude.{◌≡◌, ℕ, ◌+◌, ◌^◌, ◌<◌, ◌≤◌, IfOk, IfSome, OnErr, OnOk, Some, length, option_map, pos, take, ◌<ℤ◌, ◌≤ℤ◌};
+ghost use Rattle.std.specs.Prelude.{◌≡◌, ℕ, ◌+◌, ◌^◌, ◌<◌, ◌≤◌, IfOk, IfSome, OnErr, OnOk, Some, length, min, option_map, pos, take, ◌<ℤ◌, ◌≤ℤ◌};
 ghost use Rattle.codel_core.specs.Schedule.{IsStateInRange};
 ghost use Rattle.flow_core.specs.FlowLists.{queue_at, waiting_in};
+ghost use Rattle.flow_core.specs.Winners.{CountsFew};
 ghost use Rattle.sched_core.specs.Backlogs.{DropsOverflow, MakesTurn, ServesChain, ServesFlow, ServesQueue, emptied_lists, list_of, shown_head, with_arrival_listed, with_credits_raised, with_lists, without_head};
 ghost use Rattle.sched_core.specs.Fating.{with_drops};
 ghost use Rattle.sched_core.specs.Shown.{flow_shown};
@@ -69,7 +70,7 @@ impl Backlog {
     pub(crate) fn try_new(alloc: Global, flows: u32) -> Result<Backlog, Memory>
         requires least { 1 ≤ flows }
         requires most { flows ≤ 65536 }
-        ensures { IfOk result (λ b. (b.queues ≡ no_queues flows) × (b.arrived ≡ 0)) }
+        ensures { IfOk result (λ b. (b.queues ≡ no_queues flows) × (b.arrived ≡ 0) × (b.comparisons ≡ 0)) }
     {
         let account = Account {
             credits: 0,
@@ -88,6 +89,7 @@ impl Backlog {
         ensures queues { self.new.queues ≡ self.old.queues }
         ensures arrived { self.new.arrived ≡ self.old.arrived }
         ensures room { self.old.room ≤ self.new.room }
+        ensures comparisons { self.new.comparisons ≡ self.old.comparisons }
         ensures ok { OnOk result (arrivals ≤ self.new.room) }
         ensures err { OnErr result (self.new ≡ self.old) }
     {
@@ -99,6 +101,20 @@ impl Backlog {
         ensures { result ≡ self.now.arrived }
     {
         self.arrived
+    }
+
+    /// How often the bytes of two flows were compared since the last clear.
+    pub(crate) fn comparisons(&self) -> u64
+        ensures { result ≡ self.now.comparisons }
+    {
+        self.flows.comparisons()
+    }
+
+    /// Counts the comparisons from 0 again.
+    pub(crate) fn clear_comparisons(&mut self)
+        ensures { self.new ≡ record self.old { comparisons = 0 } }
+    {
+        self.flows.clear_comparisons();
     }
 
     /// How many packets wait.
@@ -153,6 +169,8 @@ impl Backlog {
         ensures queues { self.new.queues ≡ with_arrival_listed params.now self.old.queues flow waiting }
         ensures arrived { self.new.arrived ≡ self.old.arrived + 1 }
         ensures room { self.new.room + 1 ≡ self.old.room }
+        ensures few_comparisons { CountsFew (length self.old.queues.lists.queues) 1 self.old.comparisons self.new.comparisons }
+        ensures compares { 2 ≤ length self.old.queues.lists.queues → min (self.old.comparisons + 1) u64.MAX ≤ self.new.comparisons }
     {
         self.flows.push(flow, waiting);
         self.arrived += 1;
@@ -329,7 +347,8 @@ fn serve_queue(
 fn drop_batch(flows: &mut Flows, flow: u32, batch: u64, moment: u64, journal: &mut Journal)
     requires flow { flow < length flows.old.lists.queues }
     requires room { length (queue_at flows.old.lists flow) ≤ journal.old.room }
-    ensures flows { flows.new ≡ without_head flows.old flow batch }
+    ensures flows { flows.new ≡ without_head flows.old flow batch flows.new.comparisons }
+    ensures few_comparisons { CountsFew (length flows.old.lists.queues) (length (take batch (queue_at flows.old.lists flow))) flows.old.comparisons flows.new.comparisons }
     ensures journal { journal.new ≡ with_drops journal.old moment cause.Overflow (take batch (queue_at flows.old.lists flow)) }
 {
     for _ in 0..batch {

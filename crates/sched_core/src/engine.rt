@@ -38,7 +38,7 @@ impl Engine {
     ghost use Rattle.sched_core.specs.FairQueues.{queue_of};
     ghost use Rattle.sched_core.specs.JournalLaws.{JournalLaws, WaitWithoutFate};
     ghost use Rattle.sched_core.specs.Runs.{IsRunOf};
-    ghost use Rattle.sched_core.specs.Schedulers.{IsAdvanced, IsServed, discipline_of, flows_of};
+    ghost use Rattle.sched_core.specs.Schedulers.{ComparesFew, IsAdvanced, IsServed, discipline_of, flows_of};
     ghost use Rattle.sched_core.specs.Shown.{flow_shown};
     ghost use Rattle.sched_core.specs.State.{refusal_of, IsRefusal};
     ghost use Rattle.sched_core.specs.Statistics.{statistics};
@@ -83,6 +83,8 @@ impl Engine {
         ensures made { OnOk result (IsAdvanced self.old.sched (Enqueue moment lane packet) answer.Accepted self.new.sched) }
         ensures steps { OnOk result (self.new.steps ≡ self.old.steps ++ Enqueue moment lane packet ∷ []) }
         ensures room { OnOk result (self.new.room ≡ self.old.room - 1) }
+        ensures few_comparisons { OnOk result (ComparesFew self.old.sched self.new.sched) }
+        ensures compares { 2 ≤ self.old.sched.params.flows → OnOk result (1 ≤ self.new.sched.comparisons) }
 
         // Each refusal comes in its case, want of memory last, and changes nothing.
         ensures refused { IfErr result (IsRefusal (refusal_of self.old.sched.standing.state (Enqueue moment lane packet))) }
@@ -108,6 +110,7 @@ impl Engine {
         ensures made { IfOk result (λ sent. IsServed self.old.sched moment sent self.new.sched) }
         ensures steps { OnOk result (self.new.steps ≡ self.old.steps ++ Dequeue moment ∷ []) }
         ensures room { OnOk result (self.new.room ≡ self.old.room - 1) }
+        ensures few_comparisons { OnOk result (ComparesFew self.old.sched self.new.sched) }
         ensures refused { IfErr result (IsRefusal (refusal_of self.old.sched.standing.state (Dequeue moment))) }
         ensures reserved { 0 < self.old.room → OnErr result (refusal_of self.old.sched.standing.state (Dequeue moment) ≢ None) }
         ensures unchanged { OnErr result (self.new ≡ self.old) }
@@ -127,6 +130,7 @@ impl Engine {
         ensures made { OnOk result (IsAdvanced self.old.sched (Close moment) answer.Closed self.new.sched) }
         ensures steps { OnOk result (self.new.steps ≡ self.old.steps ++ Close moment ∷ []) }
         ensures room { OnOk result (self.new.room ≡ self.old.room - 1) }
+        ensures few_comparisons { OnOk result (ComparesFew self.old.sched self.new.sched) }
         ensures refused { IfErr result (IsRefusal (refusal_of self.old.sched.standing.state (Close moment))) }
         ensures reserved { 0 < self.old.room → OnErr result (refusal_of self.old.sched.standing.state (Close moment) ≢ None) }
         ensures unchanged { OnErr result (self.new ≡ self.old) }
@@ -166,6 +170,16 @@ impl Engine {
         ensures { result ≡ self.now.sched.turns }
     {
         self.sched.turns()
+    }
+
+    /// How often the last step that wasn't refused compared the bytes of two flows, and 0 before the first. For each
+    /// event of the step it is at most the least number of doublings of one that gives as many as there are flows:
+    /// 10 for 1,024 flows. So a dequeue that finds no packet makes none. An enqueue makes one at least where there are
+    /// two flows or more.
+    pub fn comparisons(&self) -> u64
+        ensures { result ≡ self.now.sched.comparisons }
+    {
+        self.sched.comparisons()
     }
 
     /// What is kept of a flow, by its number.

@@ -74,7 +74,7 @@ impl Sched {
     ghost use Rattle.sched_core.specs.Calls.{admitted_at, close_refusal};
     ghost use Rattle.sched_core.specs.FairQueues.{queue_of};
     ghost use Rattle.sched_core.specs.JournalLaws.{JournalLaws, WaitWithoutFate};
-    ghost use Rattle.sched_core.specs.Schedulers.{IsAdvanced, IsServed, discipline_of, flows_of, new_scheduler};
+    ghost use Rattle.sched_core.specs.Schedulers.{ComparesFew, IsAdvanced, IsServed, discipline_of, flows_of, new_scheduler};
     ghost use Rattle.sched_core.specs.Shown.{flow_shown};
     ghost use Rattle.sched_core.specs.State.{enqueue_refusal_of, refusal_of, IsRefusal};
     ghost use Rattle.sched_core.specs.Statistics.{statistics};
@@ -128,6 +128,8 @@ impl Sched {
         ensures admitted { IfOk result (λ a. a ≡ admitted_at (discipline_of self.old) self.old.standing.state moment packet) }
         ensures made { OnOk result (IsAdvanced self.old (Enqueue moment lane packet) answer.Accepted self.new) }
         ensures room { OnOk result (self.new.room ≡ self.old.room - 1) }
+        ensures few_comparisons { OnOk result (ComparesFew self.old self.new) }
+        ensures compares { 2 ≤ self.old.params.flows → OnOk result (1 ≤ self.new.comparisons) }
 
         // Each refusal comes in its case, want of memory last, and changes nothing.
         ensures refused { IfErr result (IsRefusal (refusal_of self.old.standing.state (Enqueue moment lane packet))) }
@@ -148,6 +150,8 @@ impl Sched {
         ensures admitted { result ≡ admitted_at (discipline_of self.old) self.old.standing.state moment packet }
         ensures made { IsAdvanced self.old (Enqueue moment lane packet) answer.Accepted self.new }
         ensures room { self.new.room + 1 ≡ self.old.room }
+        ensures few_comparisons { ComparesFew self.old self.new }
+        ensures compares { 2 ≤ self.old.params.flows → 1 ≤ self.new.comparisons }
     {
         let waiting = Waiting {
             id: self.backlog.arrived(),
@@ -155,6 +159,7 @@ impl Sched {
             packet,
         };
         let flow = flow_of(&self.params, &self.seed, &packet.tuple());
+        self.backlog.clear_comparisons();
         self.backlog.arrive(flow, waiting, &self.params);
         self.journal.accept(&waiting, lane, flow);
         self.backlog
@@ -173,11 +178,13 @@ impl Sched {
     /// refuses a moment of 2^60 or more or before the last one.
     pub fn dequeue(&mut self, moment: u64) -> Result<Option<Sent>, MomentFault>
         ensures made { IfOk result (λ sent. IsServed self.old moment sent self.new) }
+        ensures few_comparisons { OnOk result (ComparesFew self.old self.new) }
         ensures refused { IfErr result (λ fault. refusal_of self.old.standing.state (Dequeue moment) ≡ Some (refusal.Moment fault)) }
         ensures unchanged { OnErr result (self.new ≡ self.old) }
     {
         test_moment(moment, self.last_moment)?;
         self.last_moment = moment;
+        self.backlog.clear_comparisons();
         let serving = self.backlog.serve(moment, &self.params, &mut self.journal);
         self.turns = serving.turns;
         let next = serving.served;
@@ -194,10 +201,12 @@ impl Sched {
     pub fn close(&mut self, moment: u64) -> Result<(), CloseFault>
         ensures made { OnOk result (IsAdvanced self.old (Close moment) answer.Closed self.new) }
         ensures room { self.new.room ≡ self.old.room }
+        ensures few_comparisons { OnOk result (ComparesFew self.old self.new) }
         ensures refused { IfErr result (λ fault. refusal_of self.old.standing.state (Close moment) ≡ Some (close_refusal fault)) }
         ensures unchanged { OnErr result (self.new ≡ self.old) }
     {
         self.test_close(moment)?;
+        self.backlog.clear_comparisons();
         self.journal.close(moment);
         self.last_moment = moment;
         self.is_closed = true;
@@ -223,6 +232,16 @@ impl Sched {
         ensures { result ≡ self.now.turns }
     {
         self.turns
+    }
+
+    /// How often the last step that wasn't refused compared the bytes of two flows, and 0 before the first. For each
+    /// event of the step it is at most the least number of doublings of one that gives as many as there are flows:
+    /// 10 for 1,024 flows. So a dequeue that finds no packet makes none. An enqueue makes one at least where there are
+    /// two flows or more.
+    pub fn comparisons(&self) -> u64
+        ensures { result ≡ self.now.comparisons }
+    {
+        self.backlog.comparisons()
     }
 
     /// What is kept of a flow, by its number.

@@ -2,7 +2,8 @@ use super::schedulers::{
     PORT, accepted, arrive, dropped, expect_events, expect_idle, expect_sent, four_flows, one_flow,
     scheduler,
 };
-use sched_core::Cause;
+use sched_core::{Cause, Sched};
+use std::process::Abort;
 use std::test::Fail;
 
 #[test]
@@ -62,5 +63,33 @@ fn tie_goes_to_least_flow(rt: HostRuntime) -> Result<(), Fail> {
     assert_eq!(rt; sched.turns(), 2);
     expect_idle(&rt, &mut sched, 0)?;
     assert_eq!(rt; sched.turns(), 3);
+    Ok(())
+}
+
+/// The last step compared the bytes of two flows so often.
+fn expect_comparisons(rt: &impl Abort, sched: &Sched, least: u64, most: u64) {
+    let comparisons = sched.comparisons();
+    assert!(rt;
+        comparisons >= least,
+        "{comparisons} are fewer than {least}"
+    );
+    assert!(rt; comparisons <= most, "{comparisons} are more than {most}");
+}
+
+#[test]
+fn two_comparisons_at_most_for_each_event(rt: HostRuntime) -> Result<(), Fail> {
+    let mut fields = four_flows();
+    fields.limit = 1;
+    let mut sched = scheduler(&rt, fields)?;
+    expect_comparisons(&rt, &sched, 0, 0);
+    arrive(&mut sched, 1, 1, 100)?;
+    expect_comparisons(&rt, &sched, 1, 2);
+    // It is accepted, and one is dropped.
+    arrive(&mut sched, 2, 1, 100)?;
+    expect_comparisons(&rt, &sched, 2, 4);
+    expect_sent(&rt, &mut sched, 0, 1)?;
+    expect_comparisons(&rt, &sched, 1, 2);
+    expect_idle(&rt, &mut sched, 0)?;
+    expect_comparisons(&rt, &sched, 0, 0);
     Ok(())
 }

@@ -78,6 +78,10 @@ fn exact_credits_use_up(rt: HostRuntime) -> Result<(), Fail> {
     )?;
     // Credits of 0 are used up: each flow got a quantum more and became old, and the first has sent from there.
     assert_eq!(rt; ran.engine.turns(), 2);
+
+    // The flow with the most bytes lost them: by two comparisons at most, among four flows, the next such flow is found.
+    assert!(rt; ran.engine.comparisons() >= 1);
+    assert!(rt; ran.engine.comparisons() <= 2);
     expect_flow(&rt, &ran, 1, in_time(0, 0, 0));
     expect_flow(&rt, &ran, 2, in_time(0, 0, 300));
     Ok(())
