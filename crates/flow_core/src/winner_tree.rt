@@ -1,6 +1,6 @@
 //! The bytes that wait in each flow, and the flow that has the most, in a tree of winners. A change of one flow's
 //! bytes is a walk from its leaf towards the root, and the winner of all flows is read at the root.
-ghost use Rattle.std.specs.Prelude.{◌≡◌, ℕ, [], ◌+◌, ◌-◌, ◌*◌, ◌%◌, ◌^◌, ◌<◌, ◌≤◌, ◌↔◌, All, IfOk, IfSome, IsNone, length, min, replicate, slice_index, slice_set, vec_len};
+ghost use Rattle.std.specs.Prelude.{◌≡◌, ℕ, [], ◌+◌, ◌-◌, ◌*◌, ◌%◌, ◌/◌, ◌^◌, ◌<◌, ◌≤◌, ◌↔◌, All, IfOk, IfSome, IsNone, length, min, replicate, slice_index, slice_set, vec_len};
 ghost use Rattle.flow_core.specs.Winners.{CountsFew, HasMostBytes, IsLevels};
 ghost use Rattle.flow_core.specs.WinnerNodes.{AreWinners, HasFallen, HasGrown, HasLeaves, IsPowerOfTwo};
 
@@ -208,6 +208,22 @@ fn better_of_pair(bytes: &[u64], comparisons: &mut u64, flow: u32) -> u32
     better(bytes, comparisons, left, left + 1)
 }
 
+// The winners at a node and at the one beside it, the left one first. The node's own is handed in, so that no climb
+// waits for what it wrote last.
+fn pair_with(winners: &[u32], node: usize, winner: u32) -> (u32, u32)
+    requires within { 2 * (node / 2) + 1 < length winners.now }
+    requires winner { winner ≡ slice_index winners.now node }
+    ensures left { result.0 ≡ slice_index winners.now (2 * (node / 2)) }
+    ensures right { result.1 ≡ slice_index winners.now (2 * (node / 2) + 1) }
+{
+    let beside = winners[node + 1 - 2 * (node % 2)];
+    if node % 2 == 0 {
+        (winner, beside)
+    } else {
+        (beside, winner)
+    }
+}
+
 // A flow's count grew: it wins at each node above its leaf, up to the first where another flow still does.
 fn raise(bytes: &[u64], winners: &mut [u32], comparisons: &mut u64, flow: u32)
     requires flow { flow < length bytes.now }
@@ -230,10 +246,11 @@ fn raise(bytes: &[u64], winners: &mut [u32], comparisons: &mut u64, flow: u32)
     }
     winners[node] = flow;
     while node > 1 {
+        let (left, right) = pair_with(winners, node, flow);
         node /= 2;
         // Where it won already it still does, with nothing to compare.
         if winners[node] != flow {
-            if better(bytes, comparisons, winners[2 * node], winners[2 * node + 1]) != flow {
+            if better(bytes, comparisons, left, right) != flow {
                 return;
             }
             winners[node] = flow;
@@ -254,12 +271,15 @@ fn lower(bytes: &[u64], winners: &mut [u32], comparisons: &mut u64, flow: u32)
     if node == 0 || winners[node] != flow {
         return;
     }
-    winners[node] = better_of_pair(bytes, comparisons, flow);
+    let mut winner = better_of_pair(bytes, comparisons, flow);
+    winners[node] = winner;
     while node > 1 {
+        let (left, right) = pair_with(winners, node, winner);
         node /= 2;
         if winners[node] != flow {
             return;
         }
-        winners[node] = better(bytes, comparisons, winners[2 * node], winners[2 * node + 1]);
+        winner = better(bytes, comparisons, left, right);
+        winners[node] = winner;
     }
 }

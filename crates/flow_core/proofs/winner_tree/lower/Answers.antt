@@ -1,4 +1,5 @@
-use Rattle.std.proofs.Common.{◌+◌, length, set, arith}
+use Rattle.std.proofs.Common.{◌+◌, ◌/◌, length, set, sym, arith}
+use Rattle.std.proofs.lemmas.List.{get_or-set_same}
 use Rattle.flow_core.proofs.Climbing.{pair_of_leaves, pair_within}
 use Rattle.flow_core.proofs.Winning.{apart_fallen, climbs_first, climbs_next, climbs_none, few_by, fell_from, next_wins, pair_wins, stops_fallen}
 use Rattle.flow_core.proofs.winner_tree.lower.Goals as goal
@@ -23,19 +24,22 @@ loop-node-init c =
     let w = c.args.winners.now in
     let bytes = c.args.bytes.now in
     let flow = c.args.flow in
-    let pair = c.better_of_pair in
+    let pair = c.better_of_pair-winner in
     let old = set bytes flow c.requires.fallen.before in
     let fell = fell_from bytes w flow c.requires.fallen c.requires.flow in
     let won = pair_wins bytes (length w) flow pair.result c.requires.leaves.doubled (omega arith) (omega arith) pair.ensures.right pair.ensures.left in
-    climbs_first old bytes w flow pair.result c.args.comparisons.now pair.new.comparisons c.requires.leaves.doubled (apart_fallen old bytes (length w) flow fell) c.requires.fallen.right
-    (omega arith) (omega arith) won pair.ensures.counted pair.ensures.none_lost
+    let leaves = pair_of_leaves (length w) flow c.requires.leaves.doubled (omega arith) (omega arith) in (
+      climbs_first old bytes w flow pair.result c.args.comparisons.now pair.new.comparisons c.requires.leaves.doubled (apart_fallen old bytes (length w) flow fell) c.requires.fallen.right
+          (omega arith) (omega arith) won pair.ensures.counted pair.ensures.none_lost,
+      sym (get_or-set_same w ((length w + flow) / 2) pair.result 0 leaves.2),
+    )
 
 pub returns-then-winners-node-2-clause-winners : goal.returns-then-winners-node-2-clause-winners
 returns-then-winners-node-2-clause-winners c =
     let w = c.args.winners.now in
     let bytes = c.args.bytes.now in
     let flow = c.args.flow in
-    let climbs = c.loop-node.invariant in
+    let climbs = c.loop-node.invariant.0 in
     stops_fallen (set bytes flow c.requires.fallen.before) bytes w c.loop-node.winners flow c.loop-node.node climbs.levels
     (fell_from bytes w flow c.requires.fallen c.requires.flow) c.requires.fallen.right
     (omega arith) climbs.climbed (omega arith) (omega (arith, climbs.inner)) (omega arith) c.if-winners-node-2.true
@@ -43,11 +47,11 @@ returns-then-winners-node-2-clause-winners c =
 pub returns-then-winners-node-2-clause-few : goal.returns-then-winners-node-2-clause-few
 returns-then-winners-node-2-clause-few c levels power =
     few_by c.args.bytes.now c.args.winners.now c.loop-node.winners c.args.flow c.loop-node.node c.args.comparisons.now c.loop-node.comparisons levels
-    (omega arith) c.loop-node.invariant power
+    (omega arith) c.loop-node.invariant.0 power
 
-pub bounds-winners-node-in-loop-node-3 : goal.bounds-winners-node-in-loop-node-3
-bounds-winners-node-in-loop-node-3 c =
-    let climbs = c.loop-node.invariant in
+pub pair_with-left-requires-clause-within : goal.pair_with-left-requires-clause-within
+pair_with-left-requires-clause-within c =
+    let climbs = c.loop-node.invariant.0 in
     omega (arith, climbs.climbed.size, pair_within (length c.args.winners.now) c.loop-node.node c.requires.leaves.doubled (omega arith) climbs.inner)
 
 pub loop-node-preserved : goal.loop-node-preserved
@@ -55,15 +59,18 @@ loop-node-preserved c =
     let w = c.args.winners.now in
     let bytes = c.args.bytes.now in
     let flow = c.args.flow in
-    let climbs = c.loop-node.invariant in
+    let climbs = c.loop-node.invariant.0 in
     let old = set bytes flow c.requires.fallen.before in
     let apart = apart_fallen old bytes (length w) flow (fell_from bytes w flow c.requires.fallen c.requires.flow) in
-    let won = next_wins old bytes w c.loop-node.winners flow c.loop-node.node climbs.levels c.better.result c.requires.leaves.doubled
-    apart c.requires.fallen.right climbs.climbed (omega arith) climbs.inner c.better.ensures.right c.better.ensures.left in
-    climbs_next old bytes w c.loop-node.winners flow c.loop-node.node c.better.result c.args.comparisons.now c.loop-node.comparisons c.better.new.comparisons
-    apart c.requires.fallen.right climbs c.loop-node-test.true won c.better.ensures.none_lost (omega (arith, c.better.ensures.counted))
+    let pair = c.pair_with-left.ensures in
+    let won = next_wins old bytes w c.loop-node.winners flow c.loop-node.node climbs.levels c.better-winner.result c.requires.leaves.doubled
+    apart c.requires.fallen.right climbs.climbed (omega arith) climbs.inner (rw (pair.left, pair.right) at c.better-winner.ensures.right) (rw (pair.left, pair.right) at c.better-winner.ensures.left) in (
+      climbs_next old bytes w c.loop-node.winners flow c.loop-node.node c.better-winner.result c.args.comparisons.now c.loop-node.comparisons c.better-winner.new.comparisons
+          apart c.requires.fallen.right climbs c.loop-node-test.true won c.better-winner.ensures.none_lost (omega (arith, c.better-winner.ensures.counted)),
+      sym (get_or-set_same c.loop-node.winners (c.loop-node.node / 2) c.better-winner.result 0 (omega (arith, climbs.climbed.size, climbs.inner))),
+    )
 
 pub returns-clause-few : goal.returns-clause-few
 returns-clause-few c levels power =
     few_by c.args.bytes.now c.args.winners.now c.loop-node.winners c.args.flow c.loop-node.node c.args.comparisons.now c.loop-node.comparisons levels
-    (omega arith) c.loop-node.invariant power
+    (omega arith) c.loop-node.invariant.0 power
