@@ -1,3 +1,6 @@
+ghost use Rattle.std.specs.Prelude.{◌≡◌, ◌+◌, IfOk, nat_lt, if◌then◌else◌};
+ghost use Rattle.packet_core.specs.Params.{standard_fields};
+
 use crate::workload::{ROUNDS, Round, Workload};
 use packet_core::{
     Ecn, FiveTuple, Ip, LengthOutOfRange, Packet, ParamFields, ParamName, Params, Seed,
@@ -82,8 +85,13 @@ struct Traffic {
 }
 
 impl Traffic {
-    /// The next packet.
-    fn packet(&mut self) -> Result<Packet, LengthOutOfRange> {
+    /// The next packet, which goes to the next flow.
+    fn packet(&mut self) -> Result<Packet, LengthOutOfRange>
+        ensures packet { IfOk result (λ p. (p.tuple.dport ≡ self.old.next) × (p.len ≡ PACKET_BYTES) × (p.ecn ≡ self.old.ecn)) }
+        ensures next { self.new.next ≡ (if nat_lt (self.old.next + 1) self.old.busy then self.old.next + 1 else 0) }
+        ensures busy { self.new.busy ≡ self.old.busy }
+        ensures ecn { self.new.ecn ≡ self.old.ecn }
+    {
         let dport = self.next;
         let after = dport.wrapping_add(1);
         self.next = if after < self.busy { after } else { 0 };
@@ -114,7 +122,7 @@ fn nanoseconds(rt: &HostRuntime, workload: &Workload) -> Result<u128, Fault> {
         next: 0,
         ecn: workload.ecn,
     };
-    let mut sched = scheduler(rt, workload)?;
+    let mut sched = Sched::try_new(rt.alloc(), params_of(workload)?, Seed([0; 16]))?;
     let waiting = u64::from(workload.busy) * u64::from(workload.waiting);
     fill(&mut sched, &mut traffic, waiting)?;
     if matches!(workload.round, Round::Enqueue | Round::TwoEnqueuesDequeue) {
@@ -139,15 +147,16 @@ fn nanoseconds(rt: &HostRuntime, workload: &Workload) -> Result<u128, Fault> {
     Ok(begun.elapsed(rt)?.as_nanos())
 }
 
-/// A scheduler with the workload's parameters.
-fn scheduler(rt: &HostRuntime, workload: &Workload) -> Result<Sched, Fault> {
-    let params = Params::try_new(ParamFields {
+/// The workload's parameters, and otherwise the standard ones.
+fn params_of(workload: &Workload) -> Result<Params, ParamName>
+    ensures { IfOk result (λ p. p ≡ record standard_fields { limit = workload.now.limit; ecn = workload.now.ecn_use; classify = workload.now.classify }) }
+{
+    Params::try_new(ParamFields {
         limit: workload.limit,
         ecn: workload.ecn_use,
         classify: workload.classify,
         ..ParamFields::standard()
-    })?;
-    Ok(Sched::try_new(rt.alloc(), params, Seed([0; 16]))?)
+    })
 }
 
 /// That many packets come before the first round.
