@@ -4,11 +4,11 @@ use Rattle.std.proofs.Math.Nat.{suc-add, pow-suc}
 use Rattle.std.proofs.Math.Pow.{pow_mono}
 use Rattle.std.proofs.lemmas.Bool.{cases_lt}
 use Rattle.std.proofs.lemmas.Nat.{one_shl}
-use Rattle.flow_core.specs.WinnerNodes.{node_above, IsBelow, IsPowerOfTwo}
+use Rattle.flow_core.specs.WinnerNodes.{beside, node_above, IsBelow, IsPowerOfTwo}
 use Rattle.flow_core.specs.Winners.{IsLevels}
 
 -- a climb in two parts
-node_above-add : (m h node : ℕ) → node_above (m + h) node ≡ node_above m (node_above h node)
+pub node_above-add : (m h node : ℕ) → node_above (m + h) node ≡ node_above m (node_above h node)
 node_above-add zero h node = ap (λ (n : ℕ). node_above n node) (zero-add h)
 node_above-add (suc m) h node =
     ap (λ (n : ℕ). node_above n node) (suc-add m h) ∙ ap (λ (n : ℕ). n / 2) (node_above-add m h node)
@@ -181,6 +181,13 @@ pair_within leaves node doubled some inner = even doubled.exponent doubled.power
     even : (e : ℕ) → leaves ≡ 2 ^ e → 2 * (node / 2) + 1 < leaves
     even zero power = absurd (omega arith)
     even (suc e) power = let twice = rw (pow-suc 2 e) at power in omega arith
+
+-- the node beside an inner one, which is no node beside the root
+pub beside_within : (leaves node : ℕ) → IsPowerOfTwo leaves → 1 ≤ node → node < leaves → beside node < leaves
+beside_within leaves node doubled some inner = ⊎_elim
+    (λ (root : node < 2). omega arith)
+    (λ (below : 2 ≤ node). omega (arith, pair_within leaves node doubled below inner))
+    (cases_lt node 2)
 
 -- the two leaves below a node of the lowest level
 pub pair_of_leaves : (leaves flow : ℕ) → IsPowerOfTwo leaves → flow < leaves → 1 ≤ (leaves + flow) / 2

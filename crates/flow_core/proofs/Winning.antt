@@ -1,13 +1,13 @@
 -- The winner among the flows below each node of a tree, and a change of one flow's bytes.
-use Rattle.std.proofs.Common.{◌≡◌, ◌≢◌, ℕ, zero, suc, ◌+◌, ◌*◌, ◌/◌, ◌%◌, ◌-◌, ◌^◌, ◌<◌, ◌≤◌, List, [], All, length, get_or, replicate, set, min, refl, sym, ap, subst, ◌∙◌, ⊎_elim, arith, get_or-set_other, get_or-set_same, length-set}
+use Rattle.std.proofs.Common.{◌≡◌, ◌≢◌, ℕ, zero, suc, ◌+◌, ◌*◌, ◌/◌, ◌%◌, ◌^◌, ◌<◌, ◌≤◌, List, [], All, length, get_or, replicate, set, refl, sym, ap, subst, ◌∙◌, ⊎_elim, arith, get_or-set_other, get_or-set_same, length-set}
 use Rattle.std.proofs.Math.Nat.{pow-suc}
 use Rattle.std.proofs.Math.Pow.{pow_mono}
 use Rattle.std.proofs.lemmas.Bool.{cases_eq, cases_lt}
 use Rattle.std.proofs.lemmas.List.{get_or-replicate, get_or_past, length-replicate, set-get_or, set-set}
 use Rattle.std.proofs.lemmas.List.Elements.{All-from_get_or}
 use Rattle.flow_core.specs.Winners.{HasMostBytes, IsLevels}
-use Rattle.flow_core.specs.WinnerNodes.{AreWinners, AreWinnersFrom, HasFallen, HasGrown, HasLeaves, IsBelow, IsPowerOfTwo, IsWinner, node_above, WinsOver}
-use Rattle.flow_core.proofs.Climbing.{below_above, below_child, below_leaf, below_parent, below_root, further_up, leaf_has_one, left_before_right, level_within, not_between, pair_of_leaves, pair_within}
+use Rattle.flow_core.specs.WinnerNodes.{AreWinners, AreWinnersFrom, beside, HasFallen, HasGrown, HasLeaves, IsBelow, IsPowerOfTwo, IsWinner, node_above, WinsOver}
+use Rattle.flow_core.proofs.Climbing.{below_above, below_child, below_leaf, below_parent, below_root, beside_within, further_up, leaf_has_one, left_before_right, level_within, levels_small, node_above-add, not_between, pair_of_leaves, pair_within}
 
 -- a flow beside itself
 pub wins_over_self : (bytes : List ℕ) (a : ℕ) → WinsOver bytes a a
@@ -67,31 +67,65 @@ right_wins bytes leaves node a b doubled some inner left right more =
           (below_child leaves node other inner below);
     }
 
--- the better one of the winners of the two nodes under an inner one wins there
-better_wins : (bytes : List ℕ) (leaves node a b x : ℕ) → IsPowerOfTwo leaves → 1 ≤ node → node < leaves
-    → IsWinner bytes leaves (2 * node) a → IsWinner bytes leaves (2 * node + 1) b
-    → (get_or bytes a 0 < get_or bytes b 0 → x ≡ b) → (get_or bytes b 0 ≤ get_or bytes a 0 → x ≡ a) → IsWinner bytes leaves node x
-better_wins bytes leaves node a b x doubled some inner left right is_right is_left = ⊎_elim
-    (λ (less : get_or bytes a 0 < get_or bytes b 0).
-    subst (λ (o : ℕ). IsWinner bytes leaves node o) (sym (is_right less)) (right_wins bytes leaves node a b doubled some inner left right less))
-    (λ (more : get_or bytes b 0 ≤ get_or bytes a 0).
-    subst (λ (o : ℕ). IsWinner bytes leaves node o) (sym (is_left more)) (left_wins bytes leaves node a b doubled some inner left right more))
-    (cases_lt (get_or bytes a 0) (get_or bytes b 0))
+-- the winner at a node wins at the one above, where its bytes are enough beside those of the node's neighbour
+pub own_wins : (bytes : List ℕ) (leaves node a b : ℕ) → IsPowerOfTwo leaves → 2 ≤ node → node / 2 < leaves
+    → IsWinner bytes leaves node a → IsWinner bytes leaves (beside node) b → get_or bytes b 0 + node % 2 ≤ get_or bytes a 0 → IsWinner bytes leaves (node / 2) a
+own_wins bytes leaves node a b doubled some inner own other more = ⊎_elim
+    (λ (left : node % 2 ≡ 0).
+    let here : node ≡ 2 * (node / 2) = omega arith in
+    let there : beside node ≡ 2 * (node / 2) + 1 = omega arith in
+    left_wins bytes leaves (node / 2) a b doubled (omega arith) inner
+    (subst (λ (k : ℕ). IsWinner bytes leaves k a) here own) (subst (λ (k : ℕ). IsWinner bytes leaves k b) there other) (omega arith))
+    (λ (right : node % 2 ≢ 0).
+    let here : node ≡ 2 * (node / 2) + 1 = omega arith in
+    let there : beside node ≡ 2 * (node / 2) = omega arith in
+    right_wins bytes leaves (node / 2) b a doubled (omega arith) inner
+    (subst (λ (k : ℕ). IsWinner bytes leaves k b) there other) (subst (λ (k : ℕ). IsWinner bytes leaves k a) here own) (omega arith))
+    (cases_eq (node % 2) 0)
 
--- the better one of two flows below one node of the lowest level
-pub pair_wins : (bytes : List ℕ) (leaves flow x : ℕ) → IsPowerOfTwo leaves → flow < leaves → 1 ≤ (leaves + flow) / 2
-    → (get_or bytes (flow - flow % 2) 0 < get_or bytes (flow - flow % 2 + 1) 0 → x ≡ flow - flow % 2 + 1)
-    → (get_or bytes (flow - flow % 2 + 1) 0 ≤ get_or bytes (flow - flow % 2) 0 → x ≡ flow - flow % 2)
-    → IsWinner bytes leaves ((leaves + flow) / 2) x
-pair_wins bytes leaves flow x doubled within some is_right is_left =
-    let node = (leaves + flow) / 2 in
-    let left = flow - flow % 2 in
-    let pair = pair_of_leaves leaves flow doubled within some in
-    let there : leaves + left ≡ 2 * node = omega arith in
-    let beside : leaves + (left + 1) ≡ 2 * node + 1 = omega arith in
-    let at_left = subst (λ (k : ℕ). IsWinner bytes leaves k left) there (winner_at_leaf bytes leaves left (omega arith)) in
-    let at_right = subst (λ (k : ℕ). IsWinner bytes leaves k (left + 1)) beside (winner_at_leaf bytes leaves (left + 1) pair.1) in
-    better_wins bytes leaves node left (left + 1) x doubled some pair.2 at_left at_right is_right is_left
+-- else that neighbour wins there
+pub other_wins : (bytes : List ℕ) (leaves node a b : ℕ) → IsPowerOfTwo leaves → 2 ≤ node → node / 2 < leaves
+    → IsWinner bytes leaves node a → IsWinner bytes leaves (beside node) b → get_or bytes a 0 < get_or bytes b 0 + node % 2 → IsWinner bytes leaves (node / 2) b
+other_wins bytes leaves node a b doubled some inner own other less = ⊎_elim
+    (λ (left : node % 2 ≡ 0).
+    let here : node ≡ 2 * (node / 2) = omega arith in
+    let there : beside node ≡ 2 * (node / 2) + 1 = omega arith in
+    right_wins bytes leaves (node / 2) a b doubled (omega arith) inner
+    (subst (λ (k : ℕ). IsWinner bytes leaves k a) here own) (subst (λ (k : ℕ). IsWinner bytes leaves k b) there other) (omega arith))
+    (λ (right : node % 2 ≢ 0).
+    let here : node ≡ 2 * (node / 2) + 1 = omega arith in
+    let there : beside node ≡ 2 * (node / 2) = omega arith in
+    left_wins bytes leaves (node / 2) b a doubled (omega arith) inner
+    (subst (λ (k : ℕ). IsWinner bytes leaves k b) there other) (subst (λ (k : ℕ). IsWinner bytes leaves k a) here own) (omega arith))
+    (cases_eq (node % 2) 0)
+
+-- those two are no one flow
+pub both_apart : (bytes : List ℕ) (leaves node a b : ℕ) → IsPowerOfTwo leaves → 2 ≤ node → IsWinner bytes leaves node a → IsWinner bytes leaves (beside node) b → b ≢ a
+both_apart bytes leaves node a b doubled some own other same = ⊎_elim
+    (λ (left : node % 2 ≡ 0).
+    let here : node ≡ 2 * (node / 2) = omega arith in
+    let there : beside node ≡ 2 * (node / 2) + 1 = omega arith in
+    omega (
+      arith,
+      left_before_right leaves (node / 2) a b doubled (omega arith)
+          (subst (λ (k : ℕ). IsBelow leaves k a) here own.below) (subst (λ (k : ℕ). IsBelow leaves k b) there other.below),
+    ))
+    (λ (right : node % 2 ≢ 0).
+    let here : node ≡ 2 * (node / 2) + 1 = omega arith in
+    let there : beside node ≡ 2 * (node / 2) = omega arith in
+    omega (
+      arith,
+      left_before_right leaves (node / 2) b a doubled (omega arith)
+          (subst (λ (k : ℕ). IsBelow leaves k b) there other.below) (subst (λ (k : ℕ). IsBelow leaves k a) here own.below),
+    ))
+    (cases_eq (node % 2) 0)
+
+-- the flow beside one wins at its leaf
+pub beside_leaf : (bytes : List ℕ) (leaves flow : ℕ) → IsPowerOfTwo leaves → flow < leaves → 2 ≤ leaves + flow → IsWinner bytes leaves (beside (leaves + flow)) (beside flow)
+beside_leaf bytes leaves flow doubled within some =
+    let pair = pair_of_leaves leaves flow doubled within (omega arith) in
+    let there : leaves + beside flow ≡ beside (leaves + flow) = omega (arith, pair.0) in
+    subst (λ (k : ℕ). IsWinner bytes leaves k (beside flow)) there (winner_at_leaf bytes leaves (beside flow) (omega (arith, pair.1)))
 
 -- where no flow has bytes the left one wins
 first_wins : (leaves node a b : ℕ) → IsPowerOfTwo leaves → 1 ≤ node → node < leaves
@@ -261,19 +295,13 @@ climbs_on old new before winners after flow node levels apart were climbed some 
   rest = λ other less. let ne : other ≢ node / 2 = omega arith in others other ne ∙ climbed.rest other (omega arith);
 }
 
--- the better one of the winners of the two nodes under the next one wins there
-pub next_wins : (old new before winners : List ℕ) (flow node levels x : ℕ) → IsPowerOfTwo (length before) → KeptApart old new (length before) flow → AreWinners old before
-    → Climbed new before winners flow node levels → 2 ≤ node → node < length before
-    → (get_or new (get_or winners (2 * (node / 2)) 0) 0 < get_or new (get_or winners (2 * (node / 2) + 1) 0) 0 → x ≡ get_or winners (2 * (node / 2) + 1) 0)
-    → (get_or new (get_or winners (2 * (node / 2) + 1) 0) 0 ≤ get_or new (get_or winners (2 * (node / 2)) 0) 0 → x ≡ get_or winners (2 * (node / 2)) 0)
-    → IsWinner new (length before) (node / 2) x
-next_wins old new before winners flow node levels x doubled apart were climbed some inner is_right is_left =
-    let next = node / 2 in
-    let within = pair_within (length before) node doubled some inner in
+-- the node beside one of the climb holds its winner
+pub beside_wins : (old new before winners : List ℕ) (flow node levels : ℕ) → IsPowerOfTwo (length before) → KeptApart old new (length before) flow → AreWinners old before
+    → Climbed new before winners flow node levels → 2 ≤ node → node < length before → IsWinner new (length before) (beside node) (get_or winners (beside node) 0)
+beside_wins old new before winners flow node levels doubled apart were climbed some inner =
+    let within = beside_within (length before) node doubled (omega arith) inner in
     let past = right_past old new before winners flow node levels apart were climbed in
-    let at_left = rw climbed.size at (past (2 * next) (omega arith) (omega (arith, climbed.size))) in
-    let at_right = rw climbed.size at (past (2 * next + 1) (omega arith) (omega (arith, climbed.size))) in
-    better_wins new (length before) next (get_or winners (2 * next) 0) (get_or winners (2 * next + 1) 0) x doubled (omega arith) (omega arith) at_left at_right is_right is_left
+    rw climbed.size at (past (beside node) (omega arith) (omega (arith, climbed.size)))
 
 -- the winner at the next node isn't the flow that grew: no node above changes
 pub stops_grown : (old new before winners : List ℕ) (flow node levels x : ℕ) → OneGrew old new flow → AreWinners old before
@@ -337,9 +365,31 @@ root_grown old new winners flow doubled grew were more root node some within =
     let same : a ≡ flow = wins_both_ways old a flow (held.wins flow over) won in
     subst (λ (o : ℕ). WinsOver new o flow) (sym same) (wins_over_self new flow))
 
--- the climb has come to the root
-pub climbed_all : (bytes before winners : List ℕ) (flow node levels : ℕ) → Climbed bytes before winners flow node levels → node ≤ 1 → AreWinners bytes winners
-climbed_all bytes before winners flow node levels climbed least other some within = climbed.right other (omega arith) within
+-- who still wins at the root over the flow that grew
+pub root_kept : (old new winners : List ℕ) (flow : ℕ) → OneGrew old new flow → AreWinners old winners → 1 < length winners → WinsOver new (get_or winners 1 0) flow
+    → IsWinner new (length winners) 1 (get_or winners 1 0)
+root_kept old new winners flow grew were more over =
+    kept_grown old new (length winners) 1 flow (get_or winners 1 0) grew (were 1 (omega arith) more) (λ _. over)
+
+-- the flow that grew wins over the winner at the root, and so over each one
+pub root_beaten : (old new winners : List ℕ) (flow other : ℕ) → IsPowerOfTwo (length winners) → OneGrew old new flow → AreWinners old winners
+    → 1 < length winners → WinsOver new flow (get_or winners 1 0) → other < length winners → WinsOver new flow other
+root_beaten old new winners flow other doubled grew were more over within =
+    let root = get_or winners 1 0 in
+    let won : WinsOver old root other = (were 1 (omega arith) more).wins other (below_root doubled.exponent (length winners) other doubled.power within) in
+    let own = no_less old new flow root grew in
+    ⊎_elim
+    (λ (e : other ≡ flow). subst (λ (o : ℕ). WinsOver new flow o) (sym e) (wins_over_self new flow))
+    (λ (ne : other ≢ flow).
+    let same = grew.others other ne in
+    let result : WinsOver new flow other = record {
+      greatest = omega (arith, same, won.greatest, own, over.greatest);
+      least = λ less. ⊎_elim
+          (λ (before : other < root). omega (arith, same, won.least before, own, over.greatest))
+          (λ (after : root ≤ other). omega (arith, same, won.greatest, own, over.least (omega arith)))
+          (cases_lt other root);
+    } in result)
+    (cases_eq other flow)
 
 -- the counts before a flow's grew
 pub grew_from : (bytes winners : List ℕ) (flow : ℕ) (grown : HasGrown bytes winners flow) → flow < length bytes → OneGrew (set bytes flow grown.before) bytes flow
@@ -355,86 +405,73 @@ fell_from bytes winners flow fallen within = record {
   less = rw (get_or-set_same bytes flow fallen.before 0 within) fallen.more;
 }
 
--- A climb to an inner node, with its comparisons: one was made at least, and no more than levels were climbed.
-pub record Climbs (bytes before winners : List ℕ) (flow node old new : ℕ) : Type 0 where
+-- A climb from the flow's leaf to the node, with so many comparisons: no more than levels were climbed.
+pub record Climbs (bytes before winners : List ℕ) (flow node made : ℕ) : Type 0 where
   pub levels : ℕ
   pub climbed : Climbed bytes before winners flow node levels
-  pub some : 1 ≤ node
-  pub inner : node < length before
-  pub none_lost : old ≤ new
-  pub compared : min (old + 1) 18446744073709551615 ≤ new
-  pub few : new ≤ old + levels
+  pub within : node < length before + length before
+  pub few : made ≤ levels
 
--- the lowest node gets its winner
-pub climbs_first : (old new before : List ℕ) (flow x made more : ℕ) → IsPowerOfTwo (length before) → KeptApart old new (length before) flow → AreWinners old before
-    → flow < length before → 1 ≤ (length before + flow) / 2 → IsWinner new (length before) ((length before + flow) / 2) x
-    → more ≡ min (made + 1) 18446744073709551615 → made ≤ more
-    → Climbs new before (set before ((length before + flow) / 2) x) flow ((length before + flow) / 2) made more
-climbs_first old new before flow x made more doubled apart were within some winner counted none_lost =
-    let node = (length before + flow) / 2 in
-    let pair = pair_of_leaves (length before) flow doubled within some in
-    let inner : node < length before = pair.2 in
-    let same : get_or (set before node x) node 0 ≡ x = get_or-set_same before node x 0 inner in
-    let climbed = climbs_on old new before before (set before node x) flow (length before + flow) 0 apart were (climbs_none new before flow) some
-    (length-set before node x) (λ other ne. get_or-set_other before node other x 0 ne) (rw same winner) in
-    record { levels = 1; climbed = climbed; some = some; inner = inner; none_lost = none_lost; compared = omega arith; few = omega arith }
+-- it begins at the leaf
+pub climbs_from : (bytes before : List ℕ) (flow : ℕ) → flow < length before → Climbs bytes before before flow (length before + flow) 0
+climbs_from bytes before flow within = record { levels = 0; climbed = climbs_none bytes before flow; within = omega arith; few = omega arith }
 
--- the next node gets its winner, with one comparison more
-pub climbs_next : (old new before winners : List ℕ) (flow node x made most more : ℕ) → KeptApart old new (length before) flow → AreWinners old before
-    → Climbs new before winners flow node made most → 1 < node → IsWinner new (length before) (node / 2) x → most ≤ more → more ≤ most + 1
-    → Climbs new before (set winners (node / 2) x) flow (node / 2) made more
-climbs_next old new before winners flow node x made most more apart were climbs higher winner none_lost one =
+-- the next node gets its winner, with one comparison more or none
+pub climbs_next : (old new before winners : List ℕ) (flow node x made more : ℕ) → KeptApart old new (length before) flow → AreWinners old before
+    → Climbs new before winners flow node made → 1 < node → IsWinner new (length before) (node / 2) x → more ≤ made + 1
+    → Climbs new before (set winners (node / 2) x) flow (node / 2) more
+climbs_next old new before winners flow node x made more apart were climbs higher winner one =
     let next = node / 2 in
-    let inner : next < length winners = omega (arith, climbs.climbed.size, climbs.inner) in
+    let inner : next < length winners = omega (arith, climbs.climbed.size, climbs.within) in
     let same : get_or (set winners next x) next 0 ≡ x = get_or-set_same winners next x 0 inner in
     let climbed = climbs_on old new before winners (set winners next x) flow node climbs.levels apart were climbs.climbed (omega arith)
     (length-set winners next x) (λ other ne. get_or-set_other winners next other x 0 ne) (rw same winner) in
-    record {
-      levels = suc climbs.levels;
-      climbed = climbed;
-      some = omega arith;
-      inner = omega (arith, climbs.inner);
-      none_lost = omega (arith, climbs.none_lost);
-      compared = omega (arith, climbs.compared);
-      few = omega (arith, climbs.few);
-    }
+    record { levels = suc climbs.levels; climbed = climbed; within = omega (arith, climbs.within); few = omega (arith, climbs.few) }
 
--- the next node holds the flow that grew already
-pub climbs_past : (old new before winners : List ℕ) (flow node made more : ℕ) → OneGrew old new flow → AreWinners old before
-    → Climbs new before winners flow node made more → 1 < node → get_or winners (node / 2) 0 ≡ flow
-    → Climbs new before winners flow (node / 2) made more
-climbs_past old new before winners flow node made more grew were climbs higher held =
+-- the next node holds its winner already
+pub climbs_past : (old new before winners : List ℕ) (flow node made : ℕ) → KeptApart old new (length before) flow → AreWinners old before
+    → Climbs new before winners flow node made → 1 < node → IsWinner new (length before) (node / 2) (get_or winners (node / 2) 0)
+    → Climbs new before winners flow (node / 2) made
+climbs_past old new before winners flow node made apart were climbs higher winner =
+    let climbed = climbs_on old new before winners winners flow node climbs.levels apart were climbs.climbed (omega arith) refl (λ other ne. refl) winner in
+    record { levels = suc climbs.levels; climbed = climbed; within = omega (arith, climbs.within); few = omega (arith, climbs.few) }
+
+-- that winner, where it is the flow that grew
+pub still_wins : (old new before winners : List ℕ) (flow node made : ℕ) → OneGrew old new flow → AreWinners old before
+    → Climbs new before winners flow node made → 1 < node → get_or winners (node / 2) 0 ≡ flow → IsWinner new (length before) (node / 2) flow
+still_wins old new before winners flow node made grew were climbs higher held =
     let leaves = length before in
     let next = node / 2 in
     let was : get_or before next 0 ≡ flow = sym (climbs.climbed.rest next (omega arith)) ∙ held in
-    let won_before : IsWinner old leaves next flow = subst (λ (o : ℕ). IsWinner old leaves next o) was (were next (omega arith) (omega (arith, climbs.inner))) in
-    let won : IsWinner new leaves next flow = kept_grown old new leaves next flow flow grew won_before (λ _. wins_over_self new flow) in
-    let climbed = climbs_on old new before winners winners flow node climbs.levels (apart_grown old new leaves flow grew) were climbs.climbed (omega arith)
-    refl (λ other ne. refl) (subst (λ (o : ℕ). IsWinner new leaves next o) (sym held) won) in
-    record {
-      levels = suc climbs.levels;
-      climbed = climbed;
-      some = omega arith;
-      inner = omega (arith, climbs.inner);
-      none_lost = climbs.none_lost;
-      compared = climbs.compared;
-      few = omega (arith, climbs.few);
-    }
+    let won : IsWinner old leaves next flow = subst (λ (o : ℕ). IsWinner old leaves next o) was (were next (omega arith) (omega (arith, climbs.within))) in
+    kept_grown old new leaves next flow flow grew won (λ _. wins_over_self new flow)
 
--- the comparisons of a climb are no more than the levels of the tree
-pub few_by : (bytes before winners : List ℕ) (flow node made more levels : ℕ) → flow < length before → Climbs bytes before winners flow node made more
-    → length before ≡ 2 ^ levels → more ≤ made + levels
-few_by bytes before winners flow node made more levels within climbs power =
-    let low = level_within levels (length before) flow climbs.levels power within (rw climbs.climbed.height climbs.some) in
+-- a flow that wins over each one wins at each node of its climb
+pub wins_above : (bytes before winners : List ℕ) (flow node made : ℕ) → Climbs bytes before winners flow node made → flow < length before
+    → ((other : ℕ) → other < length before → WinsOver bytes flow other) → IsWinner bytes (length before) (node / 2) flow
+wins_above bytes before winners flow node made climbs within over = record {
+  below = record { within = within; levels = suc climbs.levels; meets = ap (λ (n : ℕ). n / 2) climbs.climbed.height };
+  wins = λ other below. over other below.within;
+}
+
+-- with so many levels left above, there are as many comparisons fewer than levels
+pub few_by : (bytes before winners : List ℕ) (flow node made left levels : ℕ) → flow < length before → Climbs bytes before winners flow node made
+    → 1 ≤ node_above left node → length before ≡ 2 ^ levels → made + left ≤ levels
+few_by bytes before winners flow node made left levels within climbs some power =
+    let top : node_above (left + climbs.levels) (length before + flow) ≡ node_above left node =
+    node_above-add left climbs.levels (length before + flow) ∙ ap (node_above left) climbs.climbed.height in
+    let low = level_within levels (length before) flow (left + climbs.levels) power within (rw top some) in
     omega (arith, climbs.few)
 
--- and those of a climb to the next node, with one more
-pub few_next : (bytes before winners : List ℕ) (flow node made most more levels : ℕ) → flow < length before → Climbs bytes before winners flow node made most
-    → 1 < node → more ≤ most + 1 → length before ≡ 2 ^ levels → more ≤ made + levels
-few_next bytes before winners flow node made most more levels within climbs higher one power =
-    let next : 1 ≤ node_above (suc climbs.levels) (length before + flow) = rw climbs.climbed.height (omega arith) in
-    let low = level_within levels (length before) flow (suc climbs.levels) power within next in
-    omega (arith, climbs.few)
+-- a tree has few levels
+pub few_levels : (flows leaves : ℕ) (has : HasLeaves flows leaves) → has.doubled.exponent < 17
+few_levels flows leaves has = levels_small has.doubled.exponent (omega (arith, has.most, has.doubled.power))
+
+-- so few comparisons are made
+pub few_made : (flows : ℕ) (bytes before winners : List ℕ) (flow node made : ℕ) → HasLeaves flows (length before) → flow < length before → Climbs bytes before winners flow node made
+    → 1 ≤ node → made < 17
+few_made flows bytes before winners flow node made has within climbs some =
+    omega (arith, few_by bytes before winners flow node made 0 has.doubled.exponent within climbs some has.doubled.power, few_levels flows (length before) has)
 
 -- the leaves of a tree of so many levels
 pub leaves_of : (flows leaves levels : ℕ) → IsLevels flows levels → flows ≤ 65536 → leaves ≡ 2 ^ levels → HasLeaves flows leaves
@@ -443,10 +480,6 @@ leaves_of flows leaves levels level few power = record {
   enough = omega (arith, level.enough);
   most = let wide : 2 ^ levels ≤ 2 ^ 16 = pow_mono {i = levels} {j = 16} (level.least 16 few) in omega arith;
 }
-
--- no two numbers of levels fit
-pub one_level : (flows a b : ℕ) → IsLevels flows a → IsLevels flows b → a ≡ b
-one_level flows a b first second = omega (arith, first.least b second.enough, second.least a first.enough)
 
 -- the counts of before one was written
 rewritten : (bytes winners : List ℕ) (flow more : ℕ) → AreWinners bytes winners → AreWinners (set (set bytes flow more) flow (get_or bytes flow 0)) winners

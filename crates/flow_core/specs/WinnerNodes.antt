@@ -1,12 +1,16 @@
 -- The nodes of a tree over the flows. Node 1 is the root, and a node stands over the node of twice its number and the one after. In a
 -- tree of so many leaves the leaf of a flow is the node of that number and the flow's added.
-use Rattle.std.specs.Prelude.{◌≡◌, ℕ, zero, suc, ◌+◌, ◌/◌, ◌^◌, ◌<◌, ◌≤◌, List, length, get_or, set}
+use Rattle.std.specs.Prelude.{◌≡◌, ℕ, zero, suc, ◌+◌, ◌-◌, ◌*◌, ◌/◌, ◌%◌, ◌^◌, ◌<◌, ◌≤◌, List, length, get_or, set}
 use Rattle.flow_core.specs.declared.flows.TheConstants.{MAX_FLOWS}
 
 -- the node so many levels above a node
 abbrev pub node_above : ℕ → ℕ → ℕ
 node_above zero node = node
 node_above (suc levels) node = node_above levels node / 2
+
+-- the other node below the same one, or the flow whose leaf stands there
+abbrev pub beside : ℕ → ℕ
+beside node = node + 1 - 2 * (node % 2)
 
 -- The number is a power of two.
 pub record IsPowerOfTwo (n : ℕ) : Type 0 where

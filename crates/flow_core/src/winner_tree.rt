@@ -1,8 +1,8 @@
 //! The bytes that wait in each flow, and the flow that has the most, in a tree of winners. A change of one flow's
-//! bytes is a walk from its leaf towards the root, and the winner of all flows is read at the root.
-ghost use Rattle.std.specs.Prelude.{◌≡◌, ℕ, [], ◌+◌, ◌-◌, ◌*◌, ◌%◌, ◌/◌, ◌^◌, ◌<◌, ◌≤◌, ◌↔◌, All, IfOk, IfSome, IsNone, length, min, replicate, slice_index, slice_set, vec_len};
+//! bytes is at most one walk between its leaf and the root, and the winner of all flows is read at the root.
+ghost use Rattle.std.specs.Prelude.{◌≡◌, ◌≢◌, ℕ, [], ◌+◌, ◌-◌, ◌*◌, ◌^◌, ◌<◌, ◌≤◌, ◌↔◌, All, IfOk, IfSome, IsNone, IsTrue, length, min, replicate, slice_index, slice_set, vec_len};
 ghost use Rattle.flow_core.specs.Winners.{CountsFew, HasMostBytes, IsLevels};
-ghost use Rattle.flow_core.specs.WinnerNodes.{AreWinners, HasFallen, HasGrown, HasLeaves, IsPowerOfTwo};
+ghost use Rattle.flow_core.specs.WinnerNodes.{AreWinners, beside, HasFallen, HasGrown, HasLeaves, IsPowerOfTwo, WinsOver};
 
 use crate::flows::{MAX_FLOWS, Memory};
 use std::alloc::Global;
@@ -14,8 +14,8 @@ use std::marker::Model;
 pub(crate) struct WinnerTree {
     bytes: Vec<u64>,
     // The winner among the flows below each inner node. Node 1 is the root, 2 * n and 2 * n + 1 are the nodes below
-    // node n, and place 0 is of no use. A flow's leaf takes no place: its node is the list's length and the flow's
-    // number, added.
+    // node n, and what stands at place 0 is of no use. A flow's leaf takes no place: its node is the list's length and
+    // the flow's number, added.
     winners: Vec<u32>,
     levels: u32,
     comparisons: u64,
@@ -52,13 +52,14 @@ impl WinnerTree {
     /// Bytes come to a flow.
     pub(crate) fn add(&mut self, flow: u32, bytes: u64)
         requires flow { flow < length self.old.bytes }
-        requires fits { slice_index self.old.bytes flow + bytes < 2 ^ 64 }
+        requires fits { slice_index self.old.bytes flow + bytes < 2 ^ 63 }
         ensures bytes { self.new.bytes ≡ slice_set self.old.bytes flow (slice_index self.old.bytes flow + bytes) }
         ensures few_comparisons { CountsFew (length self.old.bytes) 1 self.old.comparisons self.new.comparisons }
         ensures compares { 2 ≤ length self.old.bytes → min (self.old.comparisons + 1) u64.MAX ≤ self.new.comparisons }
     {
         self.bytes[flow as usize] += bytes;
-        raise(&self.bytes, &mut self.winners, &mut self.comparisons, flow);
+        let made = raise(&self.bytes, &mut self.winners, flow);
+        count(&mut self.comparisons, made);
     }
 
     /// Bytes leave a flow.
@@ -69,7 +70,8 @@ impl WinnerTree {
         ensures few_comparisons { CountsFew (length self.old.bytes) 1 self.old.comparisons self.new.comparisons }
     {
         self.bytes[flow as usize] -= bytes;
-        lower(&self.bytes, &mut self.winners, &mut self.comparisons, flow);
+        let made = lower(&self.bytes, &mut self.winners, flow);
+        count(&mut self.comparisons, made);
     }
 
     /// How many flows there are, from 1 to 65,536.
@@ -180,106 +182,136 @@ fn bytes_of(bytes: &[u64], flow: u32) -> u64
     bytes.get(flow as usize).copied().unwrap_or(0)
 }
 
-// Which of two flows has more bytes: where they have as many, the left one, whose number is less. Each comparison of
-// two counts is made here, and counted.
-fn better(bytes: &[u64], comparisons: &mut u64, left: u32, right: u32) -> u32
-    ensures right { slice_index bytes.now left < slice_index bytes.now right → result ≡ right }
-    ensures left { slice_index bytes.now right ≤ slice_index bytes.now left → result ≡ left }
-    ensures counted { comparisons.new ≡ min (comparisons.old + 1) u64.MAX }
-    ensures none_lost { comparisons.old ≤ comparisons.new }
+// So many comparisons more. At `u64::MAX` the number stays there.
+fn count(comparisons: &mut u64, made: u64)
+    ensures { comparisons.new ≡ min (comparisons.old + made) u64.MAX }
 {
-    *comparisons = comparisons.saturating_add(1);
-    if bytes_of(bytes, left) < bytes_of(bytes, right) {
-        right
-    } else {
-        left
-    }
+    *comparisons = comparisons.saturating_add(made);
 }
 
-// The better one of a flow and the flow beside it, below the same node.
-fn better_of_pair(bytes: &[u64], comparisons: &mut u64, flow: u32) -> u32
-    requires { flow + 1 < 2 ^ 32 }
-    ensures right { let left = flow - flow % 2 in slice_index bytes.now left < slice_index bytes.now (left + 1) → result ≡ left + 1 }
-    ensures left { let left = flow - flow % 2 in slice_index bytes.now (left + 1) ≤ slice_index bytes.now left → result ≡ left }
-    ensures counted { comparisons.new ≡ min (comparisons.old + 1) u64.MAX }
-    ensures none_lost { comparisons.old ≤ comparisons.new }
+// Whether a count wins over another one. `right` is 1 where the other one stands to the left, and so wins a tie, and
+// else 0: a sum, since a second condition would be a branch. Each comparison of two counts is made here, and counted.
+fn wins_over(comparisons: &mut u64, bytes: u64, other: u64, right: u64) -> bool
+    requires few { comparisons.old < 2 ^ 32 }
+    requires other { other < 2 ^ 63 }
+    requires right { right ≤ 1 }
+    ensures wins { IsTrue result ↔ (other + right ≤ bytes) }
+    ensures counted { comparisons.new ≡ comparisons.old + 1 }
 {
-    let left = flow - flow % 2;
-    better(bytes, comparisons, left, left + 1)
+    *comparisons += 1;
+    other + right <= bytes
 }
 
-// The winners at a node and at the one beside it, the left one first. The node's own is handed in, so that no climb
-// waits for what it wrote last.
-fn pair_with(winners: &[u32], node: usize, winner: u32) -> (u32, u32)
-    requires within { 2 * (node / 2) + 1 < length winners.now }
-    requires winner { winner ≡ slice_index winners.now node }
-    ensures left { result.0 ≡ slice_index winners.now (2 * (node / 2)) }
-    ensures right { result.1 ≡ slice_index winners.now (2 * (node / 2) + 1) }
+// The other flow below the same node of the lowest level.
+fn flow_beside(flow: u32) -> u32
+    ensures { result ≡ beside flow }
 {
-    let beside = winners[node + 1 - 2 * (node % 2)];
-    if node % 2 == 0 {
-        (winner, beside)
-    } else {
-        (beside, winner)
-    }
+    flow ^ 1
 }
 
-// A flow's count grew: it wins at each node above its leaf, up to the first where another flow still does.
-fn raise(bytes: &[u64], winners: &mut [u32], comparisons: &mut u64, flow: u32)
+// The winner at the node beside one, below the same node.
+fn winner_beside(winners: &[u32], node: usize) -> u32
+    requires within { beside node < length winners.now }
+    ensures { result ≡ slice_index winners.now (beside node) }
+{
+    winners[node ^ 1]
+}
+
+// A flow's count grew: it wins at each node above its leaf, up to the first where another flow still does. The result
+// is how often two counts were compared.
+fn raise(bytes: &[u64], winners: &mut [u32], flow: u32) -> u64
     requires flow { flow < length bytes.now }
+    requires small { All (λ b. b < 2 ^ 63) bytes.now }
     requires leaves { HasLeaves (length bytes.now) (length winners.old) }
     requires grown { HasGrown bytes.now winners.old flow }
     ensures winners { AreWinners bytes.now winners.new }
-    ensures none_lost { comparisons.old ≤ comparisons.new }
-    ensures few { (levels : ℕ) → length winners.old ≡ 2 ^ levels → comparisons.new ≤ comparisons.old + levels }
-    ensures compares { 2 ≤ length winners.old → min (comparisons.old + 1) u64.MAX ≤ comparisons.new }
+    ensures few { (levels : ℕ) → length winners.old ≡ 2 ^ levels → result ≤ levels }
+    ensures compares { 2 ≤ length winners.old → 1 ≤ result }
 {
-    let mut node = (winners.len() + flow as usize) / 2;
+    let mut node = winners.len() + flow as usize;
     // One flow has no node above its leaf.
-    if node == 0 {
-        return;
+    if node < 2 {
+        return 0;
     }
-    let pair = better_of_pair(bytes, comparisons, flow);
-    // Another flow still wins here, or this one won at the root already: no node changes.
-    if pair != flow || winners[1] == flow {
-        return;
+    let mut comparisons = 0;
+    let own = bytes[flow as usize];
+    let root = winners[1];
+    let most = bytes_of(bytes, root);
+    let right = u64::from(root < flow);
+    if !wins_over(&mut comparisons, own, most, right) {
+        return comparisons + climb(bytes, winners, flow);
     }
-    winners[node] = flow;
-    while node > 1 {
-        let (left, right) = pair_with(winners, node, flow);
-        node /= 2;
-        // Where it won already it still does, with nothing to compare.
-        if winners[node] != flow {
-            if better(bytes, comparisons, left, right) != flow {
-                return;
-            }
+    // It wins over the winner of all flows, and so over each one. Where it is that winner, no node changes.
+    if root != flow {
+        while node > 1 {
+            node /= 2;
             winners[node] = flow;
         }
     }
+    comparisons
 }
 
-// A flow's count fell: each node above its leaf gets its winner anew, up to the first where another flow won.
-fn lower(bytes: &[u64], winners: &mut [u32], comparisons: &mut u64, flow: u32)
+// The same where another flow still wins at the root, which isn't compared again.
+fn climb(bytes: &[u64], winners: &mut [u32], flow: u32) -> u64
     requires flow { flow < length bytes.now }
+    requires some { 2 ≤ length winners.old }
+    requires small { All (λ b. b < 2 ^ 63) bytes.now }
+    requires leaves { HasLeaves (length bytes.now) (length winners.old) }
+    requires grown { HasGrown bytes.now winners.old flow }
+    requires another { slice_index winners.old 1 ≢ flow }
+    requires loses { WinsOver bytes.now (slice_index winners.old 1) flow }
+    ensures winners { AreWinners bytes.now winners.new }
+    ensures few { (levels : ℕ) → length winners.old ≡ 2 ^ levels → result + 1 ≤ levels }
+{
+    let own = bytes[flow as usize];
+    let mut comparisons = 0;
+    let mut node = winners.len() + flow as usize;
+    let mut other = flow_beside(flow);
+    // The root stands over nodes 2 and 3.
+    while node > 3 {
+        let right = (node % 2) as u64;
+        node /= 2;
+        // Where it won already it still does, with nothing to compare.
+        if winners[node] != flow {
+            if !wins_over(&mut comparisons, own, bytes_of(bytes, other), right) {
+                return comparisons;
+            }
+            winners[node] = flow;
+        }
+        other = winner_beside(winners, node);
+    }
+    comparisons
+}
+
+// A flow's count fell: each node above its leaf gets its winner anew, up to the first where another flow won. The
+// result is how often two counts were compared.
+fn lower(bytes: &[u64], winners: &mut [u32], flow: u32) -> u64
+    requires flow { flow < length bytes.now }
+    requires small { All (λ b. b < 2 ^ 63) bytes.now }
     requires leaves { HasLeaves (length bytes.now) (length winners.old) }
     requires fallen { HasFallen bytes.now winners.old flow }
     ensures winners { AreWinners bytes.now winners.new }
-    ensures none_lost { comparisons.old ≤ comparisons.new }
-    ensures few { (levels : ℕ) → length winners.old ≡ 2 ^ levels → comparisons.new ≤ comparisons.old + levels }
+    ensures few { (levels : ℕ) → length winners.old ≡ 2 ^ levels → result ≤ levels }
 {
-    let mut node = (winners.len() + flow as usize) / 2;
-    if node == 0 || winners[node] != flow {
-        return;
-    }
-    let mut winner = better_of_pair(bytes, comparisons, flow);
-    winners[node] = winner;
+    let mut node = winners.len() + flow as usize;
+    let mut comparisons = 0;
+    // The winner so far and its bytes are carried along, so that no level waits for what the one below wrote.
+    let mut winner = flow;
+    let mut own = bytes[flow as usize];
+    let mut other = flow_beside(flow);
     while node > 1 {
-        let (left, right) = pair_with(winners, node, winner);
+        let right = (node % 2) as u64;
         node /= 2;
         if winners[node] != flow {
-            return;
+            return comparisons;
         }
-        winner = better(bytes, comparisons, left, right);
+        let other_bytes = bytes_of(bytes, other);
+        if !wins_over(&mut comparisons, own, other_bytes, right) {
+            winner = other;
+            own = other_bytes;
+        }
         winners[node] = winner;
+        other = winner_beside(winners, node);
     }
+    comparisons
 }

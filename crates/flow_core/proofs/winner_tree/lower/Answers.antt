@@ -1,76 +1,90 @@
-use Rattle.std.proofs.Common.{◌+◌, ◌/◌, length, set, sym, arith}
-use Rattle.std.proofs.lemmas.List.{get_or-set_same}
-use Rattle.flow_core.proofs.Climbing.{pair_of_leaves, pair_within}
-use Rattle.flow_core.proofs.Winning.{apart_fallen, climbs_first, climbs_next, climbs_none, few_by, fell_from, next_wins, pair_wins, stops_fallen}
+use Rattle.std.proofs.Common.{◌≡◌, ℕ, ◌/◌, ◌<◌, get_or, length, refl, set, arith, length-set}
+use Rattle.flow_core.specs.WinnerNodes.{IsWinner}
+use Rattle.flow_core.proofs.Climbing.{beside_within}
+use Rattle.flow_core.proofs.Winning.{apart_fallen, beside_leaf, beside_wins, climbs_from, climbs_next, few_by, few_made, fell_from, other_wins, own_wins, stops_fallen, winner_at_leaf}
 use Rattle.flow_core.proofs.winner_tree.lower.Goals as goal
-use Rattle.flow_core.proofs.winner_tree.lower.Goals.{then-node-eq0-via-then-node-eq0, then-node-eq0-via-else-node-eq0+then-winners-node}
-
-pub returns-then-node-eq0-clause-winners : goal.returns-then-node-eq0-clause-winners
-returns-then-node-eq0-clause-winners c =
-    let w = c.args.winners.now in
-    let bytes = c.args.bytes.now in
-    let flow = c.args.flow in
-    let old = set bytes flow c.requires.fallen.before in
-    elim c.then-node-eq0.branch [
-      | then-node-eq0-via-then-node-eq0 v ↦ λ node some within. absurd (omega arith)
-      | then-node-eq0-via-else-node-eq0+then-winners-node v ↦
-          let leaves = pair_of_leaves (length w) flow c.requires.leaves.doubled (omega arith) (omega arith) in
-          stops_fallen old bytes w w flow (length w + flow) 0 (fell_from bytes w flow c.requires.fallen c.requires.flow) c.requires.fallen.right
-          (omega arith) (climbs_none bytes w flow) (omega arith) leaves.2 (omega arith) v.if-winners-node.true
-    ]
+use Rattle.flow_core.proofs.winner_tree.lower.Goals.{then-not-wins_over, else-not-wins_over}
 
 pub loop-node-init : goal.loop-node-init
 loop-node-init c =
     let w = c.args.winners.now in
     let bytes = c.args.bytes.now in
     let flow = c.args.flow in
-    let pair = c.better_of_pair-winner in
-    let old = set bytes flow c.requires.fallen.before in
-    let fell = fell_from bytes w flow c.requires.fallen c.requires.flow in
-    let won = pair_wins bytes (length w) flow pair.result c.requires.leaves.doubled (omega arith) (omega arith) pair.ensures.right pair.ensures.left in
-    let leaves = pair_of_leaves (length w) flow c.requires.leaves.doubled (omega arith) (omega arith) in (
-      climbs_first old bytes w flow pair.result c.args.comparisons.now pair.new.comparisons c.requires.leaves.doubled (apart_fallen old bytes (length w) flow fell) c.requires.fallen.right
-          (omega arith) (omega arith) won pair.ensures.counted pair.ensures.none_lost,
-      sym (get_or-set_same w ((length w + flow) / 2) pair.result 0 leaves.2),
-    )
+    let within : flow < length w = omega arith in
+    record {
+      climbs = climbs_from bytes w flow within;
+      some = omega arith;
+      carried = refl;
+      own = winner_at_leaf bytes (length w) flow within;
+      other = λ some. rw c.flow_beside-other.ensures (beside_leaf bytes (length w) flow c.requires.leaves.doubled within some);
+    }
 
-pub returns-then-winners-node-2-clause-winners : goal.returns-then-winners-node-2-clause-winners
-returns-then-winners-node-2-clause-winners c =
+pub returns-then-winners-node-clause-winners : goal.returns-then-winners-node-clause-winners
+returns-then-winners-node-clause-winners c =
     let w = c.args.winners.now in
     let bytes = c.args.bytes.now in
     let flow = c.args.flow in
-    let climbs = c.loop-node.invariant.0 in
+    let climbs = c.loop-node.invariant.climbs in
     stops_fallen (set bytes flow c.requires.fallen.before) bytes w c.loop-node.winners flow c.loop-node.node climbs.levels
     (fell_from bytes w flow c.requires.fallen c.requires.flow) c.requires.fallen.right
-    (omega arith) climbs.climbed (omega arith) (omega (arith, climbs.inner)) (omega arith) c.if-winners-node-2.true
+    (omega arith) climbs.climbed (omega arith) (omega (arith, climbs.within)) (omega arith) c.if-winners-node.true
 
-pub returns-then-winners-node-2-clause-few : goal.returns-then-winners-node-2-clause-few
-returns-then-winners-node-2-clause-few c levels power =
-    few_by c.args.bytes.now c.args.winners.now c.loop-node.winners c.args.flow c.loop-node.node c.args.comparisons.now c.loop-node.comparisons levels
-    (omega arith) c.loop-node.invariant.0 power
+pub returns-then-winners-node-clause-few : goal.returns-then-winners-node-clause-few
+returns-then-winners-node-clause-few c levels power =
+    let few = few_by c.args.bytes.now c.args.winners.now c.loop-node.winners c.args.flow c.loop-node.node c.loop-node.comparisons 0 levels
+    (omega arith) c.loop-node.invariant.climbs (omega arith) power in
+    omega arith
 
-pub pair_with-left-requires-clause-within : goal.pair_with-left-requires-clause-within
-pair_with-left-requires-clause-within c =
-    let climbs = c.loop-node.invariant.0 in
-    omega (arith, climbs.climbed.size, pair_within (length c.args.winners.now) c.loop-node.node c.requires.leaves.doubled (omega arith) climbs.inner)
+pub wins_over-requires-clause-few : goal.wins_over-requires-clause-few
+wins_over-requires-clause-few c =
+    let made = few_made (length c.args.bytes.now) c.args.bytes.now c.args.winners.now c.loop-node.winners c.args.flow c.loop-node.node c.loop-node.comparisons
+    c.requires.leaves (omega arith) c.loop-node.invariant.climbs (omega arith) in
+    omega arith
+
+pub winner_beside-other-requires : goal.winner_beside-other-requires
+winner_beside-other-requires c =
+    let climbs = c.loop-node.invariant.climbs in
+    let within = beside_within (length c.args.winners.now) (c.loop-node.node / 2) c.requires.leaves.doubled (omega arith) (omega (arith, climbs.within)) in
+    record { within = omega (arith, climbs.climbed.size, length-set {A = ℕ}) }
 
 pub loop-node-preserved : goal.loop-node-preserved
 loop-node-preserved c =
     let w = c.args.winners.now in
     let bytes = c.args.bytes.now in
     let flow = c.args.flow in
-    let climbs = c.loop-node.invariant.0 in
+    let node = c.loop-node.node in
+    let loop = c.loop-node.invariant in
+    let doubled = c.requires.leaves.doubled in
     let old = set bytes flow c.requires.fallen.before in
+    let were = c.requires.fallen.right in
     let apart = apart_fallen old bytes (length w) flow (fell_from bytes w flow c.requires.fallen c.requires.flow) in
-    let pair = c.pair_with-left.ensures in
-    let won = next_wins old bytes w c.loop-node.winners flow c.loop-node.node climbs.levels c.better-winner.result c.requires.leaves.doubled
-    apart c.requires.fallen.right climbs.climbed (omega arith) climbs.inner (rw (pair.left, pair.right) at c.better-winner.ensures.right) (rw (pair.left, pair.right) at c.better-winner.ensures.left) in (
-      climbs_next old bytes w c.loop-node.winners flow c.loop-node.node c.better-winner.result c.args.comparisons.now c.loop-node.comparisons c.better-winner.new.comparisons
-          apart c.requires.fallen.right climbs c.loop-node-test.true won c.better-winner.ensures.none_lost (omega (arith, c.better-winner.ensures.counted)),
-      sym (get_or-set_same c.loop-node.winners (c.loop-node.node / 2) c.better-winner.result 0 (omega (arith, climbs.climbed.size, climbs.inner))),
-    )
+    let inner : node / 2 < length w = omega (arith, loop.climbs.within) in
+    let other = loop.other (omega arith) in
+    let won : IsWinner bytes (length w) (node / 2) c.if-not-wins_over.winner = elim c.if-not-wins_over.branch [
+      | then-not-wins_over v ↦
+          rw v.winner-is (other_wins bytes (length w) node c.loop-node.winner c.loop-node.other doubled (omega arith) inner loop.own other
+          (grind (arith, v.if-not-wins_over.ensures.wins, c.bytes_of-other_bytes.ensures, loop.carried)))
+      | else-not-wins_over v ↦
+          rw v.winner-is (own_wins bytes (length w) node c.loop-node.winner c.loop-node.other doubled (omega arith) inner loop.own other
+          (grind (arith, v.if-not-wins_over.ensures.wins, c.bytes_of-other_bytes.ensures, loop.carried)))
+    ] in
+    let carried : c.if-not-wins_over.own ≡ get_or bytes c.if-not-wins_over.winner 0 = elim c.if-not-wins_over.branch [
+      | then-not-wins_over v ↦ rw (v.winner-is, v.own-is) c.bytes_of-other_bytes.ensures
+      | else-not-wins_over v ↦ rw (v.winner-is, v.own-is) loop.carried
+    ] in
+    let climbs = climbs_next old bytes w c.loop-node.winners flow node c.if-not-wins_over.winner c.loop-node.comparisons c.wins_over.new.comparisons
+    apart were loop.climbs c.loop-node-test.true won (omega (arith, c.wins_over.ensures.counted)) in
+    record {
+      climbs = climbs;
+      some = omega arith;
+      carried = carried;
+      own = won;
+      other = λ some. rw c.winner_beside-other.ensures (beside_wins old bytes w (set c.loop-node.winners (node / 2) c.if-not-wins_over.winner) flow (node / 2) climbs.levels
+          doubled apart were climbs.climbed some inner);
+    }
 
 pub returns-clause-few : goal.returns-clause-few
 returns-clause-few c levels power =
-    few_by c.args.bytes.now c.args.winners.now c.loop-node.winners c.args.flow c.loop-node.node c.args.comparisons.now c.loop-node.comparisons levels
-    (omega arith) c.loop-node.invariant.0 power
+    let few = few_by c.args.bytes.now c.args.winners.now c.loop-node.winners c.args.flow c.loop-node.node c.loop-node.comparisons 0 levels
+    (omega arith) c.loop-node.invariant.climbs (omega arith) power in
+    omega arith

@@ -4,13 +4,13 @@ use Rattle.flow_core.proofs.Winning.{grown_to}
 use Rattle.flow_core.proofs.WinnersKeeping.{leaves_kept}
 use Rattle.flow_core.proofs.winner_tree.WinnerTree.add.Goals as goal
 
-pub raise-requires-clause-leaves : goal.raise-requires-clause-leaves
-raise-requires-clause-leaves c =
+pub raise-made-requires-clause-leaves : goal.raise-made-requires-clause-leaves
+raise-made-requires-clause-leaves c =
     let t = c.self.inside in
     rw (c.deref.ensures.value, c.deref_mut.ensures.value, length-set t.bytes.items c.args.flow (c.index_mut.result.now + c.args.bytes)) (leaves_kept t c.self.invariant)
 
-pub raise-requires-clause-grown : goal.raise-requires-clause-grown
-raise-requires-clause-grown c =
+pub raise-made-requires-clause-grown : goal.raise-made-requires-clause-grown
+raise-made-requires-clause-grown c =
     let t = c.self.inside in
     let within : c.args.flow < length t.bytes.items = rw (← c.self.view_is) at c.requires.flow in
     let was : c.index_mut.result.now ≡ get_or t.bytes.items c.args.flow 0 = get_or_read t.bytes.items c.args.flow c.index_mut.result.now within c.index_mut.ensures.value 0 in

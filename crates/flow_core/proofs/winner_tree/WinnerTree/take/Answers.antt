@@ -4,13 +4,13 @@ use Rattle.flow_core.proofs.Winning.{fallen_to}
 use Rattle.flow_core.proofs.WinnersKeeping.{leaves_kept}
 use Rattle.flow_core.proofs.winner_tree.WinnerTree.take.Goals as goal
 
-pub lower-requires-clause-leaves : goal.lower-requires-clause-leaves
-lower-requires-clause-leaves c =
+pub lower-made-requires-clause-leaves : goal.lower-made-requires-clause-leaves
+lower-made-requires-clause-leaves c =
     let t = c.self.inside in
     rw (c.deref.ensures.value, c.deref_mut.ensures.value, length-set t.bytes.items c.args.flow (c.index_mut.result.now - c.args.bytes)) (leaves_kept t c.self.invariant)
 
-pub lower-requires-clause-fallen : goal.lower-requires-clause-fallen
-lower-requires-clause-fallen c =
+pub lower-made-requires-clause-fallen : goal.lower-made-requires-clause-fallen
+lower-made-requires-clause-fallen c =
     let t = c.self.inside in
     let within : c.args.flow < length t.bytes.items = rw (← c.self.view_is) at c.requires.flow in
     let was : c.index_mut.result.now ≡ get_or t.bytes.items c.args.flow 0 = get_or_read t.bytes.items c.args.flow c.index_mut.result.now within c.index_mut.ensures.value 0 in

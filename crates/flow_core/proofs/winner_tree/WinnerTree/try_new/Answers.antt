@@ -1,4 +1,5 @@
-use Rattle.std.proofs.Common.{◌≡◌, ℕ, ◌≤◌, ◌∙◌, [], replicate, vec_len, rules, arith}
+use Rattle.std.proofs.Common.{◌≡◌, ℕ, ◌^◌, ◌<◌, ◌≤◌, ◌∙◌, [], replicate, vec_len, rules, arith}
+use Rattle.std.proofs.lemmas.List.Elements.{All-replicate}
 use Rattle.flow_core.proofs.Climbing.{most_leaves, shifted}
 use Rattle.flow_core.proofs.Winning.{no_bytes, same_winners}
 use Rattle.flow_core.proofs.winner_tree.WinnerTree.try_new.Goals as goal
@@ -27,5 +28,6 @@ invariant_of-result c =
       most = omega arith;
       levels = rw flows c.levels_over-levels.ensures;
       leaves = made.leaves ∙ shifted c.levels_over-levels.result small;
+      small = rw none (All-replicate (λ (b : ℕ). b < 2 ^ 63) c.args.flows 0 (omega arith));
       winners = rw none (same_winners [] (replicate {A = ℕ} c.args.flows 0) c.in_ok-first_winners.field-0.items (no_bytes c.args.flows) made.winners);
     }
