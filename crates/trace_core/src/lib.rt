@@ -5,6 +5,7 @@
 //! happen, then one with the totals, and at its end one for each five-tuple.
 #![tactic(auto)]
 
+mod decimal;
 mod reader;
 mod report;
 mod row;

@@ -1,10 +1,10 @@
 ghost use Rattle.std.specs.Prelude.{◌≡◌, All, ◌++◌, ◌∷◌, [], ℕ, List, IfOk, OnOk, map, slice_range, string_bytes};
-ghost use Rattle.std.specs.Fmt.{decimal};
 ghost use Rattle.sched_core.specs.Runs.{Made, StandsIn, journal_of, outcomes_from};
 ghost use Rattle.packet_core.specs.Packets.{ip_bytes};
 ghost use Rattle.trace_core.specs.Report as Report;
 ghost use Rattle.trace_core.specs.RowGrammar.{ecn_digit};
 
+use crate::decimal::Digits;
 use csv::{Writer, WriterBuilder};
 use packet_core::{Ecn, Ip};
 use sched_core::{
@@ -76,14 +76,6 @@ impl Rows {
         }
     }
 
-    /// A number in decimal digits, without leading zeros.
-    fn decimal(&self, value: u64) -> Result<String, Memory>
-        ensures text { IfOk result (λ text. string_bytes text ≡ decimal value) }
-        ensures plain { IfOk result (λ text. Report.IsPlain (string_bytes text)) }
-    {
-        format!(in self.alloc; "{value}")
-    }
-
     /// The rows of a step with these events: one for each event, and one where the step made none.
     fn outcome(&mut self, outcome: &Outcome, own_events: &[Event]) -> Result<(), Memory>
         ensures { OnOk result (Report.Adds self.old self.new (Report.lines_of (map Report.event_row own_events.now ++ Report.answer_rows outcome.now.answer))) }
@@ -104,15 +96,15 @@ impl Rows {
     {
         match *event {
             Event::Accepted { id, flow, .. } => {
-                let (id, flow) = (self.decimal(id)?, self.decimal(u64::from(flow))?);
+                let (id, flow) = (Digits::of(id), Digits::of(u64::from(flow)));
                 self.row(&[b"accepted", id.as_bytes(), flow.as_bytes()])
             }
             Event::Sent { id, ecn, .. } => {
-                let id = self.decimal(id)?;
+                let id = Digits::of(id);
                 self.row(&[b"sent", id.as_bytes(), ecn_digit(ecn)])
             }
             Event::Dropped { id, cause, .. } => {
-                let id = self.decimal(id)?;
+                let id = Digits::of(id);
                 self.row(&[b"dropped", id.as_bytes(), cause_name(cause)])
             }
             Event::Closed { .. } => self.row(&[b"closed"]),
@@ -139,7 +131,7 @@ impl Rows {
     {
         match fault {
             MomentFault::Backwards { last } => {
-                let last = self.decimal(last)?;
+                let last = Digits::of(last);
                 self.row(&[b"refused", b"backwards", last.as_bytes()])
             }
             MomentFault::TooLarge => self.row(&[b"refused", b"too_large"]),
@@ -150,16 +142,16 @@ impl Rows {
     fn totals(&mut self, totals: &Totals) -> Result<(), Memory>
         ensures { OnOk result (Report.Adds self.old self.new (Report.line_of (Report.totals_row totals.now))) }
     {
-        let accepted = self.decimal(totals.accepted)?;
-        let accepted_bytes = self.decimal(totals.accepted_bytes)?;
-        let sent = self.decimal(totals.sent)?;
-        let sent_bytes = self.decimal(totals.sent_bytes)?;
-        let dropped_codel = self.decimal(totals.dropped_codel)?;
-        let dropped_overflow = self.decimal(totals.dropped_overflow)?;
-        let dropped_bytes = self.decimal(totals.dropped_bytes)?;
-        let marked = self.decimal(totals.marked)?;
-        let queued = self.decimal(totals.queued)?;
-        let queued_bytes = self.decimal(totals.queued_bytes)?;
+        let accepted = Digits::of(totals.accepted);
+        let accepted_bytes = Digits::of(totals.accepted_bytes);
+        let sent = Digits::of(totals.sent);
+        let sent_bytes = Digits::of(totals.sent_bytes);
+        let dropped_codel = Digits::of(totals.dropped_codel);
+        let dropped_overflow = Digits::of(totals.dropped_overflow);
+        let dropped_bytes = Digits::of(totals.dropped_bytes);
+        let marked = Digits::of(totals.marked);
+        let queued = Digits::of(totals.queued);
+        let queued_bytes = Digits::of(totals.queued_bytes);
         self.row(&[
             b"totals",
             accepted.as_bytes(),
@@ -190,16 +182,16 @@ impl Rows {
     fn tuple(&mut self, row: &TupleRow) -> Result<(), Memory>
         ensures { OnOk result (Report.Adds self.old self.new (Report.line_of (Report.tuple_row row.now))) }
     {
-        let proto = self.decimal(u64::from(row.tuple.proto))?;
+        let proto = Digits::of(u64::from(row.tuple.proto));
         let src = self.address(row.tuple.src)?;
         let dst = self.address(row.tuple.dst)?;
-        let sport = self.decimal(u64::from(row.tuple.sport))?;
-        let dport = self.decimal(u64::from(row.tuple.dport))?;
-        let flow = self.decimal(u64::from(row.flow))?;
-        let accepted = self.decimal(row.accepted)?;
-        let sent = self.decimal(row.sent)?;
-        let dropped = self.decimal(row.dropped)?;
-        let queued = self.decimal(row.queued)?;
+        let sport = Digits::of(u64::from(row.tuple.sport));
+        let dport = Digits::of(u64::from(row.tuple.dport));
+        let flow = Digits::of(u64::from(row.flow));
+        let accepted = Digits::of(row.accepted);
+        let sent = Digits::of(row.sent);
+        let dropped = Digits::of(row.dropped);
+        let queued = Digits::of(row.queued);
         self.row(&[
             b"tuple",
             proto.as_bytes(),

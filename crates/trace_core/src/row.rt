@@ -1,4 +1,4 @@
-ghost use Rattle.std.specs.Prelude.{◌≡◌, ◌≢◌, ◌-◌, ◌<◌, ◌^◌, ◌↔◌, min, Contains, IfErr, IfOk, IfSome, IsNone, IsTrue, Ok};
+ghost use Rattle.std.specs.Prelude.{◌≡◌, ◌≢◌, ◌<◌, ◌^◌, ◌↔◌, min, Contains, IfErr, IfOk, IfSome, IsNone, IsTrue, Ok};
 ghost use Rattle.std.specs.Char.{digit_value};
 ghost use Rattle.std.specs.Option.{SomeIff};
 ghost use Rattle.std.specs.Result.{IsOkUnless, OkIff};
@@ -204,13 +204,23 @@ fn cut_at_dot(text: &[u8]) -> Option<(&[u8], &[u8])>
 }
 
 /// The number from 0 to 255 that the text is, written without leading zeros.
+#[tactic(auto, using(crate::proofs::Digits::long_octet))]
 fn octet(text: &[u8]) -> Option<u8>
     ensures { SomeIff result (IsOctet text.now) (digits_value 10 text.now) }
 {
     if has_leading_zero(text) {
         return None;
     }
-    u8::try_from(number(text)?).ok()
+    match text {
+        [ones] => digit(*ones),
+        [tens, ones] => Some(digit(*tens)? * 10 + digit(*ones)?),
+        [hundreds, tens, ones] => {
+            let (hundreds, tens, ones) = (digit(*hundreds)?, digit(*tens)?, digit(*ones)?);
+            let value = u16::from(hundreds) * 100 + u16::from(tens * 10 + ones);
+            u8::try_from(value).ok()
+        }
+        _ => None,
+    }
 }
 
 /// Whether a zero stands before another byte.
@@ -220,10 +230,10 @@ fn has_leading_zero(text: &[u8]) -> bool
     text.len() > 1 && text[0] == b'0'
 }
 
-/// The value of a text of one or more decimal digits, and 2^64 - 1 where it is more than that. A text with
-/// any other byte has none.
+/// The value of a text of one or more decimal digits, and `MAX_MOMENT` where it is more than that. A text
+/// with any other byte has none.
 fn number(text: &[u8]) -> Option<u64>
-    ensures { SomeIff result (IsNumeral 10 text.now) (min (digits_value 10 text.now) (2 ^ 64 - 1)) }
+    ensures { SomeIff result (IsNumeral 10 text.now) (min (digits_value 10 text.now) (2 ^ 60)) }
 {
     if text.is_empty() {
         return None;
@@ -231,7 +241,7 @@ fn number(text: &[u8]) -> Option<u64>
     let mut value = 0u64;
     for byte in text {
         let digit = digit(*byte)?;
-        value = value.saturating_mul(10).saturating_add(u64::from(digit));
+        value = (value * 10 + u64::from(digit)).min(MAX_MOMENT);
     }
     Some(value)
 }

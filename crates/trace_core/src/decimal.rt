@@ -1,0 +1,46 @@
+ghost use Rattle.std.specs.Prelude.{◌≡◌};
+ghost use Rattle.std.specs.Fmt.{decimal};
+ghost use Rattle.trace_core.specs.Report.{IsPlain};
+
+use itoa::write_digits;
+use std::marker::Model;
+
+/// The most decimal digits that a number of 64 bits has.
+const MAX_DIGITS: usize = 20;
+
+/// A number in decimal digits, without leading zeros. It takes no memory from an allocator.
+#[derive(Drop)]
+pub(crate) struct Digits {
+    bytes: [u8; MAX_DIGITS],
+    start: usize,
+}
+
+impl Model for Digits {
+    ghost use Rattle.std.specs.Prelude.{ℕ, List, ◌≤◌, drop};
+    ghost use Rattle.trace_core.specs.declared.decimal.TheConstants.{MAX_DIGITS};
+
+    ghost Value = { List ℕ };
+
+    ghost view = { λ digits. drop digits.start digits.bytes };
+
+    ghost invariant = { λ digits. digits.start ≤ MAX_DIGITS };
+}
+
+impl Digits {
+    /// The digits of a value.
+    pub(crate) fn of(value: u64) -> Digits
+        ensures text { result ≡ decimal value }
+        ensures plain { IsPlain result }
+    {
+        let mut bytes = [0; MAX_DIGITS];
+        let start = write_digits(value, &mut bytes, MAX_DIGITS);
+        Digits { bytes, start }
+    }
+
+    /// The digits, the first of which isn't a zero unless it is the only one.
+    pub(crate) fn as_bytes(&self) -> &[u8]
+        ensures { result.now ≡ self.now }
+    {
+        &self.bytes[self.start..]
+    }
+}
