@@ -23,6 +23,8 @@ pub fn flow_of(params: &Params, seed: &Seed, tuple: &FiveTuple) -> u32
 
 /// The first eight bytes of a digest under SHA-256 (FIPS 180-4), as a number. What is hashed is the seed and then the
 /// five-tuple, each number with its high byte first.
+// Kept out of its callers: merged into an enqueue, its reads of single fields have each packet copied field by field.
+#[inline(never)]
 fn hash_of(seed: &Seed, tuple: &FiveTuple) -> u64
     ensures { result ≡ hash_value (hashed_message seed.now tuple.now) }
 {
