@@ -1,12 +1,13 @@
-ghost use Rattle.std.specs.Prelude.{◌≡◌, ◌+◌, IfOk, nat_lt, if◌then◌else◌};
+ghost use Rattle.std.specs.Prelude.{◌≡◌, ◌+◌, IfOk, IfSome, nat_lt, if◌then◌else◌, slice_get, vec_len};
+ghost use Rattle.bench.specs.Traffic.{GoesTo, GoInTurn};
 ghost use Rattle.packet_core.specs.Params.{standard_fields};
 
 use crate::workload::{ROUNDS, Round, Workload};
 use packet_core::{
     Ecn, FiveTuple, Ip, LengthOutOfRange, Packet, ParamFields, ParamName, Params, Seed,
 };
-use sched_core::{MomentFault, Refusal, Sched};
-use std::alloc::AllocError;
+use sched_core::Sched;
+use std::alloc::{AllocError, Global};
 use std::io;
 use std::time::Instant;
 use thiserror::Error;
@@ -40,6 +41,10 @@ pub enum Fault {
     OutOfRange,
 }
 
+/// A step was refused. It is empty, so that the timed rounds carry no larger answer along.
+#[derive(Clone, Copy, Debug)]
+struct Refused;
+
 impl From<io::Error> for Fault {
     fn from(error: io::Error) -> Fault {
         Fault::Io(error)
@@ -52,14 +57,8 @@ impl From<AllocError> for Fault {
     }
 }
 
-impl From<Refusal> for Fault {
-    fn from(_: Refusal) -> Fault {
-        Fault::Refused
-    }
-}
-
-impl From<MomentFault> for Fault {
-    fn from(_: MomentFault) -> Fault {
+impl From<Refused> for Fault {
+    fn from(_: Refused) -> Fault {
         Fault::Refused
     }
 }
@@ -76,33 +75,76 @@ impl From<LengthOutOfRange> for Fault {
     }
 }
 
-/// The packets of a workload: one to each busy flow in turn.
+/// The packets of a workload: one to each busy flow in turn. They are made before the clock runs.
 #[derive(Debug, Drop)]
 struct Traffic {
-    busy: u16,
-    next: u16,
-    ecn: Ecn,
+    packets: Vec<Packet>,
+    next: usize,
 }
 
 impl Traffic {
-    /// The next packet, which goes to the next flow.
-    fn packet(&mut self) -> Result<Packet, LengthOutOfRange>
-        ensures packet { IfOk result (λ p. (p.tuple.dport ≡ self.old.next) × (p.len ≡ PACKET_BYTES) × (p.ecn ≡ self.old.ecn)) }
-        ensures next { self.new.next ≡ (if nat_lt (self.old.next + 1) self.old.busy then self.old.next + 1 else 0) }
-        ensures busy { self.new.busy ≡ self.old.busy }
-        ensures ecn { self.new.ecn ≡ self.old.ecn }
+    /// The packets of that workload, the first one's flow first.
+    fn try_new(alloc: Global, workload: &Workload) -> Result<Traffic, Fault>
+        ensures count { IfOk result (λ t. vec_len t.packets ≡ workload.now.busy) }
+        ensures each { IfOk result (λ t. GoInTurn workload.now.ecn t.packets.items) }
+        ensures first { IfOk result (λ t. t.next ≡ 0) }
     {
-        let dport = self.next;
-        let after = dport.wrapping_add(1);
-        self.next = if after < self.busy { after } else { 0 };
-        let tuple = FiveTuple {
-            proto: 17,
-            src: Ip::V4([10, 0, 0, 1]),
-            dst: Ip::V4([10, 0, 0, 2]),
-            sport: 5_000,
-            dport,
-        };
-        Packet::try_new(tuple, PACKET_BYTES, self.ecn)
+        let mut packets = Vec::new(alloc);
+        for dport in 0..workload.busy {
+            if packets.push(packet_to(dport, workload.ecn)?).is_err() {
+                return Err(Fault::Memory);
+            }
+        }
+        Ok(Traffic { packets, next: 0 })
+    }
+
+    /// The next packet, which goes to the next flow.
+    fn packet(&mut self) -> Option<Packet>
+        ensures packet { result ≡ slice_get self.old.packets.items self.old.next }
+        ensures next { IfSome result (λ _. self.new.next ≡ (if nat_lt (self.old.next + 1) (vec_len self.old.packets) then self.old.next + 1 else 0)) }
+        ensures packets { self.new.packets ≡ self.old.packets }
+    {
+        let packet = *self.packets.get(self.next)?;
+        let after = self.next + 1;
+        self.next = if after < self.packets.len() { after } else { 0 };
+        Some(packet)
+    }
+}
+
+/// A packet to a flow.
+fn packet_to(flow: u16, ecn: Ecn) -> Result<Packet, LengthOutOfRange>
+    ensures { IfOk result (λ p. GoesTo flow ecn p) }
+{
+    let tuple = FiveTuple {
+        proto: 17,
+        src: Ip::V4([10, 0, 0, 1]),
+        dst: Ip::V4([10, 0, 0, 2]),
+        sport: 5_000,
+        dport: flow,
+    };
+    Packet::try_new(tuple, PACKET_BYTES, ecn)
+}
+
+/// The moments of the rounds.
+#[derive(Clone, Copy, Debug)]
+struct Clock {
+    nanoseconds: u64,
+    step: u64,
+}
+
+impl Clock {
+    /// A clock that stands at the start of a workload's rounds.
+    fn of(workload: &Workload) -> Clock {
+        Clock {
+            nanoseconds: START,
+            step: u64::from(workload.step),
+        }
+    }
+
+    /// The moment of the next round, in microseconds.
+    fn tick(&mut self) -> u64 {
+        self.nanoseconds = self.nanoseconds.saturating_add(self.step);
+        self.nanoseconds / 1_000
     }
 }
 
@@ -115,15 +157,11 @@ pub fn least_nanoseconds(rt: &HostRuntime, workload: &Workload) -> Result<u128, 
     Ok(least)
 }
 
-/// The time that the rounds took once, in nanoseconds. What fills the queues before isn't counted.
+/// The time that the rounds took once, in nanoseconds. What makes the packets and fills the queues before isn't counted.
 fn nanoseconds(rt: &HostRuntime, workload: &Workload) -> Result<u128, Fault> {
-    let mut traffic = Traffic {
-        busy: workload.busy,
-        next: 0,
-        ecn: workload.ecn,
-    };
+    let mut traffic = Traffic::try_new(rt.alloc(), workload)?;
     let mut sched = Sched::try_new(rt.alloc(), params_of(workload)?, Seed([0; 16]))?;
-    let waiting = u64::from(workload.busy) * u64::from(workload.waiting);
+    let waiting = workload.waiting_in_all();
     fill(&mut sched, &mut traffic, waiting)?;
     if matches!(workload.round, Round::Enqueue | Round::TwoEnqueuesDequeue) {
         fill(
@@ -132,18 +170,8 @@ fn nanoseconds(rt: &HostRuntime, workload: &Workload) -> Result<u128, Fault> {
             u64::from(workload.limit).saturating_sub(waiting),
         )?;
     }
-    let mut now = START;
     let begun = Instant::now(rt)?;
-    for _ in 0..ROUNDS {
-        now = now.saturating_add(u64::from(workload.step));
-        round(
-            &mut sched,
-            &mut traffic,
-            workload.round,
-            now / 1_000,
-            waiting,
-        )?;
-    }
+    rounds(&mut sched, &mut traffic, workload)?;
     Ok(begun.elapsed(rt)?.as_nanos())
 }
 
@@ -160,40 +188,65 @@ fn params_of(workload: &Workload) -> Result<Params, ParamName>
 }
 
 /// That many packets come before the first round.
-fn fill(sched: &mut Sched, traffic: &mut Traffic, packets: u64) -> Result<(), Fault> {
+fn fill(sched: &mut Sched, traffic: &mut Traffic, packets: u64) -> Result<(), Refused> {
     for _ in 0..packets {
-        sched.enqueue(START / 1_000, 0, traffic.packet()?)?;
+        enqueue(sched, traffic, START / 1_000)?;
     }
     Ok(())
 }
 
-/// One round at a moment in microseconds.
-fn round(
-    sched: &mut Sched,
-    traffic: &mut Traffic,
-    round: Round,
-    moment: u64,
-    waiting: u64,
-) -> Result<(), Fault> {
-    match round {
+/// All rounds of a workload.
+fn rounds(sched: &mut Sched, traffic: &mut Traffic, workload: &Workload) -> Result<(), Refused> {
+    let mut clock = Clock::of(workload);
+    // A loop for each kind of round, so that the kind isn't asked in the time that is measured.
+    match workload.round {
         Round::EnqueueDequeue => {
-            sched.enqueue(moment, 0, traffic.packet()?)?;
-            sched.dequeue(moment)?;
+            for _ in 0..ROUNDS {
+                let moment = clock.tick();
+                enqueue(sched, traffic, moment)?;
+                dequeue(sched, moment)?;
+            }
         }
         Round::RefillDequeue => {
-            for _ in sched.queued()..=waiting {
-                sched.enqueue(moment, 0, traffic.packet()?)?;
+            let waiting = workload.waiting_in_all();
+            for _ in 0..ROUNDS {
+                let moment = clock.tick();
+                for _ in sched.queued()..=waiting {
+                    enqueue(sched, traffic, moment)?;
+                }
+                dequeue(sched, moment)?;
             }
-            sched.dequeue(moment)?;
         }
         Round::Enqueue => {
-            sched.enqueue(moment, 0, traffic.packet()?)?;
+            for _ in 0..ROUNDS {
+                enqueue(sched, traffic, clock.tick())?;
+            }
         }
         Round::TwoEnqueuesDequeue => {
-            sched.enqueue(moment, 0, traffic.packet()?)?;
-            sched.enqueue(moment, 0, traffic.packet()?)?;
-            sched.dequeue(moment)?;
+            for _ in 0..ROUNDS {
+                let moment = clock.tick();
+                enqueue(sched, traffic, moment)?;
+                enqueue(sched, traffic, moment)?;
+                dequeue(sched, moment)?;
+            }
         }
+    }
+    Ok(())
+}
+
+/// The next packet comes, at a moment in microseconds.
+fn enqueue(sched: &mut Sched, traffic: &mut Traffic, moment: u64) -> Result<(), Refused> {
+    let packet = traffic.packet().ok_or(Refused)?;
+    if sched.enqueue(moment, 0, packet).is_err() {
+        return Err(Refused);
+    }
+    Ok(())
+}
+
+/// The device takes a packet, at a moment in microseconds.
+fn dequeue(sched: &mut Sched, moment: u64) -> Result<(), Refused> {
+    if sched.dequeue(moment).is_err() {
+        return Err(Refused);
     }
     Ok(())
 }

@@ -1,3 +1,5 @@
+ghost use Rattle.std.specs.Prelude.{◌≡◌, ◌*◌};
+
 use packet_core::{Classify, Ecn, EcnUse};
 
 /// How many rounds a repetition of a workload has.
@@ -40,6 +42,15 @@ pub struct Workload {
     pub ecn_use: EcnUse,
     /// How a packet's flow is found.
     pub classify: Classify,
+}
+
+impl Workload {
+    /// How many packets wait before the rounds, in all flows.
+    pub fn waiting_in_all(&self) -> u64
+        ensures { result ≡ self.now.busy * self.now.waiting }
+    {
+        u64::from(self.busy) * u64::from(self.waiting)
+    }
 }
 
 /// Sixteen flows that share a limit of 1,000 packets.
