@@ -190,7 +190,7 @@ fn count(comparisons: &mut u64, made: u64)
 }
 
 // Whether a count wins over another one. `right` is 1 where the other one stands to the left, and so wins a tie, and
-// else 0: a sum, since a second condition would be a branch. Each comparison of two counts is made here, and counted.
+// else 0: one sum, which was faster than two conditions. Each comparison of two counts is made here, and counted.
 fn wins_over(comparisons: &mut u64, bytes: u64, other: u64, right: u64) -> bool
     requires few { comparisons.old < 2 ^ 32 }
     requires other { other < 2 ^ 63 }
