@@ -14,7 +14,7 @@ node_above-add (suc m) h node =
     ap (λ (n : ℕ). node_above n node) (suc-add m h) ∙ ap (λ (n : ℕ). n / 2) (node_above-add m h node)
 
 -- a node above has no greater number
-node_above-le : (m node : ℕ) → node_above m node ≤ node
+pub node_above-le : (m node : ℕ) → node_above m node ≤ node
 node_above-le zero node = omega arith
 node_above-le (suc m) node = omega (arith, node_above-le m node)
 
@@ -89,6 +89,12 @@ same_level e leaves i j a b power a_within b_within some meet =
     (λ (most : i ≤ j). omega arith)
     (cases_lt j i))
     (cases_lt i j)
+
+-- the levels of the root
+pub root_level : (e leaves flow h : ℕ) → leaves ≡ 2 ^ e → flow < leaves → node_above h (leaves + flow) ≡ 1 → h ≡ e
+unfolding below_root
+root_level e leaves flow h power within root =
+    same_level e leaves h e flow flow power within within (omega arith) (root ∙ sym (below_root e leaves flow power within).meets)
 
 -- a flow below the left one of two nodes has a lesser number than one below the right one
 pub left_before_right : (leaves node a b : ℕ) → IsPowerOfTwo leaves → 1 ≤ node → IsBelow leaves (2 * node) a → IsBelow leaves (2 * node + 1) b → a < b

@@ -1,6 +1,7 @@
 pub mod Chained
 pub mod Chaining
 pub mod Climbing
+pub mod Comparing
 pub mod Keeping
 pub mod Linking
 pub mod Listing

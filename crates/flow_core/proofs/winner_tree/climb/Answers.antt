@@ -1,6 +1,7 @@
-use Rattle.std.proofs.Common.{◌≡◌, ℕ, ◌+◌, ◌%◌, ◌/◌, ◌<◌, get_or, length, set, subst, sym, arith}
+use Rattle.std.proofs.Common.{◌≡◌, ◌≢◌, ℕ, ◌+◌, ◌%◌, ◌/◌, ◌<◌, get_or, length, refl, set, subst, sym, ◌∙◌, arith}
 use Rattle.flow_core.specs.WinnerNodes.{IsWinner}
 use Rattle.flow_core.proofs.Climbing.{beside_within}
+use Rattle.flow_core.proofs.Comparing.{ComparedTo, compared_below, compared_next, compared_none, compared_past}
 use Rattle.flow_core.proofs.Winning.{apart_grown, beside_leaf, beside_wins, both_apart, Climbs, climbs_from, climbs_next, climbs_past, few_by, few_made, grew_from, other_wins, own_wins, root_kept, still_wins, stops_grown, winner_at_leaf}
 use Rattle.flow_core.proofs.winner_tree.climb.Goals as goal
 use Rattle.flow_core.proofs.winner_tree.climb.Goals.{then-winners-node+else-not-wins_over, else-winners-node}
@@ -13,6 +14,7 @@ loop-node-init c =
     let within : flow < length w = omega arith in
     record {
       climbs = climbs_from bytes w flow within;
+      counted = compared_none w flow;
       some = omega arith;
       own = winner_at_leaf bytes (length w) flow within;
       other = rw c.flow_beside-other.ensures (beside_leaf bytes (length w) flow c.requires.leaves.doubled within (omega arith));
@@ -76,8 +78,17 @@ loop-node-preserved c =
           let held = subst (λ (o : ℕ). IsWinner bytes (length w) (node / 2) o) (sym v.if-winners-node.false) won in
           rw (v.winners-is, v.comparisons-is) (climbs_past old bytes w c.loop-node.winners flow node c.loop-node.comparisons apart were loop.climbs (omega arith) held)
     ] in
+    let same : get_or c.loop-node.winners (node / 2) 0 ≡ get_or w (node / 2) 0 = loop.climbs.climbed.rest (node / 2) (omega arith) in
+    let counted : ComparedTo w flow (node / 2) c.if-winners-node.comparisons = elim c.if-winners-node.branch [
+      | then-winners-node+else-not-wins_over v ↦
+          let another : get_or w (node / 2) 0 ≢ flow = λ won. v.if-winners-node.true (same ∙ won) in
+          rw (v.comparisons-is, v.wins_over.ensures.counted) (compared_next w flow node c.loop-node.comparisons loop.counted another)
+      | else-winners-node v ↦
+          rw v.comparisons-is (compared_past old w flow node c.loop-node.comparisons were (omega arith) (omega arith) loop.counted (sym same ∙ v.if-winners-node.false))
+    ] in
     record {
       climbs = climbs;
+      counted = counted;
       some = omega arith;
       own = won;
       other = rw c.winner_beside-other.ensures (beside_wins old bytes w c.if-winners-node.winners flow (node / 2) climbs.levels doubled apart were climbs.climbed (omega arith) inner);
@@ -100,3 +111,34 @@ pub returns-clause-few : goal.returns-clause-few
 returns-clause-few c levels power =
     few_by c.args.bytes.now c.args.winners.now c.loop-node.winners c.args.flow c.loop-node.node c.loop-node.comparisons 1 levels
     (omega arith) c.loop-node.invariant.climbs (omega arith) power
+
+pub returns-then-not-wins_over-clause-counted : goal.returns-then-not-wins_over-clause-counted
+returns-then-not-wins_over-clause-counted c =
+    let w = c.args.winners.now in
+    let now = c.loop-node.winners in
+    let bytes = c.args.bytes.now in
+    let flow = c.args.flow in
+    let node = c.loop-node.node in
+    let loop = c.loop-node.invariant in
+    let doubled = c.requires.leaves.doubled in
+    let another : get_or w (node / 2) 0 ≢ flow = λ won. c.if-winners-node.true (loop.climbs.climbed.rest (node / 2) (omega arith) ∙ won) in
+    let root : get_or now 1 0 ≢ flow = λ won. c.requires.another (sym (loop.climbs.climbed.rest 1 (omega arith)) ∙ won) in
+    compared_below bytes w now flow node c.loop-node.comparisons c.wins_over.new.comparisons doubled.exponent (returns-then-not-wins_over-clause-winners c)
+    (omega arith) loop.climbs.climbed.size doubled.power loop.counted (omega arith) loop.own another c.if-winners-node.true root
+    (λ _. c.wins_over.ensures.counted) (λ last. absurd (omega arith))
+
+pub returns-clause-counted : goal.returns-clause-counted
+returns-clause-counted c =
+    let w = c.args.winners.now in
+    let now = c.loop-node.winners in
+    let bytes = c.args.bytes.now in
+    let flow = c.args.flow in
+    let node = c.loop-node.node in
+    let loop = c.loop-node.invariant in
+    let doubled = c.requires.leaves.doubled in
+    let top : 1 ≡ node / 2 = omega arith in
+    let root : get_or now 1 0 ≢ flow = λ won. c.requires.another (sym (loop.climbs.climbed.rest 1 (omega arith)) ∙ won) in
+    compared_below bytes w now flow node c.loop-node.comparisons c.loop-node.comparisons doubled.exponent (returns-clause-winners c)
+    (omega arith) loop.climbs.climbed.size doubled.power loop.counted (omega arith) loop.own
+    (subst (λ (n : ℕ). get_or w n 0 ≢ flow) top c.requires.another) (subst (λ (n : ℕ). get_or now n 0 ≢ flow) top root) root
+    (λ more. absurd (omega arith)) (λ _. refl)

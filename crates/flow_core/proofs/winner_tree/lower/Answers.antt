@@ -1,6 +1,7 @@
-use Rattle.std.proofs.Common.{◌≡◌, ℕ, ◌/◌, ◌<◌, get_or, length, refl, set, arith, length-set}
+use Rattle.std.proofs.Common.{◌≡◌, ◌≢◌, ℕ, ◌/◌, ◌<◌, get_or, length, refl, set, sym, ◌∙◌, add-one, arith, length-set}
 use Rattle.flow_core.specs.WinnerNodes.{IsWinner}
 use Rattle.flow_core.proofs.Climbing.{beside_within}
+use Rattle.flow_core.proofs.Comparing.{won_ends, won_none, won_on}
 use Rattle.flow_core.proofs.Winning.{apart_fallen, beside_leaf, beside_wins, climbs_from, climbs_next, few_by, few_made, fell_from, other_wins, own_wins, stops_fallen, winner_at_leaf}
 use Rattle.flow_core.proofs.winner_tree.lower.Goals as goal
 use Rattle.flow_core.proofs.winner_tree.lower.Goals.{then-not-wins_over, else-not-wins_over}
@@ -13,6 +14,7 @@ loop-node-init c =
     let within : flow < length w = omega arith in
     record {
       climbs = climbs_from bytes w flow within;
+      counted = won_none w flow;
       some = omega arith;
       carried = refl;
       own = winner_at_leaf bytes (length w) flow within;
@@ -59,6 +61,7 @@ loop-node-preserved c =
     let were = c.requires.fallen.right in
     let apart = apart_fallen old bytes (length w) flow (fell_from bytes w flow c.requires.fallen c.requires.flow) in
     let inner : node / 2 < length w = omega (arith, loop.climbs.within) in
+    let had : get_or w (node / 2) 0 ≡ flow = sym (loop.climbs.climbed.rest (node / 2) (omega arith)) ∙ c.if-winners-node.false in
     let other = loop.other (omega arith) in
     let won : IsWinner bytes (length w) (node / 2) c.if-not-wins_over.winner = elim c.if-not-wins_over.branch [
       | then-not-wins_over v ↦
@@ -76,6 +79,7 @@ loop-node-preserved c =
     apart were loop.climbs c.loop-node-test.true won (omega (arith, c.wins_over.ensures.counted)) in
     record {
       climbs = climbs;
+      counted = rw (c.wins_over.ensures.counted, add-one) (won_on w flow node c.loop-node.comparisons loop.counted had);
       some = omega arith;
       carried = carried;
       own = won;
@@ -88,3 +92,14 @@ returns-clause-few c levels power =
     let few = few_by c.args.bytes.now c.args.winners.now c.loop-node.winners c.args.flow c.loop-node.node c.loop-node.comparisons 0 levels
     (omega arith) c.loop-node.invariant.climbs (omega arith) power in
     omega arith
+
+pub returns-then-winners-node-clause-counted : goal.returns-then-winners-node-clause-counted
+returns-then-winners-node-clause-counted c =
+    let w = c.args.winners.now in
+    let node = c.loop-node.node in
+    let another : get_or w (node / 2) 0 ≢ c.args.flow = λ won. c.if-winners-node.true (c.loop-node.invariant.climbs.climbed.rest (node / 2) (omega arith) ∙ won) in
+    won_ends w c.args.flow node c.loop-node.comparisons c.loop-node.invariant.counted (omega arith) (λ _. another)
+
+pub returns-clause-counted : goal.returns-clause-counted
+returns-clause-counted c =
+    won_ends c.args.winners.now c.args.flow c.loop-node.node c.loop-node.comparisons c.loop-node.invariant.counted (omega arith) (λ some. absurd (omega arith))
