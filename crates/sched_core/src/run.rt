@@ -49,7 +49,7 @@ pub struct Ran {
 }
 
 /// The answer to a step that is refused, unless it found no memory.
-fn refused(refusal: Refusal) -> Result<Answer, Memory>
+pub(crate) fn refused(refusal: Refusal) -> Result<Answer, Memory>
     ensures answer { IfOk result (λ said. (said ≡ answer.Refused refusal) × (refusal ≢ refusals.Memory)) }
     ensures memory { OnErr result (refusal ≡ refusals.Memory) }
 {

@@ -1,11 +1,12 @@
-ghost use Rattle.std.specs.Prelude.{◌≡◌, ◌≢◌, ◌+◌, ◌-◌, ◌<◌, ◌≤◌, max, All, Some, None, IfOk, IfErr, MatchResult, OnOk, OnErr};
+ghost use Rattle.std.specs.Prelude.{◌≡◌, ◌≢◌, ◌+◌, ◌-◌, ◌<◌, ◌≤◌, max, All, Some, None, IfOk, IfErr, IsOk, MatchResult, OnOk, OnErr};
 ghost use Rattle.sched_core.specs.State.{moment_fault_of, Tests};
 
 use crate::backlog::Backlog;
 use crate::event::Event;
 use crate::flow_view::FlowView;
 use crate::journal::Journal;
-use crate::step::{Admitted, CloseFault, Memory, MomentFault, Refusal, Sent};
+use crate::run::{Answer, refused};
+use crate::step::{Admitted, CloseFault, Memory, MomentFault, Refusal, Sent, Step};
 use crate::totals::Totals;
 use crate::tuple_rows::{TupleRow, gather_rows};
 use codel_core::Served;
@@ -74,6 +75,7 @@ impl Sched {
     ghost use Rattle.sched_core.specs.Calls.{admitted_at, close_refusal};
     ghost use Rattle.sched_core.specs.FairQueues.{queue_of};
     ghost use Rattle.sched_core.specs.JournalLaws.{JournalLaws, WaitWithoutFate};
+    ghost use Rattle.sched_core.specs.Runs.{Takes};
     ghost use Rattle.sched_core.specs.Schedulers.{ComparesFew, IsAdvanced, IsServed, discipline_of, flows_of, new_scheduler};
     ghost use Rattle.sched_core.specs.Shown.{flow_shown};
     ghost use Rattle.sched_core.specs.State.{enqueue_refusal_of, refusal_of, IsRefusal};
@@ -211,6 +213,36 @@ impl Sched {
         self.last_moment = moment;
         self.is_closed = true;
         Ok(())
+    }
+
+    /// Makes a step of any kind, and answers as a run does: where the step is refused the answer says why. It fails
+    /// for want of memory alone, and not where room is reserved. Nothing has changed after either.
+    pub fn make(&mut self, step: &Step) -> Result<Answer, Memory>
+        ensures made { IfOk result (λ said. Takes (discipline_of self.old) self.old.standing step.now said self.new.standing) }
+        ensures params { self.new.params ≡ self.old.params }
+        ensures seed { self.new.seed ≡ self.old.seed }
+        ensures reserved { 0 < self.old.room → IsOk result }
+        ensures unchanged { OnErr result (self.new ≡ self.old) }
+    {
+        match *step {
+            Step::Enqueue {
+                moment,
+                lane,
+                packet,
+            } => match self.enqueue(moment, lane, packet) {
+                Ok(_) => Ok(Answer::Accepted),
+                Err(refusal) => refused(refusal),
+            },
+            Step::Dequeue { moment } => match self.dequeue(moment) {
+                Ok(Some(_)) => Ok(Answer::Sent),
+                Ok(None) => Ok(Answer::Idle),
+                Err(fault) => refused(Refusal::from(fault)),
+            },
+            Step::Close { moment } => match self.close(moment) {
+                Ok(()) => Ok(Answer::Closed),
+                Err(fault) => refused(Refusal::from(fault)),
+            },
+        }
     }
 
     /// The parameters that it was made with.

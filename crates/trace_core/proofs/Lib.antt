@@ -4,3 +4,4 @@ pub mod Fields
 pub mod Lines
 pub mod Records
 pub mod Reporting
+pub mod Rowing

@@ -26,7 +26,9 @@ use Rattle.sched_core.specs.FairQueues.{FairQueues, no_queues}
 use Rattle.sched_core.specs.FqCodel.{fq_codel}
 use Rattle.sched_core.specs.State.{State, opening_state}
 use Rattle.sched_core.specs.declared.step.Step.{Step}
-use Rattle.trace_core.specs.Traces.{trace_of}
+use Rattle.sched_core.specs.Schedulers.{Scheduler, discipline_of}
+use Rattle.sched_core.specs.Steps.{Steps}
+use Rattle.trace_core.specs.Traces.{steps_of, trace_of}
 use Rattle.trace_core.specs.declared.report.Rows.{Rows}
 use Rattle.trace_core.specs.RowGrammar.{ecn_digit}
 
@@ -142,3 +144,22 @@ IsPlainRow (field ∷ rest) = (0 < length field) × IsPlain field × ArePlain re
 -- These bytes are written behind the rows so far, whatever those are.
 abbrev pub Adds : Rows → Rows → List ℕ → Type 0
 Adds old new more = (text : List ℕ) → HasText old text → HasText new (text ++ more)
+
+-- A step is made, and the rows of what it gave are written.
+pub record RunsStep (step : Step) (old new : Scheduler) (before after : Rows) : Type 0 where
+  pub said : Answer
+  pub events : List Event
+  pub steps : Steps (discipline_of old) old.standing.state step said events new.standing.state
+  pub journal : new.standing.events ≡ old.standing.events ++ events
+  pub params : new.params ≡ old.params
+  pub seed : new.seed ≡ old.seed
+  pub told : Adds before after (lines_of (made_rows (record { answer = said; events = events })))
+
+-- The steps of a text are made in turn, and the rows of what they gave are written.
+pub record RunsText (text : List ℕ) (old new : Scheduler) (before after : Rows) : Type 0 where
+  pub steps : List Step
+  pub made : List Made
+  pub read : steps_of text ≡ Ok steps
+  pub runs : Runs (discipline_of old) old.standing.state steps made new.standing.state
+  pub journal : new.standing.events ≡ old.standing.events ++ journal_of made
+  pub told : Adds before after (lines_of (flat_map made_rows made))

@@ -8,9 +8,12 @@ use Rattle.csv.specs.declared.parser.State.TheVariants as st
 use Rattle.csv.specs.declared.reader.Reader.{Reader}
 use Rattle.csv.specs.declared.reader.Trim.TheVariants as trim
 use Rattle.sched_core.specs.declared.step.Step.{Step}
+use Rattle.trace_core.specs.declared.reader.Next.{Next}
+use Rattle.trace_core.specs.declared.reader.Next.TheVariants as next
 use Rattle.trace_core.specs.declared.reader.TraceFault.{TraceFault}
 use Rattle.trace_core.specs.declared.reader.TraceFaultKind.{TraceFaultKind}
 use Rattle.trace_core.specs.declared.reader.TraceFaultKind.TheVariants.{Memory, Read, TooLarge}
+use Rattle.trace_core.specs.declared.reader.TraceRows.{TraceRows}
 use Rattle.trace_core.specs.Rows.{◌>>=◌, field_of, row_of}
 
 -- whether a record's only field is empty: it stands for no row, and isn't counted
@@ -80,6 +83,20 @@ pub record HasRead (text : List ℕ) (reader : Reader (Bor (List ℕ))) (before 
   pub source : source_of (λ (s : Bor (List ℕ)). Some s.now) reader ≡ Some rest
   pub reached : Reached default_config st.StartRecord (strip_bom text) before (reader_state reader) rest
 
--- The reader stands at the start of this text, which is no longer than a trace may be.
-abbrev pub IsAtStart : List ℕ → Reader (Bor (List ℕ)) → Type 0
-IsAtStart text reader = (length text ≤ 134217728) × HasRead text reader []
+-- So many records or more of a text were taken, which ask for these steps, and the next row has its number.
+pub record HasTaken (text : List ℕ) (rows : TraceRows) (turns : ℕ) (steps : List Step) : Type 0 where
+  pub before : List (List (List ℕ))
+  pub read : HasRead text rows.records before
+  pub many : turns ≤ length before
+  pub asked : steps_from 1 before ≡ Ok steps
+  pub next_row : rows.row_number ≡ 1 + length steps
+
+-- what was taken next: a row asks for one step more, a blank record for none, and at the end the steps are those of the text
+abbrev pub Takes : TraceRows → Next → TraceRows → Type 0
+Takes old (next.Row step) new = (text : List ℕ) (turns : ℕ) (steps : List Step) → HasTaken text old turns steps → HasTaken text new (turns + 1) (steps ++ step ∷ [])
+Takes old next.Blank new = (text : List ℕ) (turns : ℕ) (steps : List Step) → HasTaken text old turns steps → HasTaken text new (turns + 1) steps
+Takes old next.End new = (text : List ℕ) (turns : ℕ) (steps : List Step) → HasTaken text old turns steps → steps_of text ≡ Ok steps
+
+-- The rows stand at the start of this text, which is no longer than a trace may be.
+abbrev pub IsAtStart : List ℕ → TraceRows → Type 0
+IsAtStart text rows = (length text ≤ 134217728) × HasTaken text rows 0 []

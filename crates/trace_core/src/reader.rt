@@ -72,15 +72,26 @@ pub fn read_trace<R: Read>(alloc: Global, reader: &mut R) -> Result<Vec<Step>, T
 }
 
 /// The steps of the trace that a source gives.
-pub(crate) fn read_source<S: Source>(alloc: Global, source: &mut S) -> Result<Vec<Step>, TraceFault>
+fn read_source<S: Source>(alloc: Global, source: &mut S) -> Result<Vec<Step>, TraceFault>
     ensures steps { IfOk result (λ steps. IfSome (S.remaining source.old) (λ bytes. Traces.trace_of bytes ≡ Ok steps.items)) }
     ensures fault { IfErr result (λ fault. IfSome (S.remaining source.old) (λ bytes. Traces.IsFaultOf bytes fault)) }
 
     // At row 0, Read comes only where the source has failed.
     ensures read { IfErr result (λ fault. fault.what ≡ TraceFaultKind.Read → fault.row ≡ 0 → S.HasFailed source.new) }
 {
+    let text = read_text(alloc, source)?;
+    all_steps(alloc, &mut TraceRows::new(alloc, &text))
+}
+
+/// The text of the trace that a source gives. A fault stands at row 0.
+pub(crate) fn read_text<S: Source>(alloc: Global, source: &mut S) -> Result<Vec<u8>, TraceFault>
+    ensures whole { IfOk result (λ text. IfSome (S.remaining source.old) (λ bytes. text.items ≡ bytes)) }
+    ensures bound { IfOk result (λ text. vec_len text ≤ MAX_BYTES) }
+    ensures fault { IfErr result (λ fault. IfSome (S.remaining source.old) (λ bytes. Traces.IsFaultOf bytes fault)) }
+    ensures read { IfErr result (λ fault. fault.what ≡ TraceFaultKind.Read → S.HasFailed source.new) }
+{
     match read_bytes(alloc, source) {
-        Ok(text) => read_rows(alloc, &text),
+        Ok(text) => Ok(text),
         Err(what) => Err(fault(0, what)),
     }
 }
@@ -114,62 +125,104 @@ fn read_bytes<S: Source>(alloc: Global, source: &mut S) -> Result<Vec<u8>, Trace
     Err(TraceFaultKind::TooLarge)
 }
 
-/// The steps of a trace's text, one for each row.
-fn read_rows(alloc: Global, text: &[u8]) -> Result<Vec<Step>, TraceFault>
-    requires { length text.now ≤ MAX_BYTES }
-    ensures steps { IfOk result (λ steps. Traces.steps_of text.now ≡ Ok steps.items) }
-    ensures fault { IfErr result (λ fault. (Traces.steps_of text.now ≡ Err fault) ⊎ Traces.StopsAtRow text.now fault) }
-    ensures row { IfErr result (λ fault. 1 ≤ fault.row) }
-{
-    all_steps(alloc, &mut rows_of(alloc, text))
+/// What stands next in a text.
+#[derive(Clone, Copy, Debug)]
+pub(crate) enum Next {
+    /// A row, which asks for that step.
+    Row(Step),
+    /// A record with one empty field, which is no row and isn't counted.
+    Blank,
+    /// The end.
+    End,
 }
 
-/// A reader of a text's rows, at the start of the text.
-fn rows_of(alloc: Global, text: &[u8]) -> csv::Reader<&[u8]>
-    ensures { Traces.HasRead text.now result [] }
-{
-    ReaderBuilder::new()
-        .has_headers(false)
-        .flexible(true)
-        .from_reader(alloc, text)
+/// The rows of a text, as they are read one after the other.
+#[derive(Drop)]
+pub(crate) struct TraceRows<'a> {
+    records: csv::Reader<&'a [u8]>,
+    row: ByteRecord,
+    row_number: u64,
 }
 
-/// The steps of all rows of a text, from its start on. A row of one empty field stands for no step, and isn't
-/// counted.
-fn all_steps(alloc: Global, rows: &mut csv::Reader<&[u8]>) -> Result<Vec<Step>, TraceFault>
+impl<'a> TraceRows<'a> {
+    /// The rows of a text, from its start on.
+    pub(crate) fn new(alloc: Global, text: &'a [u8]) -> TraceRows<'a>
+        ensures start { Traces.HasTaken text.now result 0 [] }
+        ensures first { result.row_number ≡ 1 }
+    {
+        TraceRows {
+            records: ReaderBuilder::new()
+                .has_headers(false)
+                .flexible(true)
+                .from_reader(alloc, text),
+            row: ByteRecord::new(alloc),
+            row_number: 1,
+        }
+    }
+
+    /// What stands next. A fault comes at the row that it stands in.
+    pub(crate) fn next(&mut self) -> Result<Next, TraceFault>
+        ensures taken { IfOk result (λ next. Traces.Takes self.old next self.new) }
+        ensures fault { IfErr result (λ fault. (text : List ℕ) (turns : ℕ) (steps : List Step) → Traces.HasTaken text self.old turns steps → (Traces.steps_of text ≡ Err fault) ⊎ Traces.StopsAtRow text fault) }
+        ensures row { IfErr result (λ fault. fault.row ≡ self.old.row_number) }
+        ensures order { self.old.row_number ≤ self.new.row_number }
+
+        // Read comes only where `csv` has failed.
+        ensures read { IfErr result (λ fault. fault.what ≡ TraceFaultKind.Read → (text : List ℕ) (turns : ℕ) (steps : List Step) → Traces.HasTaken text self.old turns steps → has_failed self.new.records ≡ true) }
+    {
+        match next_record(&mut self.records, &mut self.row) {
+            Ok(true) => {}
+            Ok(false) => return Ok(Next::End),
+            Err(what) => return Err(fault(self.row_number, what)),
+        }
+        if is_blank(&self.row) {
+            return Ok(Next::Blank);
+        }
+        if self.row_number > MAX_ROWS {
+            return Err(fault(self.row_number, TraceFaultKind::TooLarge));
+        }
+        match read_row(&self.row) {
+            Ok(step) => {
+                self.row_number += 1;
+                Ok(Next::Row(step))
+            }
+            Err(what) => Err(fault(self.row_number, what)),
+        }
+    }
+
+    /// The number of the next row, from 1.
+    pub(crate) fn row_number(&self) -> u64
+        ensures { result ≡ self.now.row_number }
+    {
+        self.row_number
+    }
+}
+
+/// The steps of all rows of a text, from its start on.
+fn all_steps(alloc: Global, rows: &mut TraceRows<'_>) -> Result<Vec<Step>, TraceFault>
+    requires { 1 ≤ rows.old.row_number }
     ensures steps { IfOk result (λ steps. (text : List ℕ) → Traces.IsAtStart text rows.old → Traces.steps_of text ≡ Ok steps.items) }
     ensures fault { IfErr result (λ fault. (text : List ℕ) → Traces.IsAtStart text rows.old → (Traces.steps_of text ≡ Err fault) ⊎ Traces.StopsAtRow text fault) }
     ensures row { IfErr result (λ fault. 1 ≤ fault.row) }
 
     // Read comes only where `csv` has failed.
-    ensures read { IfErr result (λ fault. fault.what ≡ TraceFaultKind.Read → (text : List ℕ) → Traces.IsAtStart text rows.old → has_failed rows.new ≡ true) }
+    ensures read { IfErr result (λ fault. fault.what ≡ TraceFaultKind.Read → (text : List ℕ) → Traces.IsAtStart text rows.old → has_failed rows.new.records ≡ true) }
 {
-    let mut row = ByteRecord::new(alloc);
     let mut steps = Vec::new(alloc);
-    let mut row_number = 1;
-    // A row takes a byte or more, so the text ends before the turns do.
+    // A record takes a byte or more, so the text ends before the turns do.
     for _turn in 0..u64::MAX {
-        match next_row(rows, &mut row) {
-            Ok(true) => {}
-            Ok(false) => return Ok(steps),
-            Err(what) => return Err(fault(row_number, what)),
+        let row = rows.row_number();
+        match rows.next()? {
+            Next::End => return Ok(steps),
+            Next::Blank => {}
+            Next::Row(step) => {
+                if steps.push(step).is_err() {
+                    return Err(fault(row, TraceFaultKind::Memory));
+                }
+            }
         }
-        if is_blank(&row) {
-            continue;
-        }
-        if row_number > MAX_ROWS {
-            return Err(fault(row_number, TraceFaultKind::TooLarge));
-        }
-        let step = match read_row(&row) {
-            Ok(step) => step,
-            Err(what) => return Err(fault(row_number, what)),
-        };
-        if steps.push(step).is_err() {
-            return Err(fault(row_number, TraceFaultKind::Memory));
-        }
-        row_number += 1;
     }
-    Err(fault(row_number, TraceFaultKind::TooLarge))
+    Err(fault(rows.row_number(), TraceFaultKind::TooLarge))
 }
 
 /// What is wrong at a row.
@@ -179,14 +232,17 @@ fn fault(row: u64, what: TraceFaultKind) -> TraceFault
     TraceFault { row, what }
 }
 
-/// Cuts the next row off the text, and says whether there was one.
-fn next_row(rows: &mut csv::Reader<&[u8]>, row: &mut ByteRecord) -> Result<bool, TraceFaultKind>
-    ensures more { IfOk result (λ found. found ≡ true → (text : List ℕ) (before : List (List (List ℕ))) → Traces.HasRead text rows.old before → Traces.HasRead text rows.new (before ++ fields_of row.new ∷ [])) }
-    ensures end { IfOk result (λ found. found ≡ false → (text : List ℕ) (before : List (List (List ℕ))) → Traces.HasRead text rows.old before → records default_config (strip_bom text) ≡ before) }
+/// Cuts the next record off the text, and says whether there was one.
+fn next_record(
+    reader: &mut csv::Reader<&[u8]>,
+    row: &mut ByteRecord,
+) -> Result<bool, TraceFaultKind>
+    ensures more { IfOk result (λ found. found ≡ true → (text : List ℕ) (before : List (List (List ℕ))) → Traces.HasRead text reader.old before → Traces.HasRead text reader.new (before ++ fields_of row.new ∷ [])) }
+    ensures end { IfOk result (λ found. found ≡ false → (text : List ℕ) (before : List (List (List ℕ))) → Traces.HasRead text reader.old before → records default_config (strip_bom text) ≡ before) }
     ensures fault { IfErr result (λ fault. (fault ≡ TraceFaultKind.Read) ⊎ (fault ≡ TraceFaultKind.Memory)) }
-    ensures failed { OnErr result ((text : List ℕ) (before : List (List (List ℕ))) → Traces.HasRead text rows.old before → has_failed rows.new ≡ true) }
+    ensures failed { OnErr result ((text : List ℕ) (before : List (List (List ℕ))) → Traces.HasRead text reader.old before → has_failed reader.new ≡ true) }
 {
-    match rows.read_byte_record(row) {
+    match reader.read_byte_record(row) {
         Ok(found) => Ok(found),
         Err(error) => Err(fault_of(&error)),
     }
@@ -202,7 +258,7 @@ fn fault_of(error: &csv::Error) -> TraceFaultKind
     }
 }
 
-/// Whether a row's only field is empty.
+/// Whether a record's only field is empty.
 fn is_blank(row: &ByteRecord) -> bool
     ensures { result ≡ Traces.is_blank (fields_of row.now) }
 {

@@ -1,5 +1,6 @@
-ghost use Rattle.std.specs.Prelude.{◌≡◌, All, ◌++◌, ◌∷◌, [], ℕ, List, IfOk, OnOk, map, slice_range, string_bytes};
-ghost use Rattle.sched_core.specs.Runs.{Made, StandsIn, journal_of, outcomes_from};
+ghost use Rattle.std.specs.Prelude.{◌≡◌, ◌++◌, ◌∷◌, [], ℕ, List, IfOk, OnOk, map, string_bytes};
+ghost use Rattle.sched_core.specs.Statistics.{statistics};
+ghost use Rattle.sched_core.specs.TupleRows.{tuple_rows};
 ghost use Rattle.packet_core.specs.Packets.{ip_bytes};
 ghost use Rattle.trace_core.specs.Report as Report;
 ghost use Rattle.trace_core.specs.RowGrammar.{ecn_digit};
@@ -7,45 +8,19 @@ ghost use Rattle.trace_core.specs.RowGrammar.{ecn_digit};
 use crate::decimal::Digits;
 use csv::{Writer, WriterBuilder};
 use packet_core::{Ecn, Ip};
-use sched_core::{
-    Answer, Cause, Event, Memory, MomentFault, Outcome, Ran, Refusal, Totals, TupleRow,
-};
+use sched_core::{Answer, Cause, Event, Memory, MomentFault, Refusal, Sched, Totals, TupleRow};
 use std::alloc::{AllocError, Global};
-
-/// The report of a run, as text: the rows of each step, in order, the row of the totals, and a row for each
-/// five-tuple. It answers Err where a growth is refused.
-pub(crate) fn report_of(alloc: Global, ran: &Ran) -> Result<Vec<u8>, Memory>
-    requires { All (StandsIn ran.now.engine.sched.standing.events) ran.now.outcomes.items }
-    ensures { IfOk result (λ text. (made : List Made) → ran.now.engine.sched.standing.events ≡ journal_of made → ran.now.outcomes.items ≡ outcomes_from 0 made → text.items ≡ Report.report_of made) }
-{
-    let mut rows = Rows::new(alloc);
-    for outcome in &ran.outcomes {
-        rows.outcome(outcome, own_events(ran.engine.events(), outcome))?;
-    }
-    rows.totals(&ran.engine.totals())?;
-    let tuple_rows = ran.engine.tuple_rows()?;
-    rows.tuples(&tuple_rows)?;
-    rows.into_text()
-}
-
-/// A step's own events, out of the whole journal.
-fn own_events<'a>(events: &'a [Event], outcome: &Outcome) -> &'a [Event]
-    requires { StandsIn events.now outcome.now }
-    ensures { result.now ≡ slice_range events.now outcome.now.first_event outcome.now.end_event }
-{
-    &events[outcome.first_event..outcome.end_event]
-}
 
 /// The rows of a report, as they are written.
 #[derive(Drop)]
-struct Rows {
+pub(crate) struct Rows {
     alloc: Global,
     writer: Writer<Vec<u8>>,
 }
 
 impl Rows {
     /// No rows yet.
-    fn new(alloc: Global) -> Rows
+    pub(crate) fn new(alloc: Global) -> Rows
         ensures { Report.HasText result [] }
     {
         Rows {
@@ -55,6 +30,17 @@ impl Rows {
                 .flexible(true)
                 .from_writer(Vec::new(alloc)),
         }
+    }
+
+    /// The text of the whole report: the rows so far, which are those of all steps, then the row of the totals, and a
+    /// row for each five-tuple. It fails for want of memory alone.
+    pub(crate) fn finish(mut self, sched: &Sched) -> Result<Vec<u8>, Memory>
+        ensures { IfOk result (λ text. (written : List ℕ) → Report.HasText self written → text.items ≡ (written ++ Report.line_of (Report.totals_row (statistics sched.now.standing.events))) ++ Report.lines_of (map Report.tuple_row (tuple_rows sched.now.standing.events))) }
+    {
+        self.totals(&sched.totals())?;
+        let tuple_rows = sched.tuple_rows()?;
+        self.tuples(&tuple_rows)?;
+        self.into_text()
     }
 
     /// The text of all rows.
@@ -76,14 +62,14 @@ impl Rows {
         }
     }
 
-    /// The rows of a step with these events: one for each event, and one where the step made none.
-    fn outcome(&mut self, outcome: &Outcome, own_events: &[Event]) -> Result<(), Memory>
-        ensures { OnOk result (Report.Adds self.old self.new (Report.lines_of (map Report.event_row own_events.now ++ Report.answer_rows outcome.now.answer))) }
+    /// The rows of a step with this answer and these events: one for each event, and one where the step made none.
+    pub(crate) fn step(&mut self, answer: Answer, own_events: &[Event]) -> Result<(), Memory>
+        ensures { OnOk result (Report.Adds self.old self.new (Report.lines_of (map Report.event_row own_events.now ++ Report.answer_rows answer))) }
     {
         for event in own_events {
             self.event(event)?;
         }
-        match outcome.answer {
+        match answer {
             Answer::Accepted | Answer::Sent | Answer::Closed => Ok(()),
             Answer::Idle => self.row(&[b"idle"]),
             Answer::Refused(refusal) => self.refusal(refusal),

@@ -1,17 +1,18 @@
-ghost use Rattle.std.specs.Prelude.{◌≡◌, ◌≢◌, ◌⊎◌, ℕ, List, Err, IfErr, IfSome, OnErr, OnOk, take};
+ghost use Rattle.std.specs.Prelude.{◌≡◌, ◌≢◌, ◌≤◌, ◌⊎◌, ℕ, List, Err, IfErr, IfOk, IfSome, OnErr, OnOk, length, take, true};
 ghost use Rattle.std.specs.Result.{IsOkUnless};
 ghost use Rattle.std.specs.Io.KnownBytes.{Appends, Keeps};
-ghost use Rattle.trace_core.specs.Report.{IsReportOf};
-ghost use Rattle.trace_core.specs.Traces.{IsFaultOf};
+ghost use Rattle.csv.specs.Reading.{has_failed};
+ghost use Rattle.trace_core.specs.Report.{IsReportOf, RunsStep, RunsText};
+ghost use Rattle.trace_core.specs.Traces.{IsAtStart, IsFaultOf, StopsAtRow, steps_of};
 ghost use Rattle.trace_core.specs.declared.reader.TraceFault.{TraceFault};
 ghost use Rattle.trace_core.specs.declared.reader.TraceFaultKind.TheVariants as kind;
 ghost use Rattle.trace_core.specs.declared.trace_run.RunFault.TheVariants.{Memory, Trace};
 
-use crate::reader::{TraceFault, read_source};
-use crate::report::report_of;
+use crate::reader::{MAX_BYTES, Next, TraceFault, TraceFaultKind, TraceRows, read_text};
+use crate::report::Rows;
 use crate::streams::{Sink, Source, Watched};
 use packet_core::{Params, Seed};
-use sched_core::run_steps;
+use sched_core::{Memory, Sched, Step};
 use std::alloc::{AllocError, Global};
 use std::io::{Read, Write};
 use thiserror::Error;
@@ -22,7 +23,7 @@ pub enum RunFault {
     /// The trace wasn't read. Nothing was written.
     #[error("{0}")]
     Trace(TraceFault),
-    /// A growth was refused behind the reading of the trace. Nothing was written.
+    /// A growth was refused, beside those of the reading of the trace. Nothing was written.
     #[error("memory")]
     Memory,
     /// A write failed or took nothing. What was written is the front of the report.
@@ -86,10 +87,56 @@ fn run_between<S: Source, K: Sink>(
     ensures read { IfErr result (λ fault. (why : TraceFault) → fault ≡ RunFault.Trace why → why.what ≡ kind.Read → why.row ≡ 0 → S.HasFailed source.new) }
     ensures write { IfErr result (λ fault. fault ≡ RunFault.Write → K.HasFailed sink.new) }
 {
-    let steps = read_source(alloc, source)?;
-    let ran = run_steps(alloc, params, seed, &steps)?;
-    let text = report_of(alloc, &ran)?;
-    write_text(sink, &text)
+    let text = read_text(alloc, source)?;
+    let report = report_of(alloc, params, seed, &text)?;
+    write_text(sink, &report)
+}
+
+/// The report of a text's run with a new scheduler of those parameters and that seed.
+fn report_of(alloc: Global, params: Params, seed: Seed, text: &[u8]) -> Result<Vec<u8>, RunFault>
+    requires { length text.now ≤ MAX_BYTES }
+    ensures report { IfOk result (λ report. IsReportOf params seed text.now report.items) }
+    ensures trace { IfErr result (λ fault. (why : TraceFault) → fault ≡ RunFault.Trace why → (1 ≤ why.row) × ((steps_of text.now ≡ Err why) ⊎ StopsAtRow text.now why)) }
+    ensures write { IfErr result (λ fault. fault ≢ RunFault.Write) }
+{
+    let mut sched = Sched::try_new(alloc, params, seed)?;
+    let mut report = Rows::new(alloc);
+    run_rows(&mut sched, &mut TraceRows::new(alloc, text), &mut report)?;
+    Ok(report.finish(&sched)?)
+}
+
+/// Makes the steps of all rows of a text, from its start on, each as it is read, and writes its rows of the report.
+fn run_rows(sched: &mut Sched, rows: &mut TraceRows<'_>, report: &mut Rows) -> Result<(), RunFault>
+    requires { 1 ≤ rows.old.row_number }
+    ensures run { OnOk result ((text : List ℕ) → IsAtStart text rows.old → RunsText text sched.old sched.new report.old report.new) }
+    ensures trace { IfErr result (λ fault. (why : TraceFault) → fault ≡ RunFault.Trace why → (text : List ℕ) → IsAtStart text rows.old → (steps_of text ≡ Err why) ⊎ StopsAtRow text why) }
+    ensures row { IfErr result (λ fault. (why : TraceFault) → fault ≡ RunFault.Trace why → 1 ≤ why.row) }
+    ensures write { IfErr result (λ fault. fault ≢ RunFault.Write) }
+
+    // Read comes only where `csv` has failed.
+    ensures read { IfErr result (λ fault. (why : TraceFault) → fault ≡ RunFault.Trace why → why.what ≡ kind.Read → (text : List ℕ) → IsAtStart text rows.old → has_failed rows.new.records ≡ true) }
+{
+    // A record takes a byte or more, so the text ends before the turns do.
+    for _turn in 0..u64::MAX {
+        match rows.next()? {
+            Next::End => return Ok(()),
+            Next::Blank => {}
+            Next::Row(step) => run_step(sched, &step, report)?,
+        }
+    }
+    Err(RunFault::Trace(TraceFault {
+        row: rows.row_number(),
+        what: TraceFaultKind::TooLarge,
+    }))
+}
+
+/// Makes a step, and writes its rows of the report.
+fn run_step(sched: &mut Sched, step: &Step, report: &mut Rows) -> Result<(), Memory>
+    ensures made { OnOk result (RunsStep step.now sched.old sched.new report.old report.new) }
+{
+    let first = sched.events().len();
+    let answer = sched.make(step)?;
+    report.step(answer, &sched.events()[first..])
 }
 
 /// Writes the whole of a text. Where the sink fails, the front of the text is written.

@@ -4,16 +4,16 @@ use Rattle.csv.specs.Reading.{default_config, strip_bom}
 use Rattle.csv.specs.Records.{fields_of}
 use Rattle.csv.specs.declared.parser.State.TheVariants as st
 use Rattle.trace_core.proofs.Records.{records-all}
-use Rattle.trace_core.proofs.reader.next_row.Goals as goal
+use Rattle.trace_core.proofs.reader.next_record.Goals as goal
 
 pub returns-in-Ok-clause-more : goal.returns-in-Ok-clause-more
 returns-in-Ok-clause-more c = λ found text before h.
     let read = rw found at (c.in-Ok.ensures.reads h.trim h.ready) in
-    let next = rows-more (λ (s : Bor (List ℕ)). Some s.now) c.args.rows.now c.read_byte_record.new.self (fields_of c.read_byte_record.new.row) default_config st.StartRecord (strip_bom text) h.rest before h.config h.source h.reached read in
+    let next = rows-more (λ (s : Bor (List ℕ)). Some s.now) c.args.reader.now c.read_byte_record.new.self (fields_of c.read_byte_record.new.row) default_config st.StartRecord (strip_bom text) h.rest before h.config h.source h.reached read in
     record { trim = read.3 ∙ h.trim; ready = inl (c.in-Ok.ensures.ready h.trim); flexible = c.in-Ok.ensures.flexible ∙ h.flexible; config = read.2 ∙ h.config; rest = next.0; source = next.1; reached = next.2 }
 
 pub returns-in-Ok-clause-end : goal.returns-in-Ok-clause-end
 returns-in-Ok-clause-end c = λ found text before h.
     let read = rw found at (c.in-Ok.ensures.reads h.trim h.ready) in
-    let none = rows-end (λ (s : Bor (List ℕ)). Some s.now) c.args.rows.now c.read_byte_record.new.self (fields_of c.read_byte_record.new.row) default_config h.rest h.config h.source read in
+    let none = rows-end (λ (s : Bor (List ℕ)). Some s.now) c.args.reader.now c.read_byte_record.new.self (fields_of c.read_byte_record.new.row) default_config h.rest h.config h.source read in
     records-all _ (strip_bom text) h.rest before h.reached none

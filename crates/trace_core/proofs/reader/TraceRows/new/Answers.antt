@@ -1,13 +1,15 @@
-use Rattle.std.proofs.Common.{◌∙◌, inr, refl, sym}
+use Rattle.std.proofs.Common.{◌∙◌, [], arith, inr, refl, sym}
 use Rattle.csv.specs.Reading.{Reached, strip_bom}
-use Rattle.trace_core.proofs.reader.rows_of.Goals as goal
+use Rattle.trace_core.specs.Traces.{HasRead, steps_from}
+use Rattle.trace_core.proofs.reader.TraceRows.new.Goals as goal
 
-pub returns : goal.returns
-unfolding Reached
-returns c =
+pub returns-clause-start : goal.returns-clause-start
+unfolding Reached steps_from
+returns-clause-start c =
     let reader = c.from_reader.ensures in
     let flexible = c.flexible.ensures in
     let headers = c.has_headers.ensures in
+    let read : HasRead c.args.text.now c.from_reader.result [] =
     record {
       trim = rw (flexible, headers) at reader.trim ∙ c.new.ensures.trim;
       ready = inr (inr (rw (flexible, headers) at reader.has_headers, reader.headers));
@@ -16,4 +18,5 @@ returns c =
       rest = strip_bom c.args.text.now;
       source = reader.source;
       reached = (sym reader.state, refl);
-    }
+    } in
+    record { before = []; read = read; many = omega arith; asked = refl; next_row = refl }

@@ -2,7 +2,7 @@ use Rattle.std.proofs.Common.{◌≡◌, [], ◌∷◌, append-nil, arith, codes
 use Rattle.std.proofs.lemmas.List.{take_all}
 use Rattle.trace_core.specs.Report.{Adds, event_row, line_of, lines_of, refusal_row}
 use Rattle.trace_core.proofs.Reporting.{adds_behind, answer_more, event_more}
-use Rattle.trace_core.proofs.report.Rows.outcome.Goals as goal
+use Rattle.trace_core.proofs.report.Rows.step.Goals as goal
 
 pub loop-event-preserved : goal.loop-event-preserved
 loop-event-preserved c = λ text h.

@@ -1,6 +1,6 @@
 use Rattle.std.proofs.Common.{◌++◌, ℕ, List, map, take}
 use Rattle.trace_core.specs.Report.{HasText, event_row, lines_of}
-use Rattle.trace_core.proofs.report.Rows.outcome.Given as goal
+use Rattle.trace_core.proofs.report.Rows.step.Given as goal
 
 -- the rows of the events so far
 abbrev pub invariant-loop-event : goal.invariant-loop-event
