@@ -1,20 +1,11 @@
 mod codel;
 mod command_line;
 mod help;
-mod many_flows;
-mod overflows;
-mod queue_runs;
 mod reports;
 mod row_faults;
 mod rows;
-mod runs;
-mod schedulers;
 mod steps;
 mod streams;
-mod tuple_rows;
-mod turn_runs;
-mod turns;
-mod verdicts;
 
 use crate::program::program;
 use packet_core::{Params, read_params};

@@ -1,4 +1,4 @@
-use super::schedulers::{PORT, arrive, expect_idle, expect_sent, four_flows, one_flow, scheduler};
+use crate::schedulers::{PORT, arrive, expect_idle, expect_sent, four_flows, one_flow, scheduler};
 use codel_core::CodelState;
 use packet_core::ParamFields;
 use sched_core::FlowView;

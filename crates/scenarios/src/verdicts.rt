@@ -1,4 +1,4 @@
-use super::schedulers::{
+use crate::schedulers::{
     PORT, arrive, dropped, expect_events, expect_given, expect_idle, expect_sent, one_flow, packet,
     scheduler, sent,
 };
@@ -18,12 +18,13 @@ fn expect_codel(rt: &impl Abort, sched: &Sched, codel: CodelState) {
 fn ten_packets_drop_and_send(rt: HostRuntime) -> Result<(), Fail> {
     let mut sched = scheduler(&rt, one_flow())?;
     arrive(&mut sched, PORT, 10, 1_000)?;
-    expect_sent(&rt, &mut sched, 5_000, 0)?;
-    expect_sent(&rt, &mut sched, 105_000, 2)?;
-    expect_sent(&rt, &mut sched, 205_000, 4)?;
+    for (moment, id) in [(5_000, 0), (105_000, 2), (205_000, 4)] {
+        expect_sent(&rt, &mut sched, moment, id)?;
+    }
     assert_eq!(rt; sched.turns(), 2);
-    expect_sent(&rt, &mut sched, 275_710, 6)?;
-    expect_sent(&rt, &mut sched, 333_445, 8)?;
+    for (moment, id) in [(275_710, 6), (333_445, 8)] {
+        expect_sent(&rt, &mut sched, moment, id)?;
+    }
     let left = CodelState {
         first_above: None,
         drop_next: 333_445,

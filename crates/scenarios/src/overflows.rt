@@ -1,4 +1,4 @@
-use super::schedulers::{
+use crate::schedulers::{
     PORT, accepted, arrive, dropped, expect_events, expect_idle, expect_sent, four_flows, one_flow,
     scheduler,
 };

@@ -1,4 +1,4 @@
-use super::schedulers::{PORT, arrive, four_flows, one_flow, packet, scheduler};
+use crate::schedulers::{PORT, arrive, four_flows, one_flow, packet, scheduler};
 use packet_core::{Ecn, FiveTuple, Packet};
 use sched_core::{Sched, TupleRow};
 use std::process::Abort;

@@ -1,4 +1,4 @@
-use super::schedulers::{PORT, accepted, four_flows, one_flow, packet, sent};
+use crate::schedulers::{PORT, accepted, four_flows, one_flow, packet, sent};
 use codel_core::CodelState;
 use packet_core::{Ecn, ParamFields, Params, Seed};
 use sched_core::{
@@ -14,7 +14,7 @@ use trace_core::{read_trace, run};
 const SEED: Seed = Seed([0; 16]);
 
 /// Makes the first steps of a trace, so many at most.
-pub(super) fn run_front(
+pub(crate) fn run_front(
     rt: &impl AllocGlobal,
     fields: ParamFields,
     trace: &str,
@@ -27,7 +27,7 @@ pub(super) fn run_front(
 }
 
 /// Compares the report of a trace, and gives the run of its steps.
-pub(super) fn expect_run(
+pub(crate) fn expect_run(
     rt: &(impl Abort + AllocGlobal),
     fields: ParamFields,
     trace: &str,
@@ -42,7 +42,7 @@ pub(super) fn expect_run(
 }
 
 /// What a step gave: its answer, the place of its first event, and the place behind its last one.
-pub(super) fn outcome(answer: Answer, first_event: usize, end_event: usize) -> Outcome {
+pub(crate) fn outcome(answer: Answer, first_event: usize, end_event: usize) -> Outcome {
     Outcome {
         answer,
         first_event,
@@ -56,12 +56,12 @@ fn backwards(last: u64) -> Answer {
 }
 
 /// Compares the outcomes of all steps from that place on.
-pub(super) fn expect_outcomes(rt: &impl Abort, ran: &Ran, first: usize, outcomes: &[Outcome]) {
+pub(crate) fn expect_outcomes(rt: &impl Abort, ran: &Ran, first: usize, outcomes: &[Outcome]) {
     assert_eq!(rt; ran.outcomes.get(first..), Some(outcomes));
 }
 
 /// Compares the journal from that place on.
-pub(super) fn expect_events(rt: &impl Abort, ran: &Ran, first: usize, events: &[Event]) {
+pub(crate) fn expect_events(rt: &impl Abort, ran: &Ran, first: usize, events: &[Event]) {
     assert_eq!(rt; ran.engine.events().get(first..), Some(events));
 }
 
@@ -71,13 +71,13 @@ fn expect_steps(rt: &impl Abort, ran: &Ran, steps: &[Step]) {
 }
 
 /// Compares what is kept of a flow.
-pub(super) fn expect_flow(rt: &impl Abort, ran: &Ran, flow: u32, view: FlowView) {
+pub(crate) fn expect_flow(rt: &impl Abort, ran: &Ran, flow: u32, view: FlowView) {
     assert!(rt; flow < ran.engine.params().flows());
     assert_eq!(rt; ran.engine.flow_view(flow), view, "of flow {flow}");
 }
 
 /// What is kept of a flow no packet of which has waited too long.
-pub(super) fn in_time(len: u64, bytes: u64, credits: i64) -> FlowView {
+pub(crate) fn in_time(len: u64, bytes: u64, credits: i64) -> FlowView {
     FlowView {
         len,
         bytes,

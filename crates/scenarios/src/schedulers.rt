@@ -1,15 +1,16 @@
 use packet_core::{Classify, Ecn, EcnUse, FiveTuple, Ip, Packet, ParamFields, Params, Seed};
 use sched_core::{
-    Admitted, Cause, CloseFault, Event, Mark, MomentFault, Refusal, Sched, Sent, Totals,
+    Admitted, Answer, Cause, CloseFault, Event, Mark, MomentFault, Refusal, Sched, Sent, Step,
+    Totals,
 };
 use std::process::Abort;
 use std::test::Fail;
 
 /// The destination port where there is one flow.
-pub(super) const PORT: u16 = 53;
+pub(crate) const PORT: u16 = 53;
 
 /// Standard parameters for one flow, without marks, and flows by the destination port.
-pub(super) fn one_flow() -> ParamFields {
+pub(crate) fn one_flow() -> ParamFields {
     let mut fields = ParamFields::standard();
     fields.flows = 1;
     fields.ecn = EcnUse::Drop;
@@ -18,20 +19,20 @@ pub(super) fn one_flow() -> ParamFields {
 }
 
 /// Standard parameters for four flows, without marks.
-pub(super) fn four_flows() -> ParamFields {
+pub(crate) fn four_flows() -> ParamFields {
     let mut fields = one_flow();
     fields.flows = 4;
     fields
 }
 
 /// A scheduler with those parameters.
-pub(super) fn scheduler(rt: &impl AllocGlobal, fields: ParamFields) -> Result<Sched, Fail> {
+pub(crate) fn scheduler(rt: &impl AllocGlobal, fields: ParamFields) -> Result<Sched, Fail> {
     let params = Params::try_new(fields)?;
     Ok(Sched::try_new(rt.alloc(), params, Seed([0; 16]))?)
 }
 
 /// A packet of `len` bytes to that destination port.
-pub(super) fn packet(dport: u16, len: u32, ecn: Ecn) -> Result<Packet, Fail> {
+pub(crate) fn packet(dport: u16, len: u32, ecn: Ecn) -> Result<Packet, Fail> {
     let tuple = FiveTuple {
         proto: 17,
         src: Ip::V4([10, 0, 0, 1]),
@@ -43,7 +44,7 @@ pub(super) fn packet(dport: u16, len: u32, ecn: Ecn) -> Result<Packet, Fail> {
 }
 
 /// Enqueues so many packets of `len` bytes at 0 to that destination port.
-pub(super) fn arrive(sched: &mut Sched, dport: u16, packets: u64, len: u32) -> Result<(), Fail> {
+pub(crate) fn arrive(sched: &mut Sched, dport: u16, packets: u64, len: u32) -> Result<(), Fail> {
     for _ in 0..packets {
         sched.enqueue(0, 0, packet(dport, len, Ecn::NotEct)?)?;
     }
@@ -51,7 +52,7 @@ pub(super) fn arrive(sched: &mut Sched, dport: u16, packets: u64, len: u32) -> R
 }
 
 /// What the journal tells of a packet that came at 0 to that destination port.
-pub(super) fn accepted(id: u64, flow: u32, dport: u16, len: u32) -> Result<Event, Fail> {
+pub(crate) fn accepted(id: u64, flow: u32, dport: u16, len: u32) -> Result<Event, Fail> {
     Ok(Event::Accepted {
         id,
         moment: 0,
@@ -62,7 +63,7 @@ pub(super) fn accepted(id: u64, flow: u32, dport: u16, len: u32) -> Result<Event
 }
 
 /// What the journal tells of a packet that was sent as it came.
-pub(super) fn sent(id: u64, moment: u64) -> Event {
+pub(crate) fn sent(id: u64, moment: u64) -> Event {
     Event::Sent {
         id,
         moment,
@@ -72,12 +73,12 @@ pub(super) fn sent(id: u64, moment: u64) -> Event {
 }
 
 /// What the journal tells of a packet that was dropped.
-pub(super) fn dropped(id: u64, moment: u64, cause: Cause) -> Event {
+pub(crate) fn dropped(id: u64, moment: u64, cause: Cause) -> Event {
     Event::Dropped { id, moment, cause }
 }
 
 /// Makes a dequeue, and compares the id, the ECN field and the mark of the packet that it gives.
-pub(super) fn expect_given(
+pub(crate) fn expect_given(
     rt: &impl Abort,
     sched: &mut Sched,
     moment: u64,
@@ -91,7 +92,7 @@ pub(super) fn expect_given(
 }
 
 /// Makes a dequeue, and compares the id of the packet that it gives as it came.
-pub(super) fn expect_sent(
+pub(crate) fn expect_sent(
     rt: &impl Abort,
     sched: &mut Sched,
     moment: u64,
@@ -101,12 +102,12 @@ pub(super) fn expect_sent(
 }
 
 /// Makes a dequeue that gives nothing.
-pub(super) fn expect_idle(rt: &impl Abort, sched: &mut Sched, moment: u64) -> Result<(), Fail> {
+pub(crate) fn expect_idle(rt: &impl Abort, sched: &mut Sched, moment: u64) -> Result<(), Fail> {
     expect_given(rt, sched, moment, None)
 }
 
 /// Compares the journal from that place on.
-pub(super) fn expect_events(rt: &impl Abort, sched: &Sched, first: usize, events: &[Event]) {
+pub(crate) fn expect_events(rt: &impl Abort, sched: &Sched, first: usize, events: &[Event]) {
     assert_eq!(rt; sched.events().get(first..), Some(events));
 }
 
@@ -152,6 +153,32 @@ fn closing_refuses_later_packets(rt: HostRuntime) -> Result<(), Fail> {
         closed: true,
     };
     assert_eq!(rt; sched.totals(), totals);
+    Ok(())
+}
+
+#[test]
+fn steps_are_answered_as_in_a_run(rt: HostRuntime) -> Result<(), Fail> {
+    let mut sched = scheduler(&rt, one_flow())?;
+    let packet = packet(PORT, 1_000, Ecn::NotEct)?;
+    let enqueue = |moment| Step::Enqueue {
+        moment,
+        lane: 0,
+        packet,
+    };
+    let backwards = Refusal::Moment(MomentFault::Backwards { last: 3 });
+    let steps = [
+        (Step::Dequeue { moment: 0 }, Answer::Idle),
+        (enqueue(1), Answer::Accepted),
+        (Step::Close { moment: 2 }, Answer::Closed),
+        (enqueue(3), Answer::Refused(Refusal::ClosedAlready)),
+        (Step::Dequeue { moment: 3 }, Answer::Sent),
+        (Step::Dequeue { moment: 2 }, Answer::Refused(backwards)),
+    ];
+    for (step, answer) in steps {
+        assert_eq!(rt; sched.make(&step)?, answer);
+    }
+    assert_eq!(rt; sched.events().len(), 3);
+    assert_eq!(rt; sched.last_moment(), 3);
     Ok(())
 }
 
