@@ -41,6 +41,7 @@ pub mod ShortPackets
 pub mod OneRun
 pub mod Refused
 pub mod Storing
+pub mod LastStepLemmas
 pub mod FirstOfEach
 pub mod TupleCounts
 pub mod Tallying

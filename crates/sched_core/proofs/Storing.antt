@@ -1,15 +1,18 @@
 -- The run that an engine is, and the steps that it stores.
-use Rattle.std.proofs.Common.{◌≡◌, ℕ, false, List, [], ◌∷◌, ◌++◌, length, Option, None, refl, sym, ap, ◌∙◌, append_assoc, append-nil}
+use Rattle.std.proofs.Common.{◌≡◌, ℕ, ◌+◌, ◌≤◌, false, List, [], ◌∷◌, ◌++◌, length, Option, None, MatchOption, refl, sym, ap, subst, ◌∙◌, append_assoc, append-nil, arith}
 use Rattle.std.proofs.lemmas.List.Elements.{All-push}
 use Rattle.sched_core.specs.declared.event.Event.{Event}
 use Rattle.sched_core.specs.declared.run.Answer.{Answer}
+use Rattle.sched_core.specs.declared.run.Answer.TheVariants as answer
 use Rattle.sched_core.specs.declared.run.Outcome.{Outcome}
+use Rattle.sched_core.specs.declared.step.Refusal.{Refusal}
 use Rattle.sched_core.specs.declared.step.Sent.{Sent}
 use Rattle.sched_core.specs.declared.step.Step.{Step}
 use Rattle.sched_core.specs.declared.step.Step.TheVariants.{Dequeue}
+use Rattle.sched_core.specs.AnyStep.{GoesOn}
 use Rattle.sched_core.specs.Calls.{Standing}
 use Rattle.sched_core.specs.Disciplines.{Discipline}
-use Rattle.sched_core.specs.Runs.{Made, IsRunOf, is_refused, steps_kept, unless_refused}
+use Rattle.sched_core.specs.Runs.{Made, IsRunOf, Takes, is_refused, steps_kept, unless_refused}
 use Rattle.sched_core.specs.Schedulers.{IsAdvanced, IsServed, Scheduler, discipline_of}
 use Rattle.sched_core.specs.State.{opening_state, refusal_of}
 use Rattle.sched_core.specs.Steps.{Makes, dequeue_answer}
@@ -37,6 +40,22 @@ pub served_on : (steps : List Step) (moment : ℕ) (old new : Scheduler) (sent :
 served_on steps moment old new sent run s =
     let g = s.gives in
     rw (s.params, s.seed) (made_on (discipline_of old) steps (Dequeue moment) old.standing new.standing (dequeue_answer g.given) g.made run g.fits (g.given, refl, g.serves) g.journal)
+
+-- the same of a step of any kind, which isn't refused
+pub taken_on : (steps : List Step) (step : Step) (old new : Scheduler) (said : Answer) → IsRunOf (discipline_of old) steps old.standing → refusal_of old.standing.state step ≡ None
+    → Takes (discipline_of old) old.standing step said new.standing → new.params ≡ old.params → new.seed ≡ old.seed → IsRunOf (discipline_of new) (steps ++ step ∷ []) new.standing
+taken_on steps step old new said run fits t params seed =
+    let d = discipline_of old in
+    let makes = subst (λ (o : Option Refusal). MatchOption o (Makes d old.standing.state step said t.made new.standing.state) (λ r. (said ≡ answer.Refused r) × (t.made ≡ []) × (new.standing.state ≡ old.standing.state))) fits t.steps in
+    rw (params, seed) (made_on d steps step old.standing new.standing said t.made run fits makes t.journal)
+
+-- a step takes one of the room at most
+pub room_left : (old new : Scheduler) (step : Step) (said : Answer) → GoesOn old step said new → old.room ≤ new.room + 1
+room_left old new step answer.Accepted g = let e = g.room in omega arith
+room_left old new step answer.Sent g = let e = g.1.serves.room in omega arith
+room_left old new step answer.Idle g = let e = g.serves.room in omega arith
+room_left old new step answer.Closed g = let e = g.room in omega arith
+room_left old new step (answer.Refused why) g = let e : new.room ≡ old.room = ap (λ (s : Scheduler). s.room) g.1 in omega arith
 
 -- a step and its outcome more
 pub kept_push : (steps : List Step) (outcomes : List Outcome) (step : Step) (o : Outcome) → length outcomes ≡ length steps → steps_kept (steps ++ step ∷ []) (outcomes ++ o ∷ []) ≡ steps_kept steps outcomes ++ unless_refused o.answer step

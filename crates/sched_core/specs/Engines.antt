@@ -1,8 +1,11 @@
-use Rattle.std.specs.Prelude.{ℕ, List, []}
+use Rattle.std.specs.Prelude.{◌≡◌, ℕ, ◌-◌, List, [], None, if◌then◌else◌}
 use Rattle.packet_core.specs.declared.flow.Seed.{Seed}
 use Rattle.packet_core.specs.declared.params.ParamFields.{ParamFields}
 use Rattle.sched_core.specs.declared.step.Step.{Step}
+use Rattle.sched_core.specs.declared.run.Answer.{Answer}
+use Rattle.sched_core.specs.Runs.{is_refused}
 use Rattle.sched_core.specs.Schedulers.{Scheduler, new_scheduler}
+use Rattle.sched_core.specs.State.{refusal_of}
 
 -- An engine as callers see it: its scheduler, the steps that it made, in order, and how many steps more take no memory.
 pub record Running : Type 0 where
@@ -13,3 +16,12 @@ pub record Running : Type 0 where
 -- before the first step
 abbrev pub new_engine : ParamFields → Seed → Running
 new_engine p seed = record { sched = new_scheduler p seed; steps = []; room = 0 }
+
+-- the room behind a step: one less, unless the step was refused
+abbrev pub room_behind : Answer → ℕ → ℕ
+room_behind said room = if is_refused said then room else room - 1
+
+-- The step isn't refused, and no memory is reserved for it.
+pub record WantsRoomFor (old : Running) (step : Step) : Type 0 where
+  pub fits : refusal_of old.sched.standing.state step ≡ None
+  pub none : old.room ≡ 0

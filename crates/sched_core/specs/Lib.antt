@@ -23,6 +23,8 @@ pub mod Fating
 pub mod Calls
 pub mod History
 pub mod Schedulers
+pub mod AnyStep
+pub mod LastSteps
 pub mod Shown
 pub mod Kept
 pub mod Engines

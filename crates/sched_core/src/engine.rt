@@ -2,7 +2,8 @@ ghost use Rattle.std.specs.Prelude.{◌≡◌, ◌≢◌, ◌+◌, ◌-◌, ◌<
 
 use crate::event::Event;
 use crate::flow_view::FlowView;
-use crate::sched::{MAX_ACCEPTED, MAX_MOMENT, Sched, test_moment};
+use crate::run::Answer;
+use crate::sched::{MAX_ACCEPTED, MAX_MOMENT, Sched};
 use crate::step::{Admitted, Memory, Refusal, Sent, Step};
 use crate::totals::Totals;
 use crate::tuple_rows::TupleRow;
@@ -33,11 +34,12 @@ impl Model for Engine {
 
 impl Engine {
     ghost use Rattle.flow_core.specs.FlowLists.{waiting_in};
+    ghost use Rattle.sched_core.specs.AnyStep.{GoesOn};
     ghost use Rattle.sched_core.specs.Calls.{admitted_at};
-    ghost use Rattle.sched_core.specs.Engines.{new_engine};
+    ghost use Rattle.sched_core.specs.Engines.{WantsRoomFor, new_engine, room_behind};
     ghost use Rattle.sched_core.specs.FairQueues.{queue_of};
     ghost use Rattle.sched_core.specs.JournalLaws.{JournalLaws, WaitWithoutFate};
-    ghost use Rattle.sched_core.specs.Runs.{IsRunOf};
+    ghost use Rattle.sched_core.specs.Runs.{IsRunOf, Takes, unless_refused};
     ghost use Rattle.sched_core.specs.Schedulers.{ComparesFew, IsAdvanced, IsServed, discipline_of, flows_of};
     ghost use Rattle.sched_core.specs.Shown.{flow_shown};
     ghost use Rattle.sched_core.specs.State.{refusal_of, IsRefusal};
@@ -91,14 +93,15 @@ impl Engine {
         ensures reserved { 0 < self.old.room → OnErr result (refusal_of self.old.sched.standing.state (Enqueue moment lane packet) ≢ None) }
         ensures unchanged { OnErr result (self.new ≡ self.old) }
     {
-        self.sched.test_enqueue(moment)?;
-        self.steps.reserve(1)?;
-        let admitted = self.sched.enqueue(moment, lane, packet)?;
-        self.steps.push_reserved(Step::Enqueue {
+        let step = Step::Enqueue {
             moment,
             lane,
             packet,
-        });
+        };
+        self.sched.test(&step)?;
+        self.steps.reserve(1)?;
+        let admitted = self.sched.enqueue(moment, lane, packet)?;
+        self.steps.push_reserved(step);
         self.room = self.room.saturating_sub(1);
         Ok(admitted)
     }
@@ -115,10 +118,11 @@ impl Engine {
         ensures reserved { 0 < self.old.room → OnErr result (refusal_of self.old.sched.standing.state (Dequeue moment) ≢ None) }
         ensures unchanged { OnErr result (self.new ≡ self.old) }
     {
-        test_moment(moment, self.sched.last_moment())?;
+        let step = Step::Dequeue { moment };
+        self.sched.test(&step)?;
         self.steps.reserve(1)?;
         let sent = self.sched.dequeue(moment)?;
-        self.steps.push_reserved(Step::Dequeue { moment });
+        self.steps.push_reserved(step);
         self.room = self.room.saturating_sub(1);
         Ok(sent)
     }
@@ -135,12 +139,36 @@ impl Engine {
         ensures reserved { 0 < self.old.room → OnErr result (refusal_of self.old.sched.standing.state (Close moment) ≢ None) }
         ensures unchanged { OnErr result (self.new ≡ self.old) }
     {
-        self.sched.test_close(moment)?;
+        let step = Step::Close { moment };
+        self.sched.test(&step)?;
         self.steps.reserve(1)?;
         self.sched.close(moment)?;
-        self.steps.push_reserved(Step::Close { moment });
+        self.steps.push_reserved(step);
         self.room = self.room.saturating_sub(1);
         Ok(())
+    }
+
+    /// Makes a step of any kind as the call for its kind does, and answers as a run does: where the step is refused the
+    /// answer says why, and it isn't stored. It fails for want of memory alone, for a step that isn't refused, and not
+    /// where room is reserved. Nothing has changed after either.
+    pub fn make(&mut self, step: &Step) -> Result<Answer, Memory>
+        ensures made { IfOk result (λ said. Takes (discipline_of self.old.sched) self.old.sched.standing step.now said self.new.sched.standing) }
+        ensures params { self.new.sched.params ≡ self.old.sched.params }
+        ensures seed { self.new.sched.seed ≡ self.old.sched.seed }
+        ensures goes_on { IfOk result (λ said. GoesOn self.old.sched step.now said self.new.sched) }
+        ensures steps { IfOk result (λ said. self.new.steps ≡ self.old.steps ++ unless_refused said step.now) }
+        ensures room { IfOk result (λ said. self.new.room ≡ room_behind said self.old.room) }
+        ensures memory { OnErr result (WantsRoomFor self.old step.now) }
+        ensures unchanged { OnErr result (self.new ≡ self.old) }
+    {
+        if let Err(refusal) = self.sched.test(step) {
+            return Ok(Answer::Refused(refusal));
+        }
+        self.steps.reserve(1)?;
+        let answer = self.sched.make(step)?;
+        self.steps.push_reserved(*step);
+        self.room = self.room.saturating_sub(1);
+        Ok(answer)
     }
 
     /// The steps that weren't refused, in order. The engine is their run.

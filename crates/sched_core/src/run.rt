@@ -4,8 +4,9 @@ ghost use Rattle.sched_core.specs.declared.step.Refusal.TheVariants as refusals;
 ghost use Rattle.sched_core.specs.JournalLaws.{JournalLaws, WaitWithoutFate};
 ghost use Rattle.sched_core.specs.FairQueues.{queue_of};
 ghost use Rattle.sched_core.specs.FqCodel.{fq_codel};
-ghost use Rattle.sched_core.specs.Runs.{Takes, IsRun, StandsIn, steps_kept, unless_refused};
-ghost use Rattle.sched_core.specs.Schedulers.{discipline_of, flows_of};
+ghost use Rattle.sched_core.specs.Runs.{IsRun, StandsIn, steps_kept};
+ghost use Rattle.sched_core.specs.LastSteps.{AreFewOfLast, AreTurnsOfLast};
+ghost use Rattle.sched_core.specs.Schedulers.{flows_of};
 
 use crate::engine::Engine;
 use crate::step::{Memory, Refusal, Step};
@@ -61,36 +62,6 @@ pub(crate) fn refused(refusal: Refusal) -> Result<Answer, Memory>
     }
 }
 
-/// Makes one step. Where it finds no memory it answers Err, and nothing has changed.
-fn make(engine: &mut Engine, step: &Step) -> Result<Answer, Memory>
-    ensures made { IfOk result (λ said. Takes (discipline_of engine.old.sched) engine.old.sched.standing step.now said engine.new.sched.standing) }
-    ensures steps { IfOk result (λ said. engine.new.steps ≡ engine.old.steps ++ unless_refused said step.now) }
-    ensures params { engine.new.sched.params ≡ engine.old.sched.params }
-    ensures seed { engine.new.sched.seed ≡ engine.old.sched.seed }
-    ensures unchanged { OnErr result (engine.new ≡ engine.old) }
-{
-    let answer = match *step {
-        Step::Enqueue {
-            moment,
-            lane,
-            packet,
-        } => match engine.enqueue(moment, lane, packet) {
-            Ok(_) => Answer::Accepted,
-            Err(refusal) => refused(refusal)?,
-        },
-        Step::Dequeue { moment } => match engine.dequeue(moment) {
-            Ok(Some(_)) => Answer::Sent,
-            Ok(None) => Answer::Idle,
-            Err(refusal) => refused(refusal)?,
-        },
-        Step::Close { moment } => match engine.close(moment) {
-            Ok(()) => Answer::Closed,
-            Err(refusal) => refused(refusal)?,
-        },
-    };
-    Ok(answer)
-}
-
 /// Makes the steps in turn with a new engine of those parameters and that seed. A refused step changes nothing and
 /// isn't stored, and the run goes on after it. It answers Err where a growth is refused, and then nothing is given.
 pub fn run_steps(alloc: Global, params: Params, seed: Seed, steps: &[Step]) -> Result<Ran, Memory>
@@ -100,12 +71,14 @@ pub fn run_steps(alloc: Global, params: Params, seed: Seed, steps: &[Step]) -> R
     ensures places { IfOk result (λ ran. All (StandsIn ran.engine.sched.standing.events) ran.outcomes.items) }
     ensures laws { IfOk result (λ ran. JournalLaws (fq_codel params seed).flow_of ran.engine.sched.standing.events) }
     ensures waiting { IfOk result (λ ran. WaitWithoutFate (queue_of (flows_of ran.engine.sched)) ran.engine.sched.standing.events) }
+    ensures turns { IfOk result (λ ran. AreTurnsOfLast params seed steps.now ran.outcomes.items ran.engine.sched.turns) }
+    ensures comparisons { IfOk result (λ ran. AreFewOfLast params ran.outcomes.items ran.engine.sched.comparisons) }
 {
     let mut engine = Engine::try_new(alloc, params, seed)?;
     let mut outcomes = Vec::with_capacity(alloc, steps.len())?;
     for step in steps {
         let first_event = engine.events().len();
-        let answer = make(&mut engine, step)?;
+        let answer = engine.make(step)?;
         outcomes.push(Outcome {
             answer,
             first_event,

@@ -21,7 +21,7 @@ pub const MAX_MOMENT: u64 = 1 << 60;
 pub const MAX_ACCEPTED: u64 = 1 << 40;
 
 /// Whether a step may be made at that moment, the last one being `last`.
-pub(crate) fn test_moment(moment: u64, last: u64) -> Result<(), MomentFault>
+fn test_moment(moment: u64, last: u64) -> Result<(), MomentFault>
     ensures { Tests (moment_fault_of moment last) result }
 {
     if moment >= MAX_MOMENT {
@@ -72,13 +72,14 @@ impl Model for Sched {
 
 impl Sched {
     ghost use Rattle.flow_core.specs.FlowLists.{waiting_in};
+    ghost use Rattle.sched_core.specs.AnyStep.{GoesOn, WantsRoom};
     ghost use Rattle.sched_core.specs.Calls.{admitted_at, close_refusal};
     ghost use Rattle.sched_core.specs.FairQueues.{queue_of};
     ghost use Rattle.sched_core.specs.JournalLaws.{JournalLaws, WaitWithoutFate};
     ghost use Rattle.sched_core.specs.Runs.{Takes};
     ghost use Rattle.sched_core.specs.Schedulers.{ComparesFew, IsAdvanced, IsServed, discipline_of, flows_of, new_scheduler};
     ghost use Rattle.sched_core.specs.Shown.{flow_shown};
-    ghost use Rattle.sched_core.specs.State.{enqueue_refusal_of, refusal_of, IsRefusal};
+    ghost use Rattle.sched_core.specs.State.{refusal_of, IsRefusal};
     ghost use Rattle.sched_core.specs.Statistics.{statistics};
     ghost use Rattle.sched_core.specs.TupleRows.{tuple_rows};
     ghost use Rattle.sched_core.specs.declared.step.Step.TheVariants.{Enqueue, Dequeue, Close};
@@ -138,7 +139,11 @@ impl Sched {
         ensures reserved { 0 < self.old.room → OnErr result (refusal_of self.old.standing.state (Enqueue moment lane packet) ≢ None) }
         ensures unchanged { OnErr result (self.new ≡ self.old) }
     {
-        self.test_enqueue(moment)?;
+        self.test(&Step::Enqueue {
+            moment,
+            lane,
+            packet,
+        })?;
         if self.room == 0 {
             self.reserve(1)?;
         }
@@ -215,12 +220,15 @@ impl Sched {
         Ok(())
     }
 
-    /// Makes a step of any kind, and answers as a run does: where the step is refused the answer says why. It fails
-    /// for want of memory alone, and not where room is reserved. Nothing has changed after either.
+    /// Makes a step of any kind as the call for its kind does, and answers as a run does: where the step is refused the
+    /// answer says why. It fails for want of memory alone, and then the step is an enqueue that isn't refused and has
+    /// no room. Nothing has changed after either.
     pub fn make(&mut self, step: &Step) -> Result<Answer, Memory>
         ensures made { IfOk result (λ said. Takes (discipline_of self.old) self.old.standing step.now said self.new.standing) }
         ensures params { self.new.params ≡ self.old.params }
         ensures seed { self.new.seed ≡ self.old.seed }
+        ensures goes_on { IfOk result (λ said. GoesOn self.old step.now said self.new) }
+        ensures memory { OnErr result (WantsRoom self.old step.now) }
         ensures reserved { 0 < self.old.room → IsOk result }
         ensures unchanged { OnErr result (self.new ≡ self.old) }
     {
@@ -348,22 +356,25 @@ impl Sched {
         self.last_moment
     }
 
-    /// Why an enqueue at that moment is refused, if it is, apart from want of memory.
-    pub(crate) fn test_enqueue(&self, moment: u64) -> Result<(), Refusal>
-        ensures { Tests (enqueue_refusal_of self.now.standing.state moment) result }
+    /// Why a step of any kind is refused, if it is, apart from want of memory.
+    pub(crate) fn test(&self, step: &Step) -> Result<(), Refusal>
+        ensures { Tests (refusal_of self.now.standing.state step.now) result }
     {
-        test_moment(moment, self.last_moment)?;
-        if self.is_closed {
-            return Err(Refusal::ClosedAlready);
-        }
-        if self.backlog.arrived() >= MAX_ACCEPTED {
-            return Err(Refusal::Exhausted);
+        match *step {
+            Step::Enqueue { moment, .. } => {
+                self.test_close(moment)?;
+                if self.backlog.arrived() >= MAX_ACCEPTED {
+                    return Err(Refusal::Exhausted);
+                }
+            }
+            Step::Dequeue { moment } => test_moment(moment, self.last_moment)?,
+            Step::Close { moment } => self.test_close(moment)?,
         }
         Ok(())
     }
 
     /// Why a close at that moment is refused, if it is.
-    pub(crate) fn test_close(&self, moment: u64) -> Result<(), CloseFault>
+    fn test_close(&self, moment: u64) -> Result<(), CloseFault>
         ensures { MatchResult result (λ _. refusal_of self.now.standing.state (Close moment) ≡ None) (λ fault. refusal_of self.now.standing.state (Close moment) ≡ Some (close_refusal fault)) }
     {
         test_moment(moment, self.last_moment)?;

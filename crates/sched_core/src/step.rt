@@ -6,6 +6,7 @@ ghost use Rattle.sched_core.specs.Calls.{close_refusal};
 use codel_core::Mark;
 use packet_core::Packet;
 use std::alloc::{AllocError, AllocFailed};
+use thiserror::Error;
 
 /// Want of memory: a growth was refused.
 pub type Memory = AllocError;
@@ -35,11 +36,13 @@ pub enum Step {
 }
 
 /// Why a step's moment is refused.
-#[derive(Clone, Copy, Debug, PartialEq, Eq)]
+#[derive(Clone, Copy, Debug, PartialEq, Eq, Error)]
 pub enum MomentFault {
     /// The moment is 2^60 microseconds or more.
+    #[error("the moment is 2^60 microseconds or more")]
     TooLarge,
     /// The moment is before that of the last step that wasn't refused.
+    #[error("the moment is before {last} microseconds, that of the last step")]
     Backwards {
         /// The last step's moment, in microseconds.
         last: u64,
@@ -47,24 +50,30 @@ pub enum MomentFault {
 }
 
 /// Why a close is refused.
-#[derive(Clone, Copy, Debug, PartialEq, Eq)]
+#[derive(Clone, Copy, Debug, PartialEq, Eq, Error)]
 pub enum CloseFault {
     /// The moment won't do.
+    #[error("{0}")]
     Moment(MomentFault),
     /// There was a close already.
+    #[error("there was a close already")]
     ClosedAlready,
 }
 
 /// Why a step is refused. The cases are tested in this order.
-#[derive(Clone, Copy, Debug, PartialEq, Eq)]
+#[derive(Clone, Copy, Debug, PartialEq, Eq, Error)]
 pub enum Refusal {
     /// The moment won't do.
+    #[error("{0}")]
     Moment(MomentFault),
     /// There was a close already.
+    #[error("there was a close already")]
     ClosedAlready,
     /// 2^40 packets were accepted, and there are no more ids.
+    #[error("2^40 packets were accepted")]
     Exhausted,
     /// A growth was refused.
+    #[error("a growth was refused")]
     Memory,
 }
 
