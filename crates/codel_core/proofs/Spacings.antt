@@ -1,4 +1,5 @@
--- The spacing that the drop schedule is made of is the one that the code finds.
+-- The spacing that the drop schedule is made of is the one that the code finds: the search from above gives the
+-- interval divided by the root of the count, rounded down, and no other number is that.
 use Rattle.std.proofs.Common.{◌≡◌, ℕ, zero, suc, ◌+◌, ◌*◌, ◌<◌, ◌≤◌, inl, inr, sym, ap, ◌∙◌, arith}
 use Rattle.std.proofs.Math.Nat.{mul-le-mul, mul-le-mul_left, mul-le-mul_right}
 use Rattle.std.proofs.lemmas.Bool.Decides.{leb_tells}
@@ -37,11 +38,35 @@ greatest_found v n r (suc m) below low high =
           rw t.0 (greatest_found v n r m (below_less v n r m below low t.1) low high)
     ]
 
+-- what the search from above finds fits, and the next number does not, where nothing above the start fits
+greatest_fits : (v n most : ℕ) → v < (most + 1) * (most + 1) * n
+    → (greatest_root v n most * greatest_root v n most * n ≤ v)
+    × (v < (greatest_root v n most + 1) * (greatest_root v n most + 1) * n)
+greatest_fits v n zero high = (omega arith, high)
+greatest_fits v n (suc m) high =
+    elim (leb_tells (suc m * suc m * n) v) [
+      | inl t ↦ rw t.0 (t.1, high)
+      | inr t ↦
+          let next : m + 1 ≡ suc m = omega arith in
+          let less : v < (m + 1) * (m + 1) * n = rw next t.1 in
+          rw t.0 (greatest_fits v n m less)
+    ]
+
+-- the square of a number behind the interval is above the interval's
+square_above : (interval n : ℕ) → 1 ≤ n → interval * interval < (interval + 1) * (interval + 1) * n
+square_above interval n some =
+    let least : (interval + 1) * (interval + 1) * 1 ≤ (interval + 1) * (interval + 1) * n =
+    mul-le-mul_left ((interval + 1) * (interval + 1)) some in
+    omega arith
+
+-- the schedule's spacing is one
+pub spacing_is : (interval n : ℕ) → 1 ≤ n → IsSpacing interval n (spacing_of interval n)
+unfolding spacing_of
+spacing_is interval n some = greatest_fits (interval * interval) n interval (square_above interval n some)
+
 -- a spacing is at most the interval
 pub spacing_le : (interval n r : ℕ) → 1 ≤ n → IsSpacing interval n r → r ≤ interval
-spacing_le interval n r some h =
-    let least : (interval + 1) * (interval + 1) * 1 ≤ (interval + 1) * (interval + 1) * n = mul-le-mul_left ((interval + 1) * (interval + 1)) some in
-    root_le r interval n (interval * interval) h.0 (omega arith)
+spacing_le interval n r some h = root_le r interval n (interval * interval) h.0 (square_above interval n some)
 
 pub spacing_found : (interval n r : ℕ) → 1 ≤ n → IsSpacing interval n r → spacing_of interval n ≡ r
 unfolding spacing_of

@@ -1,6 +1,6 @@
-//! What holds of every verdict, as the contract of a function that does nothing.
+//! What holds of every verdict and of every spacing, as contracts of functions that do nothing.
 
-ghost use Rattle.std.specs.Prelude.{◌≡◌, ◌≢◌, ◌<◌, ◌⊎◌, ℕ, List, [], length, slice_get, IsSomeAnd};
+ghost use Rattle.std.specs.Prelude.{◌≡◌, ◌≢◌, ◌<◌, ◌≤◌, ◌⊎◌, ℕ, List, [], length, slice_get, IsSomeAnd};
 ghost use Rattle.packet_core.specs.declared.packet.Ecn.TheVariants as field;
 ghost use Rattle.packet_core.specs.declared.packet.Waiting.{Waiting};
 ghost use Rattle.packet_core.specs.declared.params.EcnUse.TheVariants as ecn;
@@ -8,6 +8,8 @@ ghost use Rattle.packet_core.specs.declared.params.ParamFields.{ParamFields};
 ghost use Rattle.codel_core.specs.declared.served.Mark.{Mark};
 ghost use Rattle.codel_core.specs.declared.served.Mark.TheVariants.{CodelMark};
 ghost use Rattle.codel_core.specs.declared.state.CodelState.{CodelState};
+ghost use Rattle.codel_core.specs.Schedule.{spacing_of};
+ghost use Rattle.codel_core.specs.Spacing.{IsSpacing};
 ghost use Rattle.codel_core.specs.Verdict.{Decides};
 
 /// On each queue, state and moment CoDel has one verdict, and no other. It gives a packet of each queue that
@@ -27,4 +29,11 @@ pub fn one_verdict()
     ensures honest { (p : ParamFields) (now : ℕ) (q : List Waiting) (old : CodelState) (k : ℕ) (mark : Mark) (new : CodelState)
         → Decides p now q old k mark new → mark ≡ CodelMark
         → IsSomeAnd (slice_get q k) (λ w. (p.ecn ≡ ecn.Mark) × (w.packet.ecn ≢ field.NotEct)) }
+{}
+
+/// The spacing that the drop schedule is made of is the interval divided by the square root of the count, rounded
+/// down, and no other number is that (RFC 8289, section 5). It holds of every interval, and of every count from 1.
+pub fn one_spacing()
+    ensures exists { (interval n : ℕ) → 1 ≤ n → IsSpacing interval n (spacing_of interval n) }
+    ensures unique { (interval n r : ℕ) → 1 ≤ n → IsSpacing interval n r → r ≡ spacing_of interval n }
 {}

@@ -20,7 +20,7 @@ mod wide;
 
 pub use codel::Codel;
 pub use control_law::spacing;
-pub use laws::one_verdict;
+pub use laws::{one_spacing, one_verdict};
 pub use line::{DropSink, Pull};
 pub use served::{Mark, Served};
 pub use state::CodelState;

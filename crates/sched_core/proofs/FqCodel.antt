@@ -21,6 +21,7 @@ use Rattle.sched_core.specs.FqCodel.{fq_codel_policy}
 use Rattle.sched_core.specs.Overflow.{Overflow, batch_size}
 use Rattle.sched_core.specs.Overflow.Overflow.{fits, exceeds}
 use Rattle.sched_core.specs.Policies.{DropsFromHeads, IsDecided}
+use Rattle.sched_core.proofs.Overflows.{overflow_once, overflow_there}
 
 -- what CoDel's own laws say of its verdict
 pub record VerdictLaws : Type 0 where
@@ -117,4 +118,6 @@ module _ (laws : VerdictLaws) (p : ParamFields) where
     gives = gives_one;
     empties = gives_none;
     once = λ now queue codel drops drops' mark mark' codel' codel'' d d'. laws.unique p now queue codel drops drops' mark mark' codel' codel'' d d';
+    overflows = overflow_there p.limit;
+    overflows_once = overflow_once p.limit;
   }

@@ -63,7 +63,7 @@ module _ (p : Policy) (drops : DropsFromHeads p) where
     makes_as_many old new (Dequeue moment) said made m = chain_as_many m.2.queues.turns moment old.queues m.2.queues.service new.queues m.2.queues.chain
     makes_as_many old new (Close moment) said made m = rw m.1.state refl
 
-    steps_as_many : (old new : State FairQueues) (step : Step) (said : Answer) (made : List Event) → Steps (fair_queueing p flows flow_of) old step said made new → AsMany old.queues new.queues
+    pub steps_as_many : (old new : State FairQueues) (step : Step) (said : Answer) (made : List Event) → Steps (fair_queueing p flows flow_of) old step said made new → AsMany old.queues new.queues
     steps_as_many old new step said made s = go (refusal_of old step) s
       where
         go : (o : Option Refusal) → MatchOption o (Makes (fair_queueing p flows flow_of) old step said made new) (λ r. (said ≡ answer.Refused r) × (made ≡ []) × (new ≡ old)) → AsMany old.queues new.queues

@@ -26,6 +26,7 @@ pub mod Listing
 pub mod Turning
 pub mod MostTurns
 pub mod Serving
+pub mod Overflows
 pub mod FqCodel
 pub mod Running
 pub mod Examples
@@ -39,6 +40,7 @@ pub mod CodelExamples
 pub mod GiantExamples
 pub mod ShortPackets
 pub mod OneRun
+pub mod RunExistence
 pub mod Refused
 pub mod Storing
 pub mod LastStepLemmas

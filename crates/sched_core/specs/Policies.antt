@@ -1,4 +1,5 @@
-use Rattle.std.specs.Prelude.{◌≡◌, ℕ, ◌<◌, List, [], ◌∷◌, get_or, length, slice_get, Some}
+use Rattle.std.specs.Prelude.{◌≡◌, ℕ, ◌<◌, All, List, [], ◌∷◌, get_or, length, slice_get, Some}
+use Rattle.packet_core.specs.Packets.{IsLengthInRange}
 use Rattle.packet_core.specs.declared.packet.Waiting.{Waiting}
 use Rattle.codel_core.specs.declared.served.Mark.{Mark}
 use Rattle.codel_core.specs.declared.state.CodelState.{CodelState}
@@ -17,8 +18,9 @@ pub record DropsFromHeads (p : Policy) : Type 0 where
   pub flows : (queues : List (List Waiting)) (batches : List Batch) (queues' : List (List Waiting))
       → p.overflow queues batches queues' → length queues' ≡ length queues
 
--- Serving chains end, and there is one, where a flow's turn gives it credits and a verdict is always there, one alone, and gives a packet of
--- a queue that isn't empty.
+-- Serving chains end, and there is one, where a flow's turn gives it credits and a verdict is always there, one alone,
+-- and gives a packet of a queue that isn't empty. Every list of steps has a run, one alone, where an overflow is always
+-- there too, one alone. It is asked of queues whose packets have lengths that packets have: none is without bytes.
 pub record IsDecided (p : Policy) : Type 0 where
   pub quantum : 0 < p.quantum
   pub gives : (now : ℕ) (w : Waiting) (queue : List Waiting) (codel : CodelState)
@@ -28,3 +30,8 @@ pub record IsDecided (p : Policy) : Type 0 where
   pub once : (now : ℕ) (queue : List Waiting) (codel : CodelState) (drops drops' : ℕ) (mark mark' : Mark) (codel' codel'' : CodelState)
       → p.verdict now queue codel drops mark codel' → p.verdict now queue codel drops' mark' codel''
       → (drops ≡ drops') × (mark ≡ mark') × (codel' ≡ codel'')
+  pub overflows : (queues : List (List Waiting)) → All (All (λ w. IsLengthInRange w.packet.len)) queues
+      → (batches : List Batch) × (queues' : List (List Waiting)) × p.overflow queues batches queues'
+  pub overflows_once : (queues queues' queues'' : List (List Waiting)) (batches batches' : List Batch)
+      → p.overflow queues batches queues' → p.overflow queues batches' queues''
+      → (batches ≡ batches') × (queues' ≡ queues'')

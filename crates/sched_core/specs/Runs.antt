@@ -1,6 +1,8 @@
 use Rattle.std.specs.Prelude.{◌≡◌, ℕ, ◌+◌, ◌≤◌, Bool, true, false, not, List, [], ◌∷◌, ◌++◌, All, length, filter, if◌then◌else◌}
 use Rattle.std.specs.List.{flat_map}
+use Rattle.packet_core.specs.Packets.{IsLengthInRange}
 use Rattle.sched_core.specs.declared.step.Step.{Step}
+use Rattle.sched_core.specs.declared.step.Step.TheVariants.{Enqueue, Dequeue, Close}
 use Rattle.sched_core.specs.declared.event.Event.{Event}
 use Rattle.sched_core.specs.declared.run.Answer.{Answer}
 use Rattle.sched_core.specs.declared.run.Answer.TheVariants as answer
@@ -9,6 +11,12 @@ use Rattle.sched_core.specs.Calls.{Standing}
 use Rattle.sched_core.specs.Disciplines.{Discipline}
 use Rattle.sched_core.specs.State.{State, opening_state}
 use Rattle.sched_core.specs.Steps.{Steps}
+
+-- A packet that comes in has a length that packets have: `Packet` holds no other.
+abbrev pub HasLengthInRange : Step → Type 0
+HasLengthInRange (Enqueue moment lane packet) = IsLengthInRange packet.len
+HasLengthInRange (Dequeue moment) = Unit {0}
+HasLengthInRange (Close moment) = Unit {0}
 
 -- what one step gave
 pub record Made : Type 0 where

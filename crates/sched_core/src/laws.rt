@@ -16,7 +16,7 @@ ghost use Rattle.sched_core.specs.FqCodel.{fq_codel, fq_codel_policy};
 ghost use Rattle.sched_core.specs.Happened.{Acceptance, acceptances};
 ghost use Rattle.sched_core.specs.JournalLaws.{JournalLaws, WaitWithoutFate};
 ghost use Rattle.sched_core.specs.NewFlows.{IsFirstReady, SendsFrom};
-ghost use Rattle.sched_core.specs.Runs.{Made, Runs, given_by_made, journal_of, steps_made};
+ghost use Rattle.sched_core.specs.Runs.{HasLengthInRange, Made, Runs, given_by_made, journal_of, steps_made};
 ghost use Rattle.sched_core.specs.State.{State, opening_state};
 ghost use Rattle.sched_core.specs.Statistics.{statistics};
 ghost use Rattle.sched_core.specs.TurnBound.{AreQuantaOwed, quanta_owed, turns_at_most};
@@ -58,6 +58,16 @@ pub fn serving_chains_end()
 /// state.
 pub fn one_run()
     ensures { (p : ParamFields) (seed : Seed) → AreInRange p → (steps : List Step) (made made' : List Made) (old new new' : State FairQueues) → Runs (fq_codel p seed) old steps made new → Runs (fq_codel p seed) old steps made' new' → (made ≡ made') × (new ≡ new') }
+{
+    one_verdict();
+}
+
+/// Every list of steps has a run from the opening, so none of these laws is about nothing. Each packet that comes in
+/// has a length from 1 to 65,535 bytes, as each `Packet` has: among packets without bytes no flow is the fattest.
+pub fn every_list_has_a_run()
+    ensures { (p : ParamFields) (seed : Seed) → AreInRange p → (steps : List Step) → All HasLengthInRange steps
+        → (made : List Made) × (new : State FairQueues)
+        × Runs (fq_codel p seed) (opening_state (no_queues p.flows)) steps made new }
 {
     one_verdict();
 }

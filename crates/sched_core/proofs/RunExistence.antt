@@ -1,0 +1,220 @@
+-- Every list of steps has a run, whatever policy decides and drops from heads: each step has an answer, its events and
+-- a state behind it, and the flows stay such that the next step has them too. FQ-CoDel's is such a policy.
+use Rattle.std.proofs.Common.{◌≡◌, ℕ, ◌+◌, ◌<◌, true, All, List, [], ◌∷◌, ◌++◌, eqb, length, map, set, Option, Some, None, MatchOption, refl, subst, ◌∙◌, inl, inr}
+use Rattle.std.specs.List.{AllByRecursion}
+use Rattle.std.proofs.lemmas.Bool.{cases_Bool}
+use Rattle.std.proofs.lemmas.List.{length-replicate}
+use Rattle.std.proofs.lemmas.List.Elements.{All-from_get_or, All-from_recursion, All-push, All-set, recursion_from_All}
+use Rattle.packet_core.specs.FlowNumber.{flow_number}
+use Rattle.packet_core.specs.Packets.{IsLengthInRange, PacketParts}
+use Rattle.packet_core.specs.Params.{AreInRange}
+use Rattle.packet_core.specs.declared.flow.Seed.{Seed}
+use Rattle.packet_core.specs.declared.packet.FiveTuple.{FiveTuple}
+use Rattle.packet_core.specs.declared.packet.Waiting.{Waiting}
+use Rattle.packet_core.specs.declared.params.ParamFields.{ParamFields}
+use Rattle.flow_core.specs.FlowLists.{queue_at}
+use Rattle.sched_core.specs.declared.event.Cause.TheVariants as cause
+use Rattle.sched_core.specs.declared.event.Event.{Event}
+use Rattle.sched_core.specs.declared.event.Event.TheVariants as event
+use Rattle.sched_core.specs.declared.run.Answer.{Answer}
+use Rattle.sched_core.specs.declared.run.Answer.TheVariants as answer
+use Rattle.sched_core.specs.declared.step.Refusal.{Refusal}
+use Rattle.sched_core.specs.declared.step.Step.{Step}
+use Rattle.sched_core.specs.declared.step.Step.TheVariants.{Enqueue, Dequeue, Close}
+use Rattle.sched_core.specs.Disciplines.{Discipline, IsFifoByFlow, packets_of, with_arrival}
+use Rattle.sched_core.specs.FairQueueing.{dropped_in, fair_queueing, given_in, with_flow_listed}
+use Rattle.sched_core.specs.FairQueues.{AreSound, FairQueues, no_queues, queue_of}
+use Rattle.sched_core.specs.FqCodel.{fq_codel, fq_codel_policy}
+use Rattle.sched_core.specs.Policies.{DropsFromHeads, IsDecided}
+use Rattle.sched_core.specs.Runs.{HasLengthInRange, Made, Runs}
+use Rattle.sched_core.specs.State.{State, arrival, opening_state, refusal_of}
+use Rattle.sched_core.specs.Steps.{Makes, Steps, dequeue_answer, drop_event, sent_events}
+use Rattle.sched_core.specs.Turns.{Policy}
+use Rattle.sched_core.proofs.Chains.{chain_there}
+use Rattle.sched_core.proofs.FairFifo.{fair_is_fifo}
+use Rattle.sched_core.proofs.FqCodel.{VerdictLaws, policy_decided, policy_drops}
+use Rattle.sched_core.proofs.FqCodelRuns.{flow_below, steps_as_many}
+use Rattle.sched_core.proofs.Lists.{ByRecursion-append, ByRecursion-parts}
+use Rattle.sched_core.proofs.Sound.{opening_sound, steps_sound}
+
+-- a packet that waits has a length that packets have
+abbrev pub HasLength : Waiting → Type 0
+HasLength w = IsLengthInRange w.packet.len
+
+-- the packets behind others in a queue have one
+behind : (gone q : List Waiting) → AllByRecursion HasLength (gone ++ q) → AllByRecursion HasLength q
+behind gone q have = (ByRecursion-parts HasLength gone q have).1
+
+-- Each packet that waits has one, in any discipline that is first in, first out by flow.
+module _ {Q : Type 0} (d : Discipline Q) (queue_of : Q → ℕ → List Waiting) (fifo : IsFifoByFlow d queue_of) where
+  abbrev HaveLengths : Q → Type 0
+  HaveLengths s = (flow : ℕ) → AllByRecursion HasLength (queue_of s flow)
+
+  with_one_more : (old : Q) (flow : ℕ) (w : Waiting) → HasLength w → HaveLengths old
+      → (f : ℕ) → AllByRecursion HasLength (with_arrival (queue_of old) flow w f)
+  with_one_more old flow w has have f =
+      elim (cases_Bool (eqb flow f)) [
+        | inl t ↦ rw t (ByRecursion-append HasLength (queue_of old f) (w ∷ []) (have f) (has, tt))
+        | inr t ↦ rw t (ByRecursion-append HasLength (queue_of old f) [] (have f) tt)
+      ]
+
+  makes_keep_lengths : (old new : State Q) (step : Step) (said : Answer) (made : List Event)
+      → Makes d old step said made new → HasLengthInRange step → HaveLengths old.queues → HaveLengths new.queues
+  makes_keep_lengths old new (Enqueue moment lane packet) said made m has have =
+      let w = arrival old moment packet in
+      let admits = fifo.admits old.queues w m.1.lost new.queues m.1.queues in
+      let arrived = with_one_more old.queues (d.flow_of packet.tuple) w has have in
+      λ f. behind _ (queue_of new.queues f) (subst (AllByRecursion HasLength) (admits.2 f) (arrived f))
+  makes_keep_lengths old new (Dequeue moment) said made m has have =
+      let serves = fifo.serves old.queues moment m.2.dropped m.0 new.queues m.2.queues in
+      λ f. behind _ (queue_of new.queues f) (subst (AllByRecursion HasLength) (serves.0.1 f) (have f))
+  makes_keep_lengths old new (Close moment) said made m has have = rw m.1.state have
+
+  pub steps_keep_lengths : (old new : State Q) (step : Step) (said : Answer) (made : List Event)
+      → Steps d old step said made new → HasLengthInRange step → HaveLengths old.queues → HaveLengths new.queues
+  steps_keep_lengths old new step said made s has have = go (refusal_of old step) s
+    where
+      go : (o : Option Refusal)
+          → MatchOption o (Makes d old step said made new) (λ r. (said ≡ answer.Refused r) × (made ≡ []) × (new ≡ old))
+          → HaveLengths new.queues
+      go None m = makes_keep_lengths old new step said made m has have
+      go (Some r) m = rw m.2 have
+
+module _ (p : Policy) (drops : DropsFromHeads p) (decided : IsDecided p) (flows : ℕ) (flow_of : FiveTuple → ℕ)
+    (flow_is : (tuple : FiveTuple) → flow_of tuple < flows) where
+  -- the flows that any step may be made from
+  pub record AreReady (s : FairQueues) : Type 0 where
+    pub sound : AreSound s
+    pub as_many : length s.lists.queues ≡ flows
+    pub lengths : (flow : ℕ) → AllByRecursion HasLength (queue_of s flow)
+
+  opening_ready : AreReady (no_queues flows)
+  opening_ready = record {
+    sound = opening_sound flows;
+    as_many = length-replicate {A = List Waiting} flows [];
+    lengths = λ flow. rw ((fair_is_fifo p drops flows flow_of).opens flow) tt;
+  }
+
+  steps_ready : (old new : State FairQueues) (step : Step) (said : Answer) (made : List Event)
+      → Steps (fair_queueing p flows flow_of) old step said made new → HasLengthInRange step
+      → AreReady old.queues → AreReady new.queues
+  steps_ready old new step said made s has ready = record {
+    sound = steps_sound p drops decided.quantum flows flow_of old new step said made s ready.sound;
+    as_many = steps_as_many p drops flows flow_of old new step said made s ∙ ready.as_many;
+    lengths =
+        steps_keep_lengths (fair_queueing p flows flow_of) queue_of (fair_is_fifo p drops flows flow_of)
+        old new step said made s has ready.lengths;
+  }
+
+  -- with a packet more in one queue
+  arrived_lengths : (s : FairQueues) (flow : ℕ) (w : Waiting) → AreReady s → HasLength w
+      → All (All HasLength) (set s.lists.queues flow (queue_at s.lists flow ++ w ∷ []))
+  arrived_lengths s flow w ready has =
+      let at = λ (f : ℕ). All-from_recursion HasLength (queue_of s f) (ready.lengths f) in
+      let all = All-from_get_or (All HasLength) s.lists.queues [] (λ i below. at i) in
+      All-set (All HasLength) s.lists.queues flow _ (All-push HasLength (queue_at s.lists flow) w (at flow) has) all
+
+  -- what a step gives from a state
+  abbrev MakesThere : State FairQueues → Step → Type 0
+  MakesThere old step =
+      (said : Answer) × (made : List Event) × (new : State FairQueues)
+      × Makes (fair_queueing p flows flow_of) old step said made new
+
+  admits_there : (old : State FairQueues) (moment lane : ℕ) (packet : PacketParts)
+      → AreReady old.queues → IsLengthInRange packet.len → MakesThere old (Enqueue moment lane packet)
+  admits_there old moment lane packet ready has =
+      let flow = flow_of packet.tuple in
+      let overflow = decided.overflows _ (arrived_lengths old.queues flow (arrival old moment packet) ready has) in
+      let listed = with_flow_listed p old.queues flow in (
+        answer.Accepted,
+        event.Accepted old.next_id moment lane flow packet ∷ map (drop_event moment cause.Overflow) (packets_of overflow.0),
+        record {
+          queues = record listed { lists = record (listed.lists) { queues = overflow.1 } };
+          next_id = old.next_id + 1;
+          last = moment;
+          closed = old.closed;
+        },
+        (
+          refl,
+          record {
+            lost = packets_of overflow.0;
+            queues = record {
+              within = rw ready.as_many (flow_is packet.tuple);
+              batches = overflow.0;
+              overflow = overflow.2;
+              lost_in_order = refl;
+              rest = refl;
+            };
+            told = refl;
+            next_id = refl;
+            last = refl;
+            closed = refl;
+          },
+        ),
+      )
+
+  serves_there : (old : State FairQueues) (moment : ℕ) → AreReady old.queues → MakesThere old (Dequeue moment)
+  serves_there old moment ready =
+      let c = chain_there p decided moment old.queues ready.sound in (
+        dequeue_answer (given_in c.1),
+        map (drop_event moment cause.Codel) (dropped_in c.1) ++ sent_events moment (given_in c.1),
+        record { queues = c.2; next_id = old.next_id; last = moment; closed = old.closed },
+        (
+          given_in c.1,
+          refl,
+          record {
+            dropped = dropped_in c.1;
+            queues = record { turns = c.0; service = c.1; chain = c.3; dropped_by = refl; given_by = refl };
+            told = refl;
+            next_id = refl;
+            last = refl;
+            closed = refl;
+          },
+        ),
+      )
+
+  closes_there : (old : State FairQueues) (moment : ℕ) → MakesThere old (Close moment)
+  closes_there old moment = (
+    answer.Closed,
+    event.Closed moment ∷ [],
+    record old { last = moment; closed = true },
+    (refl, record { told = refl; state = refl }),
+  )
+
+  makes_there : (old : State FairQueues) (step : Step) → AreReady old.queues → HasLengthInRange step → MakesThere old step
+  makes_there old (Enqueue moment lane packet) ready has = admits_there old moment lane packet ready has
+  makes_there old (Dequeue moment) ready has = serves_there old moment ready
+  makes_there old (Close moment) ready has = closes_there old moment
+
+  steps_there : (old : State FairQueues) (step : Step) → AreReady old.queues → HasLengthInRange step
+      → (said : Answer) × (made : List Event) × (new : State FairQueues)
+      × Steps (fair_queueing p flows flow_of) old step said made new
+  steps_there old step ready has = go (refusal_of old step)
+    where
+      go : (o : Option Refusal) → (said : Answer) × (made : List Event) × (new : State FairQueues)
+          × MatchOption o (Makes (fair_queueing p flows flow_of) old step said made new)
+          (λ r. (said ≡ answer.Refused r) × (made ≡ []) × (new ≡ old))
+      go None = makes_there old step ready has
+      go (Some r) = (answer.Refused r, [], old, (refl, refl, refl))
+
+  pub runs_there : (old : State FairQueues) (steps : List Step)
+      → AreReady old.queues → AllByRecursion HasLengthInRange steps
+      → (made : List Made) × (new : State FairQueues) × Runs (fair_queueing p flows flow_of) old steps made new
+  runs_there old [] ready has = ([], old, refl)
+  runs_there old (step ∷ steps) ready has =
+      let s = steps_there old step ready has.0 in
+      let rest = runs_there s.2 steps (steps_ready old s.2 step s.0 s.1 s.3 has.0 ready) has.1 in
+      (record { answer = s.0; events = s.1 } ∷ rest.0, rest.1, (s.2, s.3, rest.2))
+
+-- one run at least
+pub fq_codel_there : VerdictLaws → (p : ParamFields) (seed : Seed) → AreInRange p
+    → (steps : List Step) → All HasLengthInRange steps
+    → (made : List Made) × (new : State FairQueues)
+    × Runs (fq_codel p seed) (opening_state (no_queues p.flows)) steps made new
+fq_codel_there laws p seed range steps has =
+    let decided = policy_decided laws p range in
+    let flow_of = flow_number p.classify p.flows seed in
+    let flow_is = λ (tuple : FiveTuple). flow_below p.classify p.flows seed tuple range.flows.0 in
+    let ready = opening_ready (fq_codel_policy p) (policy_drops p) decided p.flows flow_of flow_is in
+    runs_there (fq_codel_policy p) (policy_drops p) decided p.flows flow_of flow_is
+    (opening_state (no_queues p.flows)) steps ready (recursion_from_All HasLengthInRange steps has)
