@@ -207,7 +207,7 @@ fn simulate<R: Read, W: Write>(
 {
     let seed = seed_given(seed)?;
     let params = read_params(parameters)?;
-    Ok(run(alloc, params, seed, reader, writer)?)
+    Ok(run(alloc, reader, writer, params, seed)?)
 }
 
 /// The seed of a text, and the standard one where there is none.

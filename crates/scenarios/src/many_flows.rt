@@ -63,7 +63,7 @@ fn many_flows_take_turns(rt: HostRuntime) -> Result<(), Fail> {
     let report = report_of_flows(rt.alloc())?;
     let mut written = Vec::new(rt.alloc());
     let mut reader = trace.as_bytes();
-    run(rt.alloc(), params, Seed([0; 16]), &mut reader, &mut written)?;
+    run(rt.alloc(), &mut reader, &mut written, params, Seed([0; 16]))?;
     assert!(rt; str::from_utf8(&written)? == report.as_str());
     Ok(())
 }

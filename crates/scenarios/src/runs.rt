@@ -36,7 +36,7 @@ pub(crate) fn expect_run(
     let params = Params::try_new(fields)?;
     let mut written = Vec::new(rt.alloc());
     let mut reader = trace.as_bytes();
-    run(rt.alloc(), params, SEED, &mut reader, &mut written)?;
+    run(rt.alloc(), &mut reader, &mut written, params, SEED)?;
     assert_eq!(rt; str::from_utf8(&written)?, report);
     run_front(rt, fields, trace, usize::MAX)
 }

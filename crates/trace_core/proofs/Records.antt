@@ -4,7 +4,10 @@ use Rattle.std.specs.Prelude.{◌⊎◌, IfErr, IfOk, IfSome, nat_lt}
 use Rattle.std.proofs.lemmas.Bool.{cases_Bool, lt-ltb, ltb-true}
 use Rattle.std.proofs.lemmas.List.{append-nil}
 use Rattle.csv.specs.Machine.{Read as Cut, ends_at_end, field_after, fields_after, is_end, next_record, step}
-use Rattle.csv.specs.Reading.{Reached, default_config, is_bom, records, records_from, strip_bom}
+use Rattle.csv.specs.Reading.{ExplainsRead, Reached, default_config, is_bom, is_flexible, is_io, records, records_from}
+use Rattle.csv.specs.Reading.{stops_reader, strip_bom}
+use Rattle.csv.specs.declared.error.ErrorKind.{ErrorKind}
+use Rattle.csv.specs.declared.error.ErrorKind.TheVariants as csv_error
 use Rattle.csv.specs.declared.parser.Config.{Config}
 use Rattle.csv.specs.declared.parser.State.{State}
 use Rattle.csv.specs.declared.parser.State.TheVariants as st
@@ -13,7 +16,8 @@ use Rattle.trace_core.specs.declared.reader.TraceFault.{TraceFault}
 use Rattle.trace_core.specs.declared.reader.TraceFaultKind.{TraceFaultKind}
 use Rattle.trace_core.specs.declared.reader.TraceFaultKind.TheVariants.{Memory, Read, TooLarge}
 use Rattle.trace_core.specs.Rows.{◌>>=◌, row_of}
-use Rattle.trace_core.specs.Traces.{IsFaultOf, ReadsUpTo, StopsAtRow, at_row, is_blank, steps_from, steps_of, trace_of}
+use Rattle.trace_core.specs.Traces.{FailsAtRow, FailsBehind, IsFaultOf, ReadsUpTo, StopsAtRow, TextReader, at_row}
+use Rattle.trace_core.specs.Traces.{csv_fault, is_blank, steps_from, steps_of, text_left, trace_of}
 
 -- a record takes no bytes from behind the text
 not_longer : (cfg : Config) (s : State) (fields : List (List ℕ)) (field xs : List ℕ) (p : Cut) → next_record cfg s fields field xs ≡ Some p → length p.2 ≤ length xs
@@ -94,6 +98,32 @@ pub reads_up_to : (s2 : State) (ys : List ℕ) (text : List ℕ) (before : List 
 reads_up_to s2 ys text before steps reached e =
     let (behind, all) = records-front s2 (strip_bom text) ys before reached in
     record { before = before; behind = behind; cut = all; steps = steps; read = e; row_number = refl }
+
+-- the error of a failed read that isn't want of memory is one of the reader underneath
+pub io_alone : (kind : ErrorKind) (old new : TextReader) → is_flexible old ≡ true → ExplainsRead text_left old new false kind
+    → csv_fault kind ≡ Read → is_io kind ≡ true
+io_alone (csv_error.Io why) old new flexible explained told = refl
+io_alone (csv_error.Utf8 place why) old new flexible explained told = cc (explained.0)
+io_alone csv_error.OutOfMemory old new flexible explained told = cc told
+io_alone (csv_error.UnequalLengths place expected len) old new flexible explained told = cc (flexible, explained.0)
+io_alone (csv_error.Serialize why) old new flexible explained told = absurd explained
+io_alone (csv_error.Deserialize place why) old new flexible explained told = absurd explained
+
+-- and it stops the reader
+pub io_stops : (kind : ErrorKind) → is_io kind ≡ true → stops_reader kind ≡ true
+io_stops (csv_error.Io why) e = refl
+io_stops (csv_error.Utf8 place why) e = cc e
+io_stops csv_error.OutOfMemory e = refl
+io_stops (csv_error.UnequalLengths place expected len) e = cc e
+io_stops (csv_error.Serialize why) e = cc e
+io_stops (csv_error.Deserialize place why) e = cc e
+
+-- so it fails at the row behind records that read
+pub fails_at_row : (text : List ℕ) (before : List (List (List ℕ))) (steps : List Step) (reader : TextReader)
+    → steps_from 1 before ≡ Ok steps → FailsBehind text before reader → FailsAtRow (1 + length steps) text reader
+fails_at_row text before steps reader e fails =
+    let (behind, all) = records-front _ (strip_bom text) fails.stood.rest before fails.stood.reached in
+    (record { before = before; behind = behind; cut = all; steps = steps; read = e; row_number = refl }, fails)
 
 -- a mark at the start aside, a text gets no longer
 pub strip_shorter : (text : List ℕ) → length (strip_bom text) ≤ length text
@@ -203,17 +233,21 @@ pub rows_steps : {V : Type 0} (items : V → List Step) (known : Option (List �
 rows_steps items known text (Ok v) same small e = whole_trace known text (Ok (items v)) same small e
 rows_steps items known text (Err fault) same small e = tt
 
+pub row_fault_of : (known : Option (List ℕ)) (text : List ℕ) (fault : TraceFault) → IfSome known (λ bytes. text ≡ bytes)
+    → length text ≤ 134217728 → (steps_of text ≡ Err fault) ⊎ StopsAtRow text fault → IfSome known (λ bytes. IsFaultOf bytes fault)
+row_fault_of None text fault same small e = tt
+row_fault_of (Some bytes) text fault same small (inl e) = inl (whole_trace (Some bytes) text (Err fault) same small e)
+row_fault_of (Some bytes) text fault same small (inr stops) = inr (inr (rw (← same) stops))
+
 pub rows_fault : {V : Type 0} (known : Option (List ℕ)) (text : List ℕ) (r : Result V TraceFault) → IfSome known (λ bytes. text ≡ bytes) → length text ≤ 134217728
     → IfErr r (λ fault. (steps_of text ≡ Err fault) ⊎ StopsAtRow text fault) → IfErr r (λ fault. IfSome known (λ bytes. IsFaultOf bytes fault))
 rows_fault known text (Ok v) same small e = tt
-rows_fault None text (Err fault) same small e = tt
-rows_fault (Some bytes) text (Err fault) same small (inl e) = inl (whole_trace (Some bytes) text (Err fault) same small e)
-rows_fault (Some bytes) text (Err fault) same small (inr stops) = inr (stops.0, inr (rw (← same) stops.1))
+rows_fault known text (Err fault) same small e = row_fault_of known text fault same small e
 
 -- reading stopped before the first row
 pub stops_at_start : (known : Option (List ℕ)) (fault : TraceFault) → (fault.what ≡ Read) ⊎ (fault.what ≡ Memory) → fault.row ≡ 0 → IfSome known (λ bytes. IsFaultOf bytes fault)
 stops_at_start None fault what row = tt
-stops_at_start (Some bytes) fault what row = inr (what, inl row)
+stops_at_start (Some bytes) fault what row = inr (inl (row, what))
 
 -- more bytes than a trace has
 pub large_fault : (known : Option (List ℕ)) (fault : TraceFault) → fault ≡ record { row = 0; what = TooLarge } → IfSome known (λ bytes. 134217728 < length bytes) → IfSome known (λ bytes. IsFaultOf bytes fault)

@@ -1,7 +1,10 @@
 -- How a trace's text reads, as its steps or the first fault with its row.
-use Rattle.std.specs.Prelude.{◌≡◌, ◌≤◌, ◌⊎◌, ℕ, ◌+◌, Bool, true, List, [], ◌∷◌, ◌++◌, Some, Result, Ok, Err, length, nat_lt, ◌==◌, ◌&&◌, if◌then◌else◌}
+use Rattle.std.specs.Prelude.{◌≡◌, ◌≤◌, ◌⊎◌, ℕ, ◌+◌, Bool, true, false, List, [], ◌∷◌, ◌++◌, length, nat_lt, ◌==◌, ◌&&◌}
+use Rattle.std.specs.Prelude.{Option, Some, IfSome, Result, Ok, Err, if◌then◌else◌}
 use Rattle.std.proofs.Common.{Bor}
-use Rattle.csv.specs.Reading.{Reached, Ready, default_config, is_flexible, reader_config, reader_state, reader_trim, records, source_of, strip_bom}
+use Rattle.csv.specs.Reading.{ExplainsRead, Reached, Ready, default_config, error_kind, has_failed, is_flexible, is_io}
+use Rattle.csv.specs.Reading.{reader_config, reader_state, reader_trim, records, source_of, strip_bom}
+use Rattle.csv.specs.declared.error.Error.{Error}
 use Rattle.csv.specs.declared.error.ErrorKind.{ErrorKind}
 use Rattle.csv.specs.declared.error.ErrorKind.TheVariants as csv_error
 use Rattle.csv.specs.declared.parser.State.TheVariants as st
@@ -51,18 +54,60 @@ pub record ReadsUpTo (row : ℕ) (text : List ℕ) : Type 0 where
   pub read : steps_from 1 before ≡ Ok steps
   pub row_number : row ≡ 1 + length steps
 
--- Reading stopped with this fault and no fault of the text: at a row up to which the text reads, the reader of
--- its records failed or memory was wanting.
+-- a reader of `csv` over a text, and the bytes that such a text has left
+abbrev pub TextReader : Type 0
+TextReader = Reader (Bor (List ℕ))
+
+abbrev pub text_left : Bor (List ℕ) → Option (List ℕ)
+text_left text = Some text.now
+
+-- The reader has read these records of a text, and reads on behind them.
+pub record HasRead (text : List ℕ) (reader : TextReader) (before : List (List (List ℕ))) : Type 0 where
+  pub trim : reader_trim reader ≡ trim.None
+  pub ready : Ready reader
+  pub flexible : is_flexible reader ≡ true
+  pub config : reader_config reader ≡ default_config
+  pub rest : List ℕ
+  pub source : source_of text_left reader ≡ Some rest
+  pub reached : Reached default_config st.StartRecord (strip_bom text) before (reader_state reader) rest
+
+-- A reader of `csv` that stood behind these records of a text has failed at its next read, and told an error of the
+-- reader underneath it. Want of memory aside it can tell no other there, and its contract says no more of it.
+pub record FailsBehind (text : List ℕ) (before : List (List (List ℕ))) (reader : TextReader) : Type 0 where
+  pub old : TextReader
+  pub stood : HasRead text old before
+  pub error : Error
+  pub why : ExplainsRead text_left old reader false (error_kind error)
+  pub io : is_io (error_kind error) ≡ true
+  pub failed : has_failed reader ≡ true
+
+-- The text reads up to this row, and there its reader of `csv` has failed.
+abbrev pub FailsAtRow : ℕ → List ℕ → TextReader → Type 0
+FailsAtRow row text reader = (upto : ReadsUpTo row text) × FailsBehind text upto.before reader
+
+-- the same of a reader of `csv` that isn't named
+abbrev pub CsvFails : ℕ → List ℕ → Type 0
+CsvFails row text = (reader : TextReader) × FailsAtRow row text reader
+
+-- Reading stopped with this fault and no fault of the text: at a row up to which the text reads, memory was wanting
+-- or the reader of its records failed.
 abbrev pub StopsAtRow : List ℕ → TraceFault → Type 0
-StopsAtRow text fault = ((fault.what ≡ Read) ⊎ (fault.what ≡ Memory)) × ReadsUpTo fault.row text
+StopsAtRow text fault =
+    ((fault.what ≡ Memory) × ReadsUpTo fault.row text) ⊎ ((fault.what ≡ Read) × CsvFails fault.row text)
 
 -- The same of a whole trace, whose bytes are read first, as row 0.
 abbrev pub StopsReading : List ℕ → TraceFault → Type 0
-StopsReading bytes fault = ((fault.what ≡ Read) ⊎ (fault.what ≡ Memory)) × ((fault.row ≡ 0) ⊎ ReadsUpTo fault.row bytes)
+StopsReading bytes fault = ((fault.row ≡ 0) × ((fault.what ≡ Read) ⊎ (fault.what ≡ Memory))) ⊎ StopsAtRow bytes fault
 
 -- The fault of a trace with these bytes: the first one of the grammar, or reading stopped before there was one.
 abbrev pub IsFaultOf : List ℕ → TraceFault → Type 0
 IsFaultOf bytes fault = (trace_of bytes ≡ Err fault) ⊎ StopsReading bytes fault
+
+-- A read failed at this row of a trace, whose bytes may be known: at row 0 its source has failed, and at a later one
+-- the reader of `csv` over its text.
+abbrev pub ReadFails : Option (List ℕ) → Type 0 → ℕ → Type 0
+ReadFails known source_failed row =
+    ((row ≡ 0) × source_failed) ⊎ ((text : List ℕ) × IfSome known (λ bytes. text ≡ bytes) × CsvFails row text)
 
 -- the fault for an error of `csv`
 abbrev pub csv_fault : ErrorKind → TraceFaultKind
@@ -72,16 +117,6 @@ csv_fault (csv_error.Utf8 place why) = Read
 csv_fault (csv_error.UnequalLengths place expected len) = Read
 csv_fault (csv_error.Serialize why) = Read
 csv_fault (csv_error.Deserialize place why) = Read
-
--- The reader has read these records of a text, and reads on behind them.
-pub record HasRead (text : List ℕ) (reader : Reader (Bor (List ℕ))) (before : List (List (List ℕ))) : Type 0 where
-  pub trim : reader_trim reader ≡ trim.None
-  pub ready : Ready reader
-  pub flexible : is_flexible reader ≡ true
-  pub config : reader_config reader ≡ default_config
-  pub rest : List ℕ
-  pub source : source_of (λ (s : Bor (List ℕ)). Some s.now) reader ≡ Some rest
-  pub reached : Reached default_config st.StartRecord (strip_bom text) before (reader_state reader) rest
 
 -- So many records or more of a text were taken, which ask for these steps, and the next row has its number.
 pub record HasTaken (text : List ℕ) (rows : TraceRows) (turns : ℕ) (steps : List Step) : Type 0 where

@@ -12,5 +12,6 @@ mod row;
 mod streams;
 mod trace_run;
 
-pub use reader::{MAX_BYTES, MAX_ROWS, TraceFault, TraceFaultKind, read_trace};
-pub use trace_run::{RunFault, run};
+pub use reader::{MAX_BYTES, MAX_ROWS, TraceFault, TraceFaultKind, read_trace, read_trace_from};
+pub use streams::{Sink, Source};
+pub use trace_run::{RunFault, run, run_between};

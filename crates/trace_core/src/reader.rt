@@ -1,5 +1,5 @@
-ghost use Rattle.std.specs.Prelude.{◌≡◌, ◌<◌, ◌≤◌, ◌⊎◌, ◌∷◌, [], ℕ, ◌++◌, IfErr, IfOk, IfSome, IsErrOf, List, Ok, Err, OnErr, false, length, true, vec_len};
-ghost use Rattle.csv.specs.Reading.{default_config, error_kind, has_failed, records, strip_bom};
+ghost use Rattle.std.specs.Prelude.{◌≡◌, ◌<◌, ◌≤◌, ◌⊎◌, ◌∷◌, [], ℕ, ◌++◌, IfErr, IfOk, IfSome, IsErrOf, List, Ok, Err, false, length, true, vec_len};
+ghost use Rattle.csv.specs.Reading.{default_config, error_kind, records, strip_bom};
 ghost use Rattle.csv.specs.Records.{fields_of};
 ghost use Rattle.trace_core.specs.Traces as Traces;
 
@@ -68,16 +68,18 @@ pub fn read_trace<R: Read>(alloc: Global, reader: &mut R) -> Result<Vec<Step>, T
     ensures steps { IfOk result (λ steps. IfSome (R.remaining reader.old) (λ bytes. Traces.trace_of bytes ≡ Ok steps.items)) }
     ensures fault { IfErr result (λ fault. IfSome (R.remaining reader.old) (λ bytes. Traces.IsFaultOf bytes fault)) }
 {
-    read_source(alloc, &mut Watched::new(reader))
+    read_trace_from(alloc, &mut Watched::new(reader))
 }
 
-/// The steps of the trace that a source gives.
-fn read_source<S: Source>(alloc: Global, source: &mut S) -> Result<Vec<Step>, TraceFault>
+/// The same of the trace that a source gives, which tells whether it has failed. So it is said when a failed read is
+/// answered: where one has, and at no other time.
+pub fn read_trace_from<S: Source>(alloc: Global, source: &mut S) -> Result<Vec<Step>, TraceFault>
     ensures steps { IfOk result (λ steps. IfSome (S.remaining source.old) (λ bytes. Traces.trace_of bytes ≡ Ok steps.items)) }
     ensures fault { IfErr result (λ fault. IfSome (S.remaining source.old) (λ bytes. Traces.IsFaultOf bytes fault)) }
 
-    // At row 0, Read comes only where the source has failed.
-    ensures read { IfErr result (λ fault. fault.what ≡ TraceFaultKind.Read → fault.row ≡ 0 → S.HasFailed source.new) }
+    // Read comes only where the source or `csv`'s reader of its text has failed.
+    ensures read { IfErr result (λ fault. fault.what ≡ TraceFaultKind.Read
+        → Traces.ReadFails (S.remaining source.old) (S.HasFailed source.new) fault.row) }
 {
     let text = read_text(alloc, source)?;
     all_steps(alloc, &mut TraceRows::new(alloc, &text))
@@ -88,6 +90,7 @@ pub(crate) fn read_text<S: Source>(alloc: Global, source: &mut S) -> Result<Vec<
     ensures whole { IfOk result (λ text. IfSome (S.remaining source.old) (λ bytes. text.items ≡ bytes)) }
     ensures bound { IfOk result (λ text. vec_len text ≤ MAX_BYTES) }
     ensures fault { IfErr result (λ fault. IfSome (S.remaining source.old) (λ bytes. Traces.IsFaultOf bytes fault)) }
+    ensures row { IfErr result (λ fault. fault.row ≡ 0) }
     ensures read { IfErr result (λ fault. fault.what ≡ TraceFaultKind.Read → S.HasFailed source.new) }
 {
     match read_bytes(alloc, source) {
@@ -168,7 +171,8 @@ impl<'a> TraceRows<'a> {
         ensures order { self.old.row_number ≤ self.new.row_number }
 
         // Read comes only where `csv` has failed.
-        ensures read { IfErr result (λ fault. fault.what ≡ TraceFaultKind.Read → (text : List ℕ) (turns : ℕ) (steps : List Step) → Traces.HasTaken text self.old turns steps → has_failed self.new.records ≡ true) }
+        ensures read { IfErr result (λ fault. fault.what ≡ TraceFaultKind.Read → (text : List ℕ) (turns : ℕ) (steps : List Step)
+            → Traces.HasTaken text self.old turns steps → Traces.FailsAtRow fault.row text self.new.records) }
     {
         match next_record(&mut self.records, &mut self.row) {
             Ok(true) => {}
@@ -206,7 +210,8 @@ fn all_steps(alloc: Global, rows: &mut TraceRows<'_>) -> Result<Vec<Step>, Trace
     ensures row { IfErr result (λ fault. 1 ≤ fault.row) }
 
     // Read comes only where `csv` has failed.
-    ensures read { IfErr result (λ fault. fault.what ≡ TraceFaultKind.Read → (text : List ℕ) → Traces.IsAtStart text rows.old → has_failed rows.new.records ≡ true) }
+    ensures read { IfErr result (λ fault. fault.what ≡ TraceFaultKind.Read → (text : List ℕ) → Traces.IsAtStart text rows.old
+        → Traces.FailsAtRow fault.row text rows.new.records) }
 {
     let mut steps = Vec::new(alloc);
     // A record takes a byte or more, so the text ends before the turns do.
@@ -240,7 +245,8 @@ fn next_record(
     ensures more { IfOk result (λ found. found ≡ true → (text : List ℕ) (before : List (List (List ℕ))) → Traces.HasRead text reader.old before → Traces.HasRead text reader.new (before ++ fields_of row.new ∷ [])) }
     ensures end { IfOk result (λ found. found ≡ false → (text : List ℕ) (before : List (List (List ℕ))) → Traces.HasRead text reader.old before → records default_config (strip_bom text) ≡ before) }
     ensures fault { IfErr result (λ fault. (fault ≡ TraceFaultKind.Read) ⊎ (fault ≡ TraceFaultKind.Memory)) }
-    ensures failed { OnErr result ((text : List ℕ) (before : List (List (List ℕ))) → Traces.HasRead text reader.old before → has_failed reader.new ≡ true) }
+    ensures failed { IfErr result (λ fault. fault ≡ TraceFaultKind.Read → (text : List ℕ) (before : List (List (List ℕ)))
+        → Traces.HasRead text reader.old before → Traces.FailsBehind text before reader.new) }
 {
     match reader.read_byte_record(row) {
         Ok(found) => Ok(found),

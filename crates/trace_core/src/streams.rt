@@ -1,11 +1,16 @@
-ghost use Rattle.std.specs.Prelude.{◌≡◌, ◌<◌, ℕ, ◌++◌, [], List, IfOk, OnErr, Option, false, take, true};
+ghost use Rattle.std.specs.Prelude.{◌≡◌, ◌<◌, ℕ, ◌++◌, [], List, IfOk, OnErr, Option, false, length, take, true};
 ghost use Rattle.std.specs.Io.{ReadsAtMost, WritesAtMost};
 ghost use Rattle.std.specs.Io.KnownBytes.{Appends, ReadConsumes};
 
 use std::io::{self, ErrorKind, Read, Write};
 
-/// What gives the bytes of a trace, and tells whether it has failed. `Read` has no word for that.
-pub(crate) trait Source {
+/// What gives the bytes of a trace, and tells whether it has failed.
+///
+/// std's `Read` has no word for a failed read, so no contract over it can say that a read has failed. This one is
+/// for an embedder whose reader can tell: a buffer that a device fills, say, with a flag for an overrun. Of such a
+/// reader `run_between` and `read_trace_from` promise more than `run` and `read_trace` do of a `Read`: a fault
+/// `Read` at row 0 comes only where it has failed.
+pub trait Source {
     /// The bytes that it gives from here on, where they are known.
     ghost remaining: { Self → Option (List ℕ) };
 
@@ -19,23 +24,30 @@ pub(crate) trait Source {
         ensures failed { OnErr result (HasFailed self.new) };
 }
 
-/// What takes the bytes of a report, and tells whether it has failed. `Write` has no word for that.
-pub(crate) trait Sink {
+/// What takes the bytes of a report, and tells whether it has failed.
+///
+/// std's `Write` has no word for a failed write. This one is for an embedder whose writer can tell: a fixed buffer
+/// that knows when it is full, say. Of such a writer `run_between` promises that the fault `Write` comes only where
+/// it has failed. A write is offered a byte or more, so that one that takes nothing has failed.
+pub trait Sink {
     /// These bytes, written one after another, make the second of the first.
     ghost Wrote: { Self → List ℕ → Self → Type 0 };
 
     /// A write to it has failed or taken nothing.
     ghost HasFailed: { Self → Type 0 };
 
-    /// Takes the front of a text, and says how many bytes of it. To take none is a failure.
+    /// Takes the front of a text that isn't empty, and says how many bytes of it. To take none is a failure.
     fn write(&mut self, text: &[u8]) -> io::Result<usize>
+        requires { 0 < length text.now }
         ensures bound { WritesAtMost result text.now }
         ensures some { IfOk result (λ count. 0 < count) }
         ensures bytes { IfOk result (λ count. Wrote self.old (take count text.now) self.new) }
         ensures failed { OnErr result (Wrote self.old [] self.new × HasFailed self.new) };
 
+    /// Nothing written changes nothing.
     ghost wrote_none: { (a : Self) → Wrote a [] a };
 
+    /// What is written behind what was written.
     ghost wrote_more: { (a b c : Self) (first second : List ℕ) → Wrote a first b → Wrote b second c → Wrote a (first ++ second) c };
 }
 

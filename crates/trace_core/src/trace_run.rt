@@ -1,9 +1,8 @@
 ghost use Rattle.std.specs.Prelude.{◌≡◌, ◌≢◌, ◌≤◌, ◌⊎◌, ℕ, List, Err, IfErr, IfOk, IfSome, OnErr, OnOk, length, take, true};
 ghost use Rattle.std.specs.Result.{IsOkUnless};
 ghost use Rattle.std.specs.Io.KnownBytes.{Appends, Keeps};
-ghost use Rattle.csv.specs.Reading.{has_failed};
 ghost use Rattle.trace_core.specs.Report.{IsReportOf, RunsStep, RunsText};
-ghost use Rattle.trace_core.specs.Traces.{IsAtStart, IsFaultOf, StopsAtRow, steps_of};
+ghost use Rattle.trace_core.specs.Traces.{CsvFails, FailsAtRow, IsAtStart, IsFaultOf, ReadFails, StopsAtRow, steps_of};
 ghost use Rattle.trace_core.specs.declared.reader.TraceFault.{TraceFault};
 ghost use Rattle.trace_core.specs.declared.reader.TraceFaultKind.TheVariants as kind;
 ghost use Rattle.trace_core.specs.declared.trace_run.RunFault.TheVariants.{Memory, Trace};
@@ -51,10 +50,10 @@ impl From<AllocError> for RunFault {
 /// The whole report is made before the first byte of it is written. The writer isn't flushed.
 pub fn run<R: Read, W: Write>(
     alloc: Global,
-    params: Params,
-    seed: Seed,
     reader: &mut R,
     writer: &mut W,
+    params: Params,
+    seed: Seed,
 ) -> Result<(), RunFault>
     ensures report { OnOk result (IfSome (R.remaining reader.old) (λ bytes. (text : List ℕ) × IsReportOf params seed bytes text × Appends (W.contents writer.old) (W.contents writer.new) text)) }
     ensures front { IfErr result (λ fault. fault ≡ RunFault.Write → IfSome (R.remaining reader.old) (λ bytes. (text : List ℕ) × IsReportOf params seed bytes text × (count : ℕ) × Appends (W.contents writer.old) (W.contents writer.new) (take count text))) }
@@ -63,40 +62,44 @@ pub fn run<R: Read, W: Write>(
 {
     run_between(
         alloc,
-        params,
-        seed,
         &mut Watched::new(reader),
         &mut Watched::new(writer),
+        params,
+        seed,
     )
 }
 
-/// The same from a source to a sink, which tell whether they have failed.
-fn run_between<S: Source, K: Sink>(
+/// The same from a source to a sink, which tell whether they have failed. So it is said when a read or a write
+/// that failed is answered: where one has, and at no other time.
+pub fn run_between<S: Source, K: Sink>(
     alloc: Global,
-    params: Params,
-    seed: Seed,
     source: &mut S,
     sink: &mut K,
+    params: Params,
+    seed: Seed,
 ) -> Result<(), RunFault>
     ensures report { OnOk result (IfSome (S.remaining source.old) (λ bytes. (text : List ℕ) × IsReportOf params seed bytes text × K.Wrote sink.old text sink.new)) }
     ensures front { IfErr result (λ fault. fault ≡ RunFault.Write → IfSome (S.remaining source.old) (λ bytes. (text : List ℕ) × IsReportOf params seed bytes text × (count : ℕ) × K.Wrote sink.old (take count text) sink.new)) }
     ensures trace { IfErr result (λ fault. (why : TraceFault) → fault ≡ RunFault.Trace why → IfSome (S.remaining source.old) (λ bytes. IsFaultOf bytes why)) }
     ensures untouched { IfErr result (λ fault. (fault ≢ RunFault.Write) → sink.new ≡ sink.old) }
 
-    // At row 0, Read comes only where the source has failed, and Write only where the sink has.
-    ensures read { IfErr result (λ fault. (why : TraceFault) → fault ≡ RunFault.Trace why → why.what ≡ kind.Read → why.row ≡ 0 → S.HasFailed source.new) }
+    // Read comes only where the source or `csv`'s reader of its text has failed, and Write only where the sink has.
+    ensures read { IfErr result (λ fault. (why : TraceFault) → fault ≡ RunFault.Trace why → why.what ≡ kind.Read
+        → ReadFails (S.remaining source.old) (S.HasFailed source.new) why.row) }
     ensures write { IfErr result (λ fault. fault ≡ RunFault.Write → K.HasFailed sink.new) }
 {
     let text = read_text(alloc, source)?;
-    let report = report_of(alloc, params, seed, &text)?;
+    let report = report_of(alloc, &text, params, seed)?;
     write_text(sink, &report)
 }
 
 /// The report of a text's run with a new scheduler of those parameters and that seed.
-fn report_of(alloc: Global, params: Params, seed: Seed, text: &[u8]) -> Result<Vec<u8>, RunFault>
+fn report_of(alloc: Global, text: &[u8], params: Params, seed: Seed) -> Result<Vec<u8>, RunFault>
     requires { length text.now ≤ MAX_BYTES }
     ensures report { IfOk result (λ report. IsReportOf params seed text.now report.items) }
     ensures trace { IfErr result (λ fault. (why : TraceFault) → fault ≡ RunFault.Trace why → (1 ≤ why.row) × ((steps_of text.now ≡ Err why) ⊎ StopsAtRow text.now why)) }
+    ensures read { IfErr result (λ fault. (why : TraceFault) → fault ≡ RunFault.Trace why → why.what ≡ kind.Read
+        → CsvFails why.row text.now) }
     ensures write { IfErr result (λ fault. fault ≢ RunFault.Write) }
 {
     let mut sched = Sched::try_new(alloc, params, seed)?;
@@ -114,7 +117,8 @@ fn run_rows(sched: &mut Sched, rows: &mut TraceRows<'_>, report: &mut Rows) -> R
     ensures write { IfErr result (λ fault. fault ≢ RunFault.Write) }
 
     // Read comes only where `csv` has failed.
-    ensures read { IfErr result (λ fault. (why : TraceFault) → fault ≡ RunFault.Trace why → why.what ≡ kind.Read → (text : List ℕ) → IsAtStart text rows.old → has_failed rows.new.records ≡ true) }
+    ensures read { IfErr result (λ fault. (why : TraceFault) → fault ≡ RunFault.Trace why → why.what ≡ kind.Read
+        → (text : List ℕ) → IsAtStart text rows.old → FailsAtRow why.row text rows.new.records) }
 {
     // A record takes a byte or more, so the text ends before the turns do.
     for _turn in 0..u64::MAX {

@@ -1,4 +1,4 @@
-use Rattle.std.proofs.Common.{◌≡◌, Err, true, inr, refl, arith, rules}
+use Rattle.std.proofs.Common.{◌≡◌, Err, true, inl, inr, refl, arith, rules}
 use Rattle.std.specs.Result.{is_ok}
 use Rattle.csv.specs.Reading.{default_config, strip_bom}
 use Rattle.csv.specs.declared.parser.State.TheVariants as st
@@ -19,7 +19,7 @@ returns-in_err-next-clause-read c =
 pub returns-then-is_err-clause-fault : goal.returns-then-is_err-clause-fault
 returns-then-is_err-clause-fault c = λ text start.
     let taken = c.loop-turn.invariant.1 text start in
-    inr (rw (c.fault.ensures, c.row_number-row.ensures, taken.next_row) (inr refl, reads_up_to _ taken.read.rest text taken.before c.loop-turn.steps.items taken.read.reached taken.asked))
+    inr (rw (c.fault.ensures, c.row_number-row.ensures, taken.next_row) (inl (refl, reads_up_to _ taken.read.rest text taken.before c.loop-turn.steps.items taken.read.reached taken.asked)))
 
 pub loop-turn-preserved : goal.loop-turn-preserved
 loop-turn-preserved c = (

@@ -1,4 +1,4 @@
-use Rattle.std.proofs.Common.{◌≡◌, length}
+use Rattle.std.proofs.Common.{◌≡◌, Err, length, rules}
 use Rattle.sched_core.specs.Runs.{journal_of}
 use Rattle.trace_core.proofs.Records.{not_large}
 use Rattle.trace_core.proofs.trace_run.report_of.Goals as goal
@@ -17,3 +17,8 @@ returns-clause-report c =
       runs = rw made at run.runs;
       told = rw journal at (c.in_ok-finish.ensures {u = tt} _ (run.told _ c.new-report.ensures));
     }
+
+pub returns-in_err-run_rows-clause-read : goal.returns-in_err-run_rows-clause-read
+returns-in_err-run_rows-clause-read c =
+    let err : c.from_residual-in_err-run_rows.result ≡ Err c.in_err-run_rows.field-0.0 = search rules in
+    rw err (λ why is is_read. (c.run_rows.new.rows.records, c.in_err-run_rows.ensures.read why is is_read c.args.text.now (c.requires, c.new.ensures.start)))

@@ -19,7 +19,7 @@ returns-in_err-next-clause-read c =
     let err : c.from_residual.result ≡ Err (Trace c.in_err-next.field-0.0) = search rules in
     rw err (λ why is is_read text start.
     let same : c.in_err-next.field-0.0 ≡ why = cc is in
-    c.in_err-next.ensures.read (rw same is_read) text _ _ (c.loop-turn.invariant.1 text start).taken)
+    rw (← same) (c.in_err-next.ensures.read (rw same is_read) text _ _ (c.loop-turn.invariant.1 text start).taken))
 
 pub returns-in-End-clause-run : goal.returns-in-End-clause-run
 returns-in-End-clause-run c = λ text start.

@@ -2,7 +2,7 @@ use Rattle.std.proofs.Common.{◌≡◌, ◌+◌, ◌∙◌, [], ◌∷◌, ◌+
 use Rattle.std.specs.Prelude.{nat_lt}
 use Rattle.std.proofs.lemmas.Bool.{lt-ltb}
 use Rattle.csv.specs.Records.{fields_of}
-use Rattle.trace_core.proofs.Records.{blank_more, not_large, reads_up_to, row_fault, row_more, too_many}
+use Rattle.trace_core.proofs.Records.{blank_more, fails_at_row, not_large, reads_up_to, row_fault, row_more, too_many}
 use Rattle.trace_core.proofs.reader.TraceRows.next.Goals as goal
 
 pub returns-in-Ok-false-clause-taken : goal.returns-in-Ok-false-clause-taken
@@ -11,10 +11,15 @@ returns-in-Ok-false-clause-taken c = λ text turns steps taken.
 
 pub returns-in-Err-clause-fault : goal.returns-in-Err-clause-fault
 returns-in-Err-clause-fault c = λ text turns steps taken.
-    inr (rw (c.fault.ensures, taken.next_row) (c.in-Err.ensures.fault, reads_up_to _ taken.read.rest text taken.before steps taken.read.reached taken.asked))
+    inr (rw (c.fault.ensures, taken.next_row) (elim c.in-Err.ensures.fault [
+      | inl read ↦ inr (read, (c.next_record.new.reader, fails_at_row text taken.before steps _ taken.asked (c.in-Err.ensures.failed read text taken.before taken.read)))
+      | inr memory ↦ inl (memory, reads_up_to _ taken.read.rest text taken.before steps taken.read.reached taken.asked)
+    ]))
 
 pub returns-in-Err-clause-read : goal.returns-in-Err-clause-read
-returns-in-Err-clause-read c = λ is_read text turns steps taken. c.in-Err.ensures.failed text taken.before taken.read
+returns-in-Err-clause-read c = λ is_read text turns steps taken.
+    let told = rw c.fault.ensures at is_read in
+    rw (c.fault.ensures, taken.next_row) (fails_at_row text taken.before steps _ taken.asked (c.in-Err.ensures.failed told text taken.before taken.read))
 
 pub returns-then-is_blank-clause-taken : goal.returns-then-is_blank-clause-taken
 returns-then-is_blank-clause-taken c = λ text turns steps taken.

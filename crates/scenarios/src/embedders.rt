@@ -1,0 +1,151 @@
+//! Runs between a source and a sink of a caller's own, which tell whether they have failed.
+
+ghost use Rattle.std.specs.Prelude.{◌≡◌, ◌++◌, Some, true};
+
+use crate::schedulers::one_flow;
+use packet_core::{Params, Seed};
+use sched_core::Step;
+use std::io::{self, ErrorKind, Read};
+use std::process::Abort;
+use std::str;
+use std::test::Fail;
+use trace_core::{
+    RunFault, Sink, Source, TraceFault, TraceFaultKind, read_trace_from, run_between,
+};
+
+/// The trace of every run: one dequeue, which finds nothing.
+const TRACE: &[u8] = b"deq,0\n";
+
+/// Its report.
+const REPORT: &str = "idle\ntotals,0,0,0,0,0,0,0,0,0,0,open\n";
+
+/// Bytes that a device took in. Where it overran, what came behind them is lost.
+#[derive(Drop)]
+struct Intake<'a> {
+    bytes: &'a [u8],
+    overran: bool,
+    has_failed: bool,
+}
+
+impl<'a> Intake<'a> {
+    /// The intake of a trace's first bytes. It overran where that isn't the whole trace.
+    fn new(bytes: &'a [u8]) -> Intake<'a> {
+        Intake {
+            bytes,
+            overran: bytes.len() < TRACE.len(),
+            has_failed: false,
+        }
+    }
+}
+
+impl Source for Intake<'_> {
+    ghost remaining = { λ intake. Some intake.bytes.now };
+
+    ghost HasFailed = { λ intake. intake.has_failed ≡ true };
+
+    fn read(&mut self, buffer: &mut [u8]) -> io::Result<usize> {
+        if self.overran && self.bytes.is_empty() {
+            self.has_failed = true;
+            return Err(io::Error::from(ErrorKind::UnexpectedEof));
+        }
+        let answer = self.bytes.read(buffer);
+        if answer.is_err() {
+            self.has_failed = true;
+        }
+        answer
+    }
+}
+
+/// A page with room for so many bytes more.
+#[derive(Drop)]
+struct Page {
+    bytes: Vec<u8>,
+    room: usize,
+    is_full: bool,
+}
+
+impl Sink for Page {
+    ghost use Rattle.std.specs.Prelude.{sym};
+    ghost use Rattle.std.proofs.Common.{◌∙◌, ap, append_assoc};
+    ghost use Rattle.std.proofs.lemmas.List.{append-nil};
+
+    ghost Wrote = { λ a text b. b.bytes.items ≡ a.bytes.items ++ text };
+
+    ghost HasFailed = { λ page. page.is_full ≡ true };
+
+    ghost wrote_none = { λ a. sym (append-nil a.bytes.items) };
+
+    ghost wrote_more = { λ a b c first second one two. two ∙ ap (λ l. l ++ second) one ∙ append_assoc a.bytes.items first second };
+
+    fn write(&mut self, text: &[u8]) -> io::Result<usize> {
+        let count = text.len().min(self.room);
+        if count == 0 || self.bytes.extend_from_slice(&text[..count]).is_err() {
+            self.is_full = true;
+            return Err(io::Error::from(ErrorKind::WriteZero));
+        }
+        self.room -= count;
+        Ok(count)
+    }
+}
+
+/// Runs the first bytes of the trace onto a page with so much room, and compares what it took, how the run ended and
+/// which of the two has failed.
+fn expect_run_between(
+    rt: &(impl Abort + AllocGlobal),
+    bytes: &[u8],
+    room: usize,
+    report: &str,
+    ended: Result<(), RunFault>,
+) -> Result<(), Fail> {
+    let mut intake = Intake::new(bytes);
+    let mut page = Page {
+        bytes: Vec::new(rt.alloc()),
+        room,
+        is_full: false,
+    };
+    let params = Params::try_new(one_flow())?;
+    let answer = run_between(rt.alloc(), &mut intake, &mut page, params, Seed([0; 16]));
+    assert_eq!(rt; str::from_utf8(&page.bytes)?, report);
+    assert_eq!(rt; answer, ended);
+    assert_eq!(rt; intake.has_failed, bytes.len() < TRACE.len());
+    assert_eq!(rt; page.is_full, ended == Err(RunFault::Write));
+    Ok(())
+}
+
+/// A read that failed before the first row.
+fn failed_read() -> TraceFault {
+    TraceFault {
+        row: 0,
+        what: TraceFaultKind::Read,
+    }
+}
+
+#[test]
+fn run_between_own_streams(rt: HostRuntime) -> Result<(), Fail> {
+    expect_run_between(&rt, TRACE, 1_000, REPORT, Ok(()))?;
+    expect_run_between(&rt, TRACE, REPORT.len(), REPORT, Ok(()))
+}
+
+#[test]
+fn failed_intakes_told(rt: HostRuntime) -> Result<(), Fail> {
+    let ended = Err(RunFault::Trace(failed_read()));
+    for count in 0..TRACE.len() {
+        expect_run_between(&rt, &TRACE[..count], 1_000, "", ended)?;
+    }
+    Ok(())
+}
+
+#[test]
+fn full_pages_told(rt: HostRuntime) -> Result<(), Fail> {
+    expect_run_between(&rt, TRACE, 0, "", Err(RunFault::Write))?;
+    expect_run_between(&rt, TRACE, 7, "idle\nto", Err(RunFault::Write))
+}
+
+#[test]
+fn read_trace_from_an_intake(rt: HostRuntime) -> Result<(), Fail> {
+    let steps = read_trace_from(rt.alloc(), &mut Intake::new(TRACE))?;
+    assert_eq!(rt; steps.as_slice(), [Step::Dequeue { moment: 0 }].as_slice());
+    let cut = read_trace_from(rt.alloc(), &mut Intake::new(&TRACE[..3]));
+    assert_eq!(rt; cut.err(), Some(failed_read()));
+    Ok(())
+}
