@@ -13,30 +13,30 @@ use Rattle.packet_core.specs.declared.params.Classify.TheVariants.{Dport, Hash}
 use Rattle.packet_core.specs.declared.params.ParamFields.{ParamFields}
 use Rattle.codel_core.specs.Queue.{bytes_of}
 use Rattle.flow_core.specs.FlowLists.{queue_at, waiting_in}
-use Rattle.sched_core.specs.declared.event.Event.{Event}
-use Rattle.sched_core.specs.declared.run.Answer.{Answer}
-use Rattle.sched_core.specs.declared.run.Answer.TheVariants as answer
-use Rattle.sched_core.specs.declared.step.Refusal.{Refusal}
-use Rattle.sched_core.specs.declared.step.Step.{Step}
-use Rattle.sched_core.specs.declared.step.Step.TheVariants.{Enqueue, Dequeue, Close}
-use Rattle.sched_core.specs.FairQueueing.{Arrives, fair_queueing}
-use Rattle.sched_core.specs.FairQueues.{AreSound, FairQueues, no_queues, queue_of}
-use Rattle.sched_core.specs.FqCodel.{fq_codel, fq_codel_policy}
-use Rattle.sched_core.specs.Happened.{acceptances, fate_ids, is_among, waiting_of, without_fate}
-use Rattle.sched_core.specs.JournalLaws.{JournalLaws, WaitWithoutFate}
-use Rattle.sched_core.specs.Policies.{DropsFromHeads}
-use Rattle.sched_core.specs.Runs.{Made, Runs, journal_of}
-use Rattle.sched_core.specs.State.{State, opening_state, refusal_of}
-use Rattle.sched_core.specs.Statistics.{statistics}
-use Rattle.sched_core.specs.Steps.{Makes, Steps}
-use Rattle.sched_core.specs.Turns.{Chain, Policy, Service, Turn}
-use Rattle.sched_core.specs.Turns.Turn.{used_up, emptied_new, emptied_old, serving}
-use Rattle.sched_core.proofs.FairFifo.{fair_is_fifo}
-use Rattle.sched_core.proofs.FqCodel.{policy_drops}
-use Rattle.sched_core.proofs.Keeping.{run_laws}
-use Rattle.sched_core.proofs.Lists.{ByRecursion-filter, ByRecursion-weaker, length_as_sum, sum_by_agree_on, ByRecursion-all}
-use Rattle.sched_core.proofs.Sound.{opening_sound, runs_sound}
-use Rattle.sched_core.proofs.Waiting.{by_queues}
+use Rattle.journal_core.specs.declared.event.Event.{Event}
+use Rattle.journal_core.specs.declared.outcome.Answer.{Answer}
+use Rattle.journal_core.specs.declared.outcome.Answer.TheVariants as answer
+use Rattle.journal_core.specs.declared.step.Refusal.{Refusal}
+use Rattle.journal_core.specs.declared.step.Step.{Step}
+use Rattle.journal_core.specs.declared.step.Step.TheVariants.{Enqueue, Dequeue, Close}
+use Rattle.fair_core.specs.FairQueueing.{Arrives, fair_queueing}
+use Rattle.fair_core.specs.FairQueues.{AreSound, FairQueues, no_queues, queue_of}
+use Rattle.fair_core.specs.FqCodel.{fq_codel, fq_codel_policy}
+use Rattle.journal_core.specs.Happened.{acceptances, fate_ids, is_among, waiting_of, without_fate}
+use Rattle.journal_core.specs.JournalLaws.{JournalLaws, WaitWithoutFate}
+use Rattle.fair_core.specs.Policies.{DropsFromHeads}
+use Rattle.journal_core.specs.Runs.{Made, Runs, journal_of}
+use Rattle.journal_core.specs.State.{State, opening_state, refusal_of}
+use Rattle.journal_core.specs.Statistics.{statistics}
+use Rattle.journal_core.specs.Steps.{Makes, Steps}
+use Rattle.fair_core.specs.Turns.{Chain, Policy, Service, Turn}
+use Rattle.fair_core.specs.Turns.Turn.{used_up, emptied_new, emptied_old, serving}
+use Rattle.fair_core.proofs.FairFifo.{fair_is_fifo}
+use Rattle.fair_core.proofs.FqCodelPolicy.{policy_drops}
+use Rattle.journal_core.proofs.HistoryRuns.{run_laws}
+use Rattle.journal_core.proofs.ListLemmas.{ByRecursion-filter, ByRecursion-weaker, length_as_sum, sum_by_agree_on, ByRecursion-all}
+use Rattle.fair_core.proofs.SoundFlows.{opening_sound, runs_sound}
+use Rattle.journal_core.proofs.WaitingPackets.{by_queues}
 
 -- The flows stay as many as they were.
 module _ (p : Policy) (drops : DropsFromHeads p) where

@@ -4,16 +4,16 @@ use Rattle.std.proofs.lemmas.List.{drop-append-le}
 use Rattle.std.proofs.lemmas.List.Elements.{All-nil, All-push}
 use Rattle.std.proofs.lemmas.Option.{slice_get_within}
 use Rattle.std.proofs.Math.Seq.{drop-append-add}
-use Rattle.sched_core.specs.declared.run.Answer.{Answer}
-use Rattle.sched_core.specs.declared.run.Answer.TheVariants as answer
-use Rattle.sched_core.specs.declared.run.Outcome.{Outcome}
-use Rattle.sched_core.specs.declared.step.Sent.{Sent}
-use Rattle.sched_core.specs.declared.step.Step.{Step}
+use Rattle.journal_core.specs.declared.outcome.Answer.{Answer}
+use Rattle.journal_core.specs.declared.outcome.Answer.TheVariants as answer
+use Rattle.journal_core.specs.declared.outcome.Outcome.{Outcome}
+use Rattle.journal_core.specs.declared.step.Sent.{Sent}
+use Rattle.journal_core.specs.declared.step.Step.{Step}
 use Rattle.sched_core.specs.AnyStep.{GoesOn, IsDequeued}
-use Rattle.sched_core.specs.FqCodel.{fq_codel}
+use Rattle.fair_core.specs.FqCodel.{fq_codel}
 use Rattle.sched_core.specs.LastSteps.{AreFewFor, AreFewOfLast, AreTurnsOfLast, AtLast, IsDequeueOf, is_dequeued, is_made}
 use Rattle.sched_core.specs.LastSteps.AtLast.{none as at_none, last as at_last}
-use Rattle.sched_core.specs.Runs.{IsRun}
+use Rattle.journal_core.specs.Runs.{IsRun}
 use Rattle.sched_core.specs.Schedulers.{ComparesFew, Scheduler}
 
 found_in_front : {X : Type 0} (xs ys : List X) (k : ℕ) (x : X) → slice_get xs k ≡ Some x → slice_get (xs ++ ys) k ≡ Some x

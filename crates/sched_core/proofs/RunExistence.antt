@@ -13,29 +13,29 @@ use Rattle.packet_core.specs.declared.packet.FiveTuple.{FiveTuple}
 use Rattle.packet_core.specs.declared.packet.Waiting.{Waiting}
 use Rattle.packet_core.specs.declared.params.ParamFields.{ParamFields}
 use Rattle.flow_core.specs.FlowLists.{queue_at}
-use Rattle.sched_core.specs.declared.event.Cause.TheVariants as cause
-use Rattle.sched_core.specs.declared.event.Event.{Event}
-use Rattle.sched_core.specs.declared.event.Event.TheVariants as event
-use Rattle.sched_core.specs.declared.run.Answer.{Answer}
-use Rattle.sched_core.specs.declared.run.Answer.TheVariants as answer
-use Rattle.sched_core.specs.declared.step.Refusal.{Refusal}
-use Rattle.sched_core.specs.declared.step.Step.{Step}
-use Rattle.sched_core.specs.declared.step.Step.TheVariants.{Enqueue, Dequeue, Close}
-use Rattle.sched_core.specs.Disciplines.{Discipline, IsFifoByFlow, packets_of, with_arrival}
-use Rattle.sched_core.specs.FairQueueing.{dropped_in, fair_queueing, given_in, with_flow_listed}
-use Rattle.sched_core.specs.FairQueues.{AreSound, FairQueues, no_queues, queue_of}
-use Rattle.sched_core.specs.FqCodel.{fq_codel, fq_codel_policy}
-use Rattle.sched_core.specs.Policies.{DropsFromHeads, IsDecided}
-use Rattle.sched_core.specs.Runs.{HasLengthInRange, Made, Runs}
-use Rattle.sched_core.specs.State.{State, arrival, opening_state, refusal_of}
-use Rattle.sched_core.specs.Steps.{Makes, Steps, dequeue_answer, drop_event, sent_events}
-use Rattle.sched_core.specs.Turns.{Policy}
-use Rattle.sched_core.proofs.Chains.{chain_there}
-use Rattle.sched_core.proofs.FairFifo.{fair_is_fifo}
-use Rattle.sched_core.proofs.FqCodel.{VerdictLaws, policy_decided, policy_drops}
+use Rattle.journal_core.specs.declared.event.Cause.TheVariants as cause
+use Rattle.journal_core.specs.declared.event.Event.{Event}
+use Rattle.journal_core.specs.declared.event.Event.TheVariants as event
+use Rattle.journal_core.specs.declared.outcome.Answer.{Answer}
+use Rattle.journal_core.specs.declared.outcome.Answer.TheVariants as answer
+use Rattle.journal_core.specs.declared.step.Refusal.{Refusal}
+use Rattle.journal_core.specs.declared.step.Step.{Step}
+use Rattle.journal_core.specs.declared.step.Step.TheVariants.{Enqueue, Dequeue, Close}
+use Rattle.journal_core.specs.Disciplines.{Discipline, IsFifoByFlow, packets_of, with_arrival}
+use Rattle.fair_core.specs.FairQueueing.{dropped_in, fair_queueing, given_in, with_flow_listed}
+use Rattle.fair_core.specs.FairQueues.{AreSound, FairQueues, no_queues, queue_of}
+use Rattle.fair_core.specs.FqCodel.{fq_codel, fq_codel_policy}
+use Rattle.fair_core.specs.Policies.{DropsFromHeads, IsDecided}
+use Rattle.journal_core.specs.Runs.{HasLengthInRange, Made, Runs}
+use Rattle.journal_core.specs.State.{State, arrival, opening_state, refusal_of}
+use Rattle.journal_core.specs.Steps.{Makes, Steps, dequeue_answer, drop_event, sent_events}
+use Rattle.fair_core.specs.Turns.{Policy}
+use Rattle.fair_core.proofs.ServingChains.{chain_there}
+use Rattle.fair_core.proofs.FairFifo.{fair_is_fifo}
+use Rattle.fair_core.proofs.FqCodelPolicy.{VerdictLaws, policy_decided, policy_drops}
 use Rattle.sched_core.proofs.FqCodelRuns.{flow_below, steps_as_many}
-use Rattle.sched_core.proofs.Lists.{ByRecursion-append, ByRecursion-parts}
-use Rattle.sched_core.proofs.Sound.{opening_sound, steps_sound}
+use Rattle.journal_core.proofs.ListLemmas.{ByRecursion-append, ByRecursion-parts}
+use Rattle.fair_core.proofs.SoundFlows.{opening_sound, steps_sound}
 
 -- a packet that waits has a length that packets have
 abbrev pub HasLength : Waiting → Type 0

@@ -13,29 +13,29 @@ use Rattle.packet_core.specs.declared.packet.FiveTuple.{FiveTuple}
 use Rattle.packet_core.specs.declared.packet.Waiting.{Waiting}
 use Rattle.packet_core.specs.declared.params.ParamFields.{ParamFields}
 use Rattle.flow_core.specs.FlowLists.{queue_at}
-use Rattle.sched_core.specs.declared.account.Account.{Account}
-use Rattle.sched_core.specs.declared.event.Event.{Event}
-use Rattle.sched_core.specs.declared.run.Answer.{Answer}
-use Rattle.sched_core.specs.declared.run.Answer.TheVariants as answer
-use Rattle.sched_core.specs.declared.step.Refusal.{Refusal}
-use Rattle.sched_core.specs.declared.step.Step.{Step}
-use Rattle.sched_core.specs.declared.step.Step.TheVariants.{Enqueue, Dequeue, Close}
-use Rattle.sched_core.specs.FairQueueing.{Arrives, fair_queueing, is_listed, with_flow_listed}
-use Rattle.sched_core.specs.FairQueues.{FairQueues, account_at, new_account, no_queues, queue_of}
-use Rattle.sched_core.specs.FqCodel.{fq_codel, fq_codel_policy}
-use Rattle.sched_core.specs.Happened.{Acceptance, acceptance_of, acceptances}
-use Rattle.sched_core.specs.Policies.{DropsFromHeads}
-use Rattle.sched_core.specs.Runs.{Made, Runs, journal_of}
-use Rattle.sched_core.specs.State.{State, arrival, opening_state, refusal_of}
-use Rattle.sched_core.specs.Steps.{Makes, Steps}
-use Rattle.sched_core.specs.TurnBound.{quanta_owed, turns_at_most}
-use Rattle.sched_core.specs.Turns.{Chain, Policy, Service, Turn}
-use Rattle.sched_core.specs.Turns.Turn.{used_up, emptied_new, emptied_old, serving}
-use Rattle.sched_core.proofs.Chains.{chain_bound}
-use Rattle.sched_core.proofs.FqCodel.{policy_drops}
+use Rattle.fair_core.specs.declared.account.Account.{Account}
+use Rattle.journal_core.specs.declared.event.Event.{Event}
+use Rattle.journal_core.specs.declared.outcome.Answer.{Answer}
+use Rattle.journal_core.specs.declared.outcome.Answer.TheVariants as answer
+use Rattle.journal_core.specs.declared.step.Refusal.{Refusal}
+use Rattle.journal_core.specs.declared.step.Step.{Step}
+use Rattle.journal_core.specs.declared.step.Step.TheVariants.{Enqueue, Dequeue, Close}
+use Rattle.fair_core.specs.FairQueueing.{Arrives, fair_queueing, is_listed, with_flow_listed}
+use Rattle.fair_core.specs.FairQueues.{FairQueues, account_at, new_account, no_queues, queue_of}
+use Rattle.fair_core.specs.FqCodel.{fq_codel, fq_codel_policy}
+use Rattle.journal_core.specs.Happened.{Acceptance, acceptance_of, acceptances}
+use Rattle.fair_core.specs.Policies.{DropsFromHeads}
+use Rattle.journal_core.specs.Runs.{Made, Runs, journal_of}
+use Rattle.journal_core.specs.State.{State, arrival, opening_state, refusal_of}
+use Rattle.journal_core.specs.Steps.{Makes, Steps}
+use Rattle.fair_core.specs.TurnBound.{quanta_owed, turns_at_most}
+use Rattle.fair_core.specs.Turns.{Chain, Policy, Service, Turn}
+use Rattle.fair_core.specs.Turns.Turn.{used_up, emptied_new, emptied_old, serving}
+use Rattle.fair_core.proofs.ServingChains.{chain_bound}
+use Rattle.fair_core.proofs.FqCodelPolicy.{policy_drops}
 use Rattle.sched_core.proofs.FqCodelRuns.{fq_codel_sound}
-use Rattle.sched_core.proofs.Lists.{ByRecursion-append, ByRecursion-parts}
-use Rattle.sched_core.proofs.Quanta.{quanta_owed_is}
+use Rattle.journal_core.proofs.ListLemmas.{ByRecursion-append, ByRecursion-parts}
+use Rattle.fair_core.proofs.QuantaOwed.{quanta_owed_is}
 
 -- what holds of each element holds of each where one is set
 set_keeps : {X : Type 0} (P : X → Type 0) (d : X) (xs : List X) (i : ℕ) (v : X) → P v → ((j : ℕ) → P (get_or xs j d)) → (j : ℕ) → P (get_or (set xs i v) j d)

@@ -1,13 +1,13 @@
 -- A step of any kind, as a scheduler makes it: all that the call for its kind says.
 use Rattle.std.specs.Prelude.{◌≡◌, ℕ, ◌-◌, ◌≤◌, Option, Some, None}
 use Rattle.packet_core.specs.Packets.{PacketParts}
-use Rattle.sched_core.specs.declared.run.Answer.{Answer}
-use Rattle.sched_core.specs.declared.run.Answer.TheVariants as answer
-use Rattle.sched_core.specs.declared.step.Sent.{Sent}
-use Rattle.sched_core.specs.declared.step.Step.{Step}
-use Rattle.sched_core.specs.declared.step.Step.TheVariants.{Enqueue, Dequeue}
+use Rattle.journal_core.specs.declared.outcome.Answer.{Answer}
+use Rattle.journal_core.specs.declared.outcome.Answer.TheVariants as answer
+use Rattle.journal_core.specs.declared.step.Sent.{Sent}
+use Rattle.journal_core.specs.declared.step.Step.{Step}
+use Rattle.journal_core.specs.declared.step.Step.TheVariants.{Enqueue, Dequeue}
 use Rattle.sched_core.specs.Schedulers.{ComparesFew, IsAdvanced, IsServed, Scheduler}
-use Rattle.sched_core.specs.State.{refusal_of}
+use Rattle.journal_core.specs.State.{refusal_of}
 
 -- An enqueue is accepted, and takes one of the room.
 pub record IsAccepted (old : Scheduler) (step : Step) (new : Scheduler) : Type 0 where

@@ -1,11 +1,11 @@
 use Rattle.std.specs.Prelude.{◌≡◌, ℕ, ◌-◌, List, [], None, if◌then◌else◌}
 use Rattle.packet_core.specs.declared.flow.Seed.{Seed}
 use Rattle.packet_core.specs.declared.params.ParamFields.{ParamFields}
-use Rattle.sched_core.specs.declared.step.Step.{Step}
-use Rattle.sched_core.specs.declared.run.Answer.{Answer}
-use Rattle.sched_core.specs.Runs.{is_refused}
+use Rattle.journal_core.specs.declared.step.Step.{Step}
+use Rattle.journal_core.specs.declared.outcome.Answer.{Answer}
+use Rattle.journal_core.specs.Runs.{is_refused}
 use Rattle.sched_core.specs.Schedulers.{Scheduler, new_scheduler}
-use Rattle.sched_core.specs.State.{refusal_of}
+use Rattle.journal_core.specs.State.{refusal_of}
 
 -- An engine as callers see it: its scheduler, the steps that it made, in order, and how many steps more take no memory.
 pub record Running : Type 0 where

@@ -3,11 +3,11 @@ use Rattle.packet_core.specs.declared.flow.Seed.{Seed}
 use Rattle.packet_core.specs.declared.params.ParamFields.{ParamFields}
 use Rattle.flow_core.specs.FlowLists.{waiting_in}
 use Rattle.sched_core.specs.declared.sched.Sched.TheInside.{Inside}
-use Rattle.sched_core.specs.Backlogs.{Held}
-use Rattle.sched_core.specs.Books.{Book}
-use Rattle.sched_core.specs.FairQueues.{queue_of}
-use Rattle.sched_core.specs.FqCodel.{fq_codel}
-use Rattle.sched_core.specs.History.{AreCounts, IsHistory}
+use Rattle.fair_core.specs.Backlogs.{Held}
+use Rattle.journal_core.specs.Books.{Book}
+use Rattle.fair_core.specs.FairQueues.{queue_of}
+use Rattle.fair_core.specs.FqCodel.{fq_codel}
+use Rattle.journal_core.specs.History.{AreCounts, IsHistory}
 use Rattle.sched_core.specs.Schedulers.{Scheduler}
 
 -- what callers see of a scheduler's fields

@@ -3,16 +3,16 @@ use Rattle.std.specs.Prelude.{◌≡◌, ℕ, ◌+◌, ◌-◌, ◌*◌, ◌≤�
 use Rattle.packet_core.specs.declared.flow.Seed.{Seed}
 use Rattle.packet_core.specs.declared.params.ParamFields.{ParamFields}
 use Rattle.flow_core.specs.Winners.{IsLevels}
-use Rattle.sched_core.specs.declared.run.Answer.{Answer}
-use Rattle.sched_core.specs.declared.run.Answer.TheVariants as answer
-use Rattle.sched_core.specs.declared.run.Outcome.{Outcome}
-use Rattle.sched_core.specs.declared.step.Step.{Step}
-use Rattle.sched_core.specs.declared.step.Step.TheVariants.{Dequeue}
-use Rattle.sched_core.specs.FairQueues.{FairQueues, no_queues}
-use Rattle.sched_core.specs.FqCodel.{fq_codel, fq_codel_policy}
-use Rattle.sched_core.specs.Runs.{Made, Runs, is_refused}
-use Rattle.sched_core.specs.State.{State, opening_state, refusal_of}
-use Rattle.sched_core.specs.Turns.{Chain, Service}
+use Rattle.journal_core.specs.declared.outcome.Answer.{Answer}
+use Rattle.journal_core.specs.declared.outcome.Answer.TheVariants as answer
+use Rattle.journal_core.specs.declared.outcome.Outcome.{Outcome}
+use Rattle.journal_core.specs.declared.step.Step.{Step}
+use Rattle.journal_core.specs.declared.step.Step.TheVariants.{Dequeue}
+use Rattle.fair_core.specs.FairQueues.{FairQueues, no_queues}
+use Rattle.fair_core.specs.FqCodel.{fq_codel, fq_codel_policy}
+use Rattle.journal_core.specs.Runs.{Made, Runs, is_refused}
+use Rattle.journal_core.specs.State.{State, opening_state, refusal_of}
+use Rattle.fair_core.specs.Turns.{Chain, Service}
 
 -- whether the answer is that of a dequeue that wasn't refused
 abbrev pub is_dequeued : Answer → Bool

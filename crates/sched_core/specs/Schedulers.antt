@@ -2,17 +2,17 @@ use Rattle.std.specs.Prelude.{◌≡◌, ℕ, ◌-◌, ◌*◌, ◌≤◌, [], l
 use Rattle.packet_core.specs.declared.flow.Seed.{Seed}
 use Rattle.packet_core.specs.declared.params.ParamFields.{ParamFields}
 use Rattle.flow_core.specs.Winners.{IsLevels}
-use Rattle.sched_core.specs.declared.run.Answer.{Answer}
-use Rattle.sched_core.specs.declared.step.Sent.{Sent}
-use Rattle.sched_core.specs.declared.step.Step.{Step}
-use Rattle.sched_core.specs.Calls.{Advances, Gives, Standing, sent_at}
-use Rattle.sched_core.specs.Disciplines.{Discipline}
-use Rattle.sched_core.specs.FairQueues.{FairQueues, no_queues}
-use Rattle.sched_core.specs.FqCodel.{fq_codel, fq_codel_policy}
-use Rattle.sched_core.specs.NewFlows.{IsFirstReady, SendsFrom}
-use Rattle.sched_core.specs.State.{opening_state}
-use Rattle.sched_core.specs.TurnBound.{turns_at_most}
-use Rattle.sched_core.specs.Turns.{Chain, Service}
+use Rattle.journal_core.specs.declared.outcome.Answer.{Answer}
+use Rattle.journal_core.specs.declared.step.Sent.{Sent}
+use Rattle.journal_core.specs.declared.step.Step.{Step}
+use Rattle.journal_core.specs.Calls.{Advances, Gives, Standing, sent_at}
+use Rattle.journal_core.specs.Disciplines.{Discipline}
+use Rattle.fair_core.specs.FairQueues.{FairQueues, no_queues}
+use Rattle.fair_core.specs.FqCodel.{fq_codel, fq_codel_policy}
+use Rattle.fair_core.specs.NewFlows.{IsFirstReady, SendsFrom}
+use Rattle.journal_core.specs.State.{opening_state}
+use Rattle.fair_core.specs.TurnBound.{turns_at_most}
+use Rattle.fair_core.specs.Turns.{Chain, Service}
 
 -- A scheduler as callers see it: what it was made with, its state and its journal, the turns of the last dequeue that wasn't refused, the
 -- comparisons of two flows' bytes in the last step that wasn't refused, and how many enqueues more take no memory.

@@ -2,7 +2,7 @@
 use Rattle.std.specs.Prelude.{◌+◌, ◌≤◌, vec_capacity, vec_len}
 use Rattle.sched_core.specs.declared.engine.Engine.TheInside.{Inside}
 use Rattle.sched_core.specs.Engines.{Running}
-use Rattle.sched_core.specs.Runs.{IsRunOf}
+use Rattle.journal_core.specs.Runs.{IsRunOf}
 use Rattle.sched_core.specs.Schedulers.{discipline_of}
 
 -- the engine as callers see it

@@ -1,12 +1,8 @@
 ghost use Rattle.std.specs.Prelude.{◌≡◌, ◌≢◌, ◌+◌, ◌-◌, ◌<◌, ◌≤◌, ◌++◌, ◌∷◌, [], All, max, None, IfOk, IfErr, OnOk, OnErr};
 
-use crate::event::Event;
-use crate::flow_view::FlowView;
-use crate::run::Answer;
 use crate::sched::{MAX_ACCEPTED, MAX_MOMENT, Sched};
-use crate::step::{Admitted, Memory, Refusal, Sent, Step};
-use crate::totals::Totals;
-use crate::tuple_rows::TupleRow;
+use fair_core::FlowView;
+use journal_core::{Admitted, Answer, Event, Memory, Refusal, Sent, Step, Totals, TupleRow};
 use packet_core::{Packet, Params, Seed};
 use std::alloc::Global;
 use std::marker::Model;
@@ -35,18 +31,18 @@ impl Model for Engine {
 impl Engine {
     ghost use Rattle.flow_core.specs.FlowLists.{waiting_in};
     ghost use Rattle.sched_core.specs.AnyStep.{GoesOn};
-    ghost use Rattle.sched_core.specs.Calls.{admitted_at};
+    ghost use Rattle.journal_core.specs.Calls.{admitted_at};
     ghost use Rattle.sched_core.specs.Engines.{WantsRoomFor, new_engine, room_behind};
-    ghost use Rattle.sched_core.specs.FairQueues.{queue_of};
-    ghost use Rattle.sched_core.specs.JournalLaws.{JournalLaws, WaitWithoutFate};
-    ghost use Rattle.sched_core.specs.Runs.{IsRunOf, Takes, unless_refused};
+    ghost use Rattle.fair_core.specs.FairQueues.{queue_of};
+    ghost use Rattle.journal_core.specs.JournalLaws.{JournalLaws, WaitWithoutFate};
+    ghost use Rattle.journal_core.specs.Runs.{IsRunOf, Takes, unless_refused};
     ghost use Rattle.sched_core.specs.Schedulers.{ComparesFew, IsAdvanced, IsServed, discipline_of, flows_of};
-    ghost use Rattle.sched_core.specs.Shown.{flow_shown};
-    ghost use Rattle.sched_core.specs.State.{refusal_of, IsRefusal};
-    ghost use Rattle.sched_core.specs.Statistics.{statistics};
-    ghost use Rattle.sched_core.specs.TupleRows.{tuple_rows};
-    ghost use Rattle.sched_core.specs.declared.step.Step.TheVariants.{Enqueue, Dequeue, Close};
-    ghost use Rattle.sched_core.specs.declared.run.Answer.TheVariants as answer;
+    ghost use Rattle.fair_core.specs.Shown.{flow_shown};
+    ghost use Rattle.journal_core.specs.State.{refusal_of, IsRefusal};
+    ghost use Rattle.journal_core.specs.Statistics.{statistics};
+    ghost use Rattle.journal_core.specs.TupleRows.{tuple_rows};
+    ghost use Rattle.journal_core.specs.declared.step.Step.TheVariants.{Enqueue, Dequeue, Close};
+    ghost use Rattle.journal_core.specs.declared.outcome.Answer.TheVariants as answer;
 
     /// An engine before its first step.
     pub fn try_new(alloc: Global, params: Params, seed: Seed) -> Result<Engine, Memory>

@@ -10,17 +10,17 @@ ghost use Rattle.packet_core.specs.declared.packet.FiveTuple.{FiveTuple};
 ghost use Rattle.packet_core.specs.declared.params.ParamFields.{ParamFields};
 ghost use Rattle.codel_core.specs.Queue.{bytes_of};
 ghost use Rattle.flow_core.specs.FlowLists.{waiting_in};
-ghost use Rattle.sched_core.specs.declared.step.Step.{Step};
-ghost use Rattle.sched_core.specs.FairQueues.{AreSound, FairQueues, no_queues, queue_of};
-ghost use Rattle.sched_core.specs.FqCodel.{fq_codel, fq_codel_policy};
-ghost use Rattle.sched_core.specs.Happened.{Acceptance, acceptances};
-ghost use Rattle.sched_core.specs.JournalLaws.{JournalLaws, WaitWithoutFate};
-ghost use Rattle.sched_core.specs.NewFlows.{IsFirstReady, SendsFrom};
-ghost use Rattle.sched_core.specs.Runs.{HasLengthInRange, Made, Runs, given_by_made, journal_of, steps_made};
-ghost use Rattle.sched_core.specs.State.{State, opening_state};
-ghost use Rattle.sched_core.specs.Statistics.{statistics};
-ghost use Rattle.sched_core.specs.TurnBound.{AreQuantaOwed, quanta_owed, turns_at_most};
-ghost use Rattle.sched_core.specs.Turns.{Chain, Service};
+ghost use Rattle.journal_core.specs.declared.step.Step.{Step};
+ghost use Rattle.fair_core.specs.FairQueues.{AreSound, FairQueues, no_queues, queue_of};
+ghost use Rattle.fair_core.specs.FqCodel.{fq_codel, fq_codel_policy};
+ghost use Rattle.journal_core.specs.Happened.{Acceptance, acceptances};
+ghost use Rattle.journal_core.specs.JournalLaws.{JournalLaws, WaitWithoutFate};
+ghost use Rattle.fair_core.specs.NewFlows.{IsFirstReady, SendsFrom};
+ghost use Rattle.journal_core.specs.Runs.{HasLengthInRange, Made, Runs, given_by_made, journal_of, steps_made};
+ghost use Rattle.journal_core.specs.State.{State, opening_state};
+ghost use Rattle.journal_core.specs.Statistics.{statistics};
+ghost use Rattle.fair_core.specs.TurnBound.{AreQuantaOwed, quanta_owed, turns_at_most};
+ghost use Rattle.fair_core.specs.Turns.{Chain, Service};
 
 use codel_core::one_verdict;
 

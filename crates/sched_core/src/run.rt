@@ -1,44 +1,17 @@
 ghost use Rattle.std.specs.Prelude.{◌≡◌, ◌≢◌, ◌++◌, All, IfOk, OnErr};
-ghost use Rattle.sched_core.specs.declared.run.Answer.TheVariants as answer;
-ghost use Rattle.sched_core.specs.declared.step.Refusal.TheVariants as refusals;
-ghost use Rattle.sched_core.specs.JournalLaws.{JournalLaws, WaitWithoutFate};
-ghost use Rattle.sched_core.specs.FairQueues.{queue_of};
-ghost use Rattle.sched_core.specs.FqCodel.{fq_codel};
-ghost use Rattle.sched_core.specs.Runs.{IsRun, StandsIn, steps_kept};
+ghost use Rattle.journal_core.specs.declared.outcome.Answer.TheVariants as answer;
+ghost use Rattle.journal_core.specs.declared.step.Refusal.TheVariants as refusals;
+ghost use Rattle.journal_core.specs.JournalLaws.{JournalLaws, WaitWithoutFate};
+ghost use Rattle.fair_core.specs.FairQueues.{queue_of};
+ghost use Rattle.fair_core.specs.FqCodel.{fq_codel};
+ghost use Rattle.journal_core.specs.Runs.{IsRun, StandsIn, steps_kept};
 ghost use Rattle.sched_core.specs.LastSteps.{AreFewOfLast, AreTurnsOfLast};
 ghost use Rattle.sched_core.specs.Schedulers.{flows_of};
 
 use crate::engine::Engine;
-use crate::step::{Memory, Refusal, Step};
+use journal_core::{Memory, Outcome, Step};
 use packet_core::{Params, Seed};
-use std::alloc::{AllocError, Global};
-
-/// How a step was answered. The packets are in its events.
-#[derive(Clone, Copy, Debug, PartialEq, Eq)]
-pub enum Answer {
-    /// An enqueue: the packet was accepted.
-    Accepted,
-    /// A dequeue: a packet was sent.
-    Sent,
-    /// A dequeue: nothing waited.
-    Idle,
-    /// The close was made.
-    Closed,
-    /// The step was refused.
-    Refused(Refusal),
-}
-
-/// What a step of a run gave: its answer, and its own events, which stand in the journal from `first_event`
-/// to before `end_event`.
-#[derive(Clone, Copy, Debug, PartialEq, Eq)]
-pub struct Outcome {
-    /// The answer.
-    pub answer: Answer,
-    /// The place of its first event.
-    pub first_event: usize,
-    /// The place behind its last event.
-    pub end_event: usize,
-}
+use std::alloc::Global;
 
 /// A run of a list of steps.
 #[derive(Debug, Drop)]
@@ -47,19 +20,6 @@ pub struct Ran {
     pub engine: Engine,
     /// One outcome for each step, in order.
     pub outcomes: Vec<Outcome>,
-}
-
-/// The answer to a step that is refused, unless it found no memory.
-pub(crate) fn refused(refusal: Refusal) -> Result<Answer, Memory>
-    ensures answer { IfOk result (λ said. (said ≡ answer.Refused refusal) × (refusal ≢ refusals.Memory)) }
-    ensures memory { OnErr result (refusal ≡ refusals.Memory) }
-{
-    match refusal {
-        Refusal::Memory => Err(AllocError),
-        Refusal::Moment(_) | Refusal::ClosedAlready | Refusal::Exhausted => {
-            Ok(Answer::Refused(refusal))
-        }
-    }
 }
 
 /// Makes the steps in turn with a new engine of those parameters and that seed. A refused step changes nothing and

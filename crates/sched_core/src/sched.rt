@@ -1,17 +1,16 @@
 ghost use Rattle.std.specs.Prelude.{◌≡◌, ◌≢◌, ◌+◌, ◌-◌, ◌<◌, ◌≤◌, max, All, Some, None, IfOk, IfErr, IsOk, MatchResult, OnOk, OnErr};
-ghost use Rattle.sched_core.specs.State.{moment_fault_of, Tests};
+ghost use Rattle.journal_core.specs.State.{moment_fault_of, Tests};
+ghost use Rattle.journal_core.specs.declared.outcome.Answer.TheVariants as answer;
+ghost use Rattle.journal_core.specs.declared.step.Refusal.TheVariants as refusal;
 
-use crate::backlog::Backlog;
-use crate::event::Event;
-use crate::flow_view::FlowView;
-use crate::journal::Journal;
-use crate::run::{Answer, refused};
-use crate::step::{Admitted, CloseFault, Memory, MomentFault, Refusal, Sent, Step};
-use crate::totals::Totals;
-use crate::tuple_rows::{TupleRow, gather_rows};
 use codel_core::Served;
+use fair_core::{Backlog, FlowView};
+use journal_core::{
+    Admitted, Answer, CloseFault, Event, Journal, Memory, MomentFault, Refusal, Sent, Step, Totals,
+    TupleRow, gather_rows,
+};
 use packet_core::{Packet, Params, Seed, Waiting, flow_of};
-use std::alloc::Global;
+use std::alloc::{AllocError, Global};
 use std::marker::Model;
 
 /// A moment is below this many microseconds.
@@ -31,6 +30,19 @@ fn test_moment(moment: u64, last: u64) -> Result<(), MomentFault>
         return Err(MomentFault::Backwards { last });
     }
     Ok(())
+}
+
+/// The answer to a step that is refused, unless it found no memory.
+fn refused(why: Refusal) -> Result<Answer, Memory>
+    ensures answer { IfOk result (λ said. (said ≡ answer.Refused why) × (why ≢ refusal.Memory)) }
+    ensures memory { OnErr result (why ≡ refusal.Memory) }
+{
+    match why {
+        Refusal::Memory => Err(AllocError),
+        Refusal::Moment(_) | Refusal::ClosedAlready | Refusal::Exhausted => {
+            Ok(Answer::Refused(why))
+        }
+    }
 }
 
 /// What a dequeue at that moment answers of a packet that is served.
@@ -73,18 +85,16 @@ impl Model for Sched {
 impl Sched {
     ghost use Rattle.flow_core.specs.FlowLists.{waiting_in};
     ghost use Rattle.sched_core.specs.AnyStep.{GoesOn, WantsRoom};
-    ghost use Rattle.sched_core.specs.Calls.{admitted_at, close_refusal};
-    ghost use Rattle.sched_core.specs.FairQueues.{queue_of};
-    ghost use Rattle.sched_core.specs.JournalLaws.{JournalLaws, WaitWithoutFate};
-    ghost use Rattle.sched_core.specs.Runs.{Takes};
+    ghost use Rattle.journal_core.specs.Calls.{admitted_at, close_refusal};
+    ghost use Rattle.fair_core.specs.FairQueues.{queue_of};
+    ghost use Rattle.journal_core.specs.JournalLaws.{JournalLaws, WaitWithoutFate};
+    ghost use Rattle.journal_core.specs.Runs.{Takes};
     ghost use Rattle.sched_core.specs.Schedulers.{ComparesFew, IsAdvanced, IsServed, discipline_of, flows_of, new_scheduler};
-    ghost use Rattle.sched_core.specs.Shown.{flow_shown};
-    ghost use Rattle.sched_core.specs.State.{refusal_of, IsRefusal};
-    ghost use Rattle.sched_core.specs.Statistics.{statistics};
-    ghost use Rattle.sched_core.specs.TupleRows.{tuple_rows};
-    ghost use Rattle.sched_core.specs.declared.step.Step.TheVariants.{Enqueue, Dequeue, Close};
-    ghost use Rattle.sched_core.specs.declared.run.Answer.TheVariants as answer;
-    ghost use Rattle.sched_core.specs.declared.step.Refusal.TheVariants as refusal;
+    ghost use Rattle.fair_core.specs.Shown.{flow_shown};
+    ghost use Rattle.journal_core.specs.State.{refusal_of, IsRefusal};
+    ghost use Rattle.journal_core.specs.Statistics.{statistics};
+    ghost use Rattle.journal_core.specs.TupleRows.{tuple_rows};
+    ghost use Rattle.journal_core.specs.declared.step.Step.TheVariants.{Enqueue, Dequeue, Close};
 
     /// A scheduler before its first step. Room for the close, for both lists of flows, for the credits and for
     /// CoDel's states is taken here.

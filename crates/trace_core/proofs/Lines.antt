@@ -14,8 +14,8 @@ use Rattle.csv.specs.Quoting.{needs_byte}
 use Rattle.csv.specs.Writing.{default_writer, field_text, fields_text, is_blank, row_text, with_flexible}
 use Rattle.packet_core.specs.declared.packet.Ecn.{Ecn}
 use Rattle.packet_core.specs.declared.packet.Ecn.TheVariants.{NotEct, Ect1, Ect0, Ce}
-use Rattle.sched_core.specs.declared.event.Cause.{Cause}
-use Rattle.sched_core.specs.declared.event.Cause.TheVariants.{Codel, Overflow}
+use Rattle.journal_core.specs.declared.event.Cause.{Cause}
+use Rattle.journal_core.specs.declared.event.Cause.TheVariants.{Codel, Overflow}
 use Rattle.trace_core.specs.Report.{ArePlain, IsPlain, IsPlainRow, behind, cause_name, dotted, line_of, state_name}
 use Rattle.trace_core.specs.RowGrammar.{ecn_digit}
 

@@ -11,7 +11,7 @@ use Rattle.csv.specs.declared.error.ErrorKind.TheVariants as csv_error
 use Rattle.csv.specs.declared.parser.Config.{Config}
 use Rattle.csv.specs.declared.parser.State.{State}
 use Rattle.csv.specs.declared.parser.State.TheVariants as st
-use Rattle.sched_core.specs.declared.step.Step.{Step}
+use Rattle.journal_core.specs.declared.step.Step.{Step}
 use Rattle.trace_core.specs.declared.reader.TraceFault.{TraceFault}
 use Rattle.trace_core.specs.declared.reader.TraceFaultKind.{TraceFaultKind}
 use Rattle.trace_core.specs.declared.reader.TraceFaultKind.TheVariants.{Memory, Read, TooLarge}

@@ -5,10 +5,10 @@ use Rattle.std.specs.List.{flat_map, slice_range}
 use Rattle.std.proofs.Math.Seq.{drop-append_seam, take-append_seam}
 use Rattle.std.proofs.lemmas.Grind.{flat_map-append}
 use Rattle.std.proofs.lemmas.List.{map-append, take_more}
-use Rattle.sched_core.specs.Runs.{Made, journal_of, outcomes_from}
-use Rattle.sched_core.specs.declared.event.Event.{Event}
-use Rattle.sched_core.specs.declared.run.Outcome.{Outcome}
-use Rattle.sched_core.specs.declared.tuple_rows.TupleRow.{TupleRow}
+use Rattle.journal_core.specs.Runs.{Made, journal_of, outcomes_from}
+use Rattle.journal_core.specs.declared.event.Event.{Event}
+use Rattle.journal_core.specs.declared.outcome.Outcome.{Outcome}
+use Rattle.journal_core.specs.declared.tuple_rows.TupleRow.{TupleRow}
 use Rattle.trace_core.specs.declared.report.Rows.{Rows}
 use Rattle.trace_core.specs.Report.{Adds, HasText, answer_rows, event_row, line_of, lines_of, made_rows, tuple_row}
 

@@ -5,12 +5,12 @@ use Rattle.std.specs.List.{flat_map}
 use Rattle.std.proofs.Math.Seq.{drop-append_seam}
 use Rattle.std.proofs.lemmas.Grind.{flat_map-append}
 use Rattle.std.proofs.lemmas.List.{take_all}
-use Rattle.sched_core.specs.Runs.{Made, Runs, Takes, journal_of}
+use Rattle.journal_core.specs.Runs.{Made, Runs, Takes, journal_of}
 use Rattle.sched_core.specs.Schedulers.{Scheduler, discipline_of}
-use Rattle.sched_core.specs.declared.event.Event.{Event}
-use Rattle.sched_core.specs.declared.run.Answer.{Answer}
-use Rattle.sched_core.specs.declared.step.Step.{Step}
-use Rattle.sched_core.proofs.Running.{journal_push, runs_push}
+use Rattle.journal_core.specs.declared.event.Event.{Event}
+use Rattle.journal_core.specs.declared.outcome.Answer.{Answer}
+use Rattle.journal_core.specs.declared.step.Step.{Step}
+use Rattle.journal_core.proofs.RunLemmas.{journal_push, runs_push}
 use Rattle.trace_core.specs.Report.{Adds, RunsStep, answer_rows, event_row, line_of, lines_of, made_rows}
 use Rattle.trace_core.specs.Traces.{HasTaken}
 use Rattle.trace_core.specs.declared.reader.TraceRows.{TraceRows}

@@ -4,30 +4,30 @@ use Rattle.std.specs.Prelude.{codes}
 use Rattle.std.specs.Fmt.{decimal}
 use Rattle.std.specs.List.{flat_map}
 use Rattle.csv.specs.Writing.{default_writer, fields_written, has_written, needs_quotes, text_written, with_flexible, writer_setup}
-use Rattle.sched_core.specs.Runs.{Made, Runs, journal_of}
-use Rattle.sched_core.specs.Statistics.{statistics}
-use Rattle.sched_core.specs.declared.event.Cause.{Cause}
-use Rattle.sched_core.specs.declared.event.Cause.TheVariants as cause
-use Rattle.sched_core.specs.declared.event.Event.{Event}
-use Rattle.sched_core.specs.declared.event.Event.TheVariants as event
-use Rattle.sched_core.specs.declared.run.Answer.{Answer}
-use Rattle.sched_core.specs.declared.run.Answer.TheVariants as answer
-use Rattle.sched_core.specs.declared.step.MomentFault.{MomentFault}
-use Rattle.sched_core.specs.declared.step.MomentFault.TheVariants as moment_fault
-use Rattle.sched_core.specs.declared.step.Refusal.{Refusal}
-use Rattle.sched_core.specs.declared.step.Refusal.TheVariants as refusal
-use Rattle.sched_core.specs.declared.totals.Totals.{Totals}
-use Rattle.sched_core.specs.declared.tuple_rows.TupleRow.{TupleRow}
-use Rattle.sched_core.specs.TupleRows.{tuple_rows}
+use Rattle.journal_core.specs.Runs.{Made, Runs, journal_of}
+use Rattle.journal_core.specs.Statistics.{statistics}
+use Rattle.journal_core.specs.declared.event.Cause.{Cause}
+use Rattle.journal_core.specs.declared.event.Cause.TheVariants as cause
+use Rattle.journal_core.specs.declared.event.Event.{Event}
+use Rattle.journal_core.specs.declared.event.Event.TheVariants as event
+use Rattle.journal_core.specs.declared.outcome.Answer.{Answer}
+use Rattle.journal_core.specs.declared.outcome.Answer.TheVariants as answer
+use Rattle.journal_core.specs.declared.step.MomentFault.{MomentFault}
+use Rattle.journal_core.specs.declared.step.MomentFault.TheVariants as moment_fault
+use Rattle.journal_core.specs.declared.step.Refusal.{Refusal}
+use Rattle.journal_core.specs.declared.step.Refusal.TheVariants as refusal
+use Rattle.journal_core.specs.declared.totals.Totals.{Totals}
+use Rattle.journal_core.specs.declared.tuple_rows.TupleRow.{TupleRow}
+use Rattle.journal_core.specs.TupleRows.{tuple_rows}
 use Rattle.packet_core.specs.Packets.{ip_bytes}
 use Rattle.packet_core.specs.declared.flow.Seed.{Seed}
 use Rattle.packet_core.specs.declared.params.ParamFields.{ParamFields}
-use Rattle.sched_core.specs.FairQueues.{FairQueues, no_queues}
-use Rattle.sched_core.specs.FqCodel.{fq_codel}
-use Rattle.sched_core.specs.State.{State, opening_state}
-use Rattle.sched_core.specs.declared.step.Step.{Step}
+use Rattle.fair_core.specs.FairQueues.{FairQueues, no_queues}
+use Rattle.fair_core.specs.FqCodel.{fq_codel}
+use Rattle.journal_core.specs.State.{State, opening_state}
+use Rattle.journal_core.specs.declared.step.Step.{Step}
 use Rattle.sched_core.specs.Schedulers.{Scheduler, discipline_of}
-use Rattle.sched_core.specs.Steps.{Steps}
+use Rattle.journal_core.specs.Steps.{Steps}
 use Rattle.trace_core.specs.Traces.{steps_of, trace_of}
 use Rattle.trace_core.specs.declared.report.Rows.{Rows}
 use Rattle.trace_core.specs.RowGrammar.{ecn_digit}

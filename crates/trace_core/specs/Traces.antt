@@ -10,7 +10,7 @@ use Rattle.csv.specs.declared.error.ErrorKind.TheVariants as csv_error
 use Rattle.csv.specs.declared.parser.State.TheVariants as st
 use Rattle.csv.specs.declared.reader.Reader.{Reader}
 use Rattle.csv.specs.declared.reader.Trim.TheVariants as trim
-use Rattle.sched_core.specs.declared.step.Step.{Step}
+use Rattle.journal_core.specs.declared.step.Step.{Step}
 use Rattle.trace_core.specs.declared.reader.Next.{Next}
 use Rattle.trace_core.specs.declared.reader.Next.TheVariants as next
 use Rattle.trace_core.specs.declared.reader.TraceFault.{TraceFault}

@@ -1,6 +1,6 @@
 ghost use Rattle.std.specs.Prelude.{◌≡◌, ◌++◌, ◌∷◌, [], ℕ, List, IfOk, OnOk, map, string_bytes};
-ghost use Rattle.sched_core.specs.Statistics.{statistics};
-ghost use Rattle.sched_core.specs.TupleRows.{tuple_rows};
+ghost use Rattle.journal_core.specs.Statistics.{statistics};
+ghost use Rattle.journal_core.specs.TupleRows.{tuple_rows};
 ghost use Rattle.packet_core.specs.Packets.{ip_bytes};
 ghost use Rattle.trace_core.specs.Report as Report;
 ghost use Rattle.trace_core.specs.RowGrammar.{ecn_digit};

@@ -1,5 +1,5 @@
-use Rattle.sched_core.specs.FqCodel.{fq_codel_policy}
-use Rattle.sched_core.proofs.NewFirst.{new_flows_first}
+use Rattle.fair_core.specs.FqCodel.{fq_codel_policy}
+use Rattle.fair_core.proofs.NewFlowsFirst.{new_flows_first}
 use Rattle.sched_core.proofs.laws.new_flows_go_first.Goals as goal
 
 pub returns : goal.returns

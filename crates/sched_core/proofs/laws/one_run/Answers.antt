@@ -1,4 +1,4 @@
-use Rattle.sched_core.proofs.OneRun.{fq_codel_once}
+use Rattle.fair_core.proofs.OneRun.{fq_codel_once}
 use Rattle.sched_core.proofs.laws.one_run.Goals as goal
 
 pub returns : goal.returns

@@ -1,7 +1,7 @@
-use Rattle.sched_core.specs.FairQueues.{no_queues}
-use Rattle.sched_core.specs.FqCodel.{fq_codel}
-use Rattle.sched_core.specs.State.{opening_state}
-use Rattle.sched_core.proofs.Refused.{journal_without, runs_without}
+use Rattle.fair_core.specs.FairQueues.{no_queues}
+use Rattle.fair_core.specs.FqCodel.{fq_codel}
+use Rattle.journal_core.specs.State.{opening_state}
+use Rattle.journal_core.proofs.RunsWithoutRefused.{journal_without, runs_without}
 use Rattle.sched_core.proofs.laws.refused_steps_change_nothing.Goals as goal
 
 pub returns-clause-state : goal.returns-clause-state

@@ -1,6 +1,6 @@
-use Rattle.sched_core.specs.FqCodel.{fq_codel_policy}
-use Rattle.sched_core.proofs.Chains.{chain_bound, chain_once, chain_there}
-use Rattle.sched_core.proofs.FqCodel.{policy_decided}
+use Rattle.fair_core.specs.FqCodel.{fq_codel_policy}
+use Rattle.fair_core.proofs.ServingChains.{chain_bound, chain_once, chain_there}
+use Rattle.fair_core.proofs.FqCodelPolicy.{policy_decided}
 use Rattle.sched_core.proofs.FqCodelRuns.{fq_codel_sound}
 use Rattle.sched_core.proofs.ShortPackets.{short_packets_few_turns}
 use Rattle.sched_core.proofs.laws.serving_chains_end.Goals as goal

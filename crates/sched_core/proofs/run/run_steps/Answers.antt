@@ -1,15 +1,15 @@
 use Rattle.std.proofs.Common.{◌≡◌, ◌+◌, ◌<◌, [], ◌∷◌, ◌++◌, length, take, slice_get, Some, sym, ap, refl, ◌∙◌, arith, length-append}
 use Rattle.std.proofs.lemmas.List.{length-take-le, take_more}
 use Rattle.std.proofs.lemmas.Option.{slice_get_read}
-use Rattle.sched_core.specs.declared.run.Outcome.{Outcome}
-use Rattle.sched_core.specs.declared.step.Step.{Step}
-use Rattle.sched_core.specs.FqCodel.{fq_codel}
+use Rattle.journal_core.specs.declared.outcome.Outcome.{Outcome}
+use Rattle.journal_core.specs.declared.step.Step.{Step}
+use Rattle.fair_core.specs.FqCodel.{fq_codel}
 use Rattle.sched_core.specs.LastSteps.{AreFewOfLast, AreTurnsOfLast}
-use Rattle.sched_core.specs.Runs.{IsRun}
+use Rattle.journal_core.specs.Runs.{IsRun}
 use Rattle.sched_core.proofs.FqCodelRuns.{fq_codel_laws}
 use Rattle.sched_core.proofs.LastStepLemmas.{comparisons_of_last, turns_of_last}
-use Rattle.sched_core.proofs.Running.{places, run_more}
-use Rattle.sched_core.proofs.Storing.{kept_push}
+use Rattle.journal_core.proofs.RunLemmas.{places, run_more}
+use Rattle.sched_core.proofs.StoredRuns.{kept_push}
 use Rattle.sched_core.proofs.run.run_steps.Goals as goal
 
 pub loop-step-preserved : goal.loop-step-preserved

@@ -1,7 +1,7 @@
 use Rattle.std.proofs.Common.{◌≡◌, length, take}
-use Rattle.sched_core.specs.FqCodel.{fq_codel}
+use Rattle.fair_core.specs.FqCodel.{fq_codel}
 use Rattle.sched_core.specs.LastSteps.{AreFewOfLast, AreTurnsOfLast}
-use Rattle.sched_core.specs.Runs.{IsRun, steps_kept}
+use Rattle.journal_core.specs.Runs.{IsRun, steps_kept}
 use Rattle.sched_core.proofs.run.run_steps.Given as goal
 
 -- the outcomes so far are those of the steps so far, and those of them that weren't refused are stored; the turns and the comparisons that are

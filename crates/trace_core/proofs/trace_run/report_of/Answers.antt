@@ -1,5 +1,5 @@
 use Rattle.std.proofs.Common.{◌≡◌, Err, length, rules}
-use Rattle.sched_core.specs.Runs.{journal_of}
+use Rattle.journal_core.specs.Runs.{journal_of}
 use Rattle.trace_core.proofs.Records.{not_large}
 use Rattle.trace_core.proofs.trace_run.report_of.Goals as goal
 

@@ -1,7 +1,7 @@
 use Rattle.std.proofs.Common.{arith}
-use Rattle.sched_core.specs.declared.run.Answer.TheVariants as answer
-use Rattle.sched_core.specs.declared.step.Step.TheVariants.{Close}
-use Rattle.sched_core.proofs.Storing.{advanced_on}
+use Rattle.journal_core.specs.declared.outcome.Answer.TheVariants as answer
+use Rattle.journal_core.specs.declared.step.Step.TheVariants.{Close}
+use Rattle.sched_core.proofs.StoredRuns.{advanced_on}
 use Rattle.sched_core.proofs.engine.Engine.close.Goals as goal
 
 pub invariant_of-self-2 : goal.invariant_of-self-2

@@ -1,5 +1,5 @@
 use Rattle.std.proofs.Common.{arith}
-use Rattle.sched_core.proofs.Storing.{room_left, taken_on}
+use Rattle.sched_core.proofs.StoredRuns.{room_left, taken_on}
 use Rattle.sched_core.proofs.engine.Engine.make.Goals as goal
 
 pub invariant_of-self-2 : goal.invariant_of-self-2

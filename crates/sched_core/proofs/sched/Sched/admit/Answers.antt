@@ -1,12 +1,12 @@
 use Rattle.std.proofs.Common.{◌≡◌, ◌+◌, ◌-◌, ◌<◌, false, None, sym, ap, subst, ◌∙◌, arith}
 use Rattle.packet_core.specs.FlowNumber.{flow_number}
-use Rattle.sched_core.specs.declared.step.Step.TheVariants.{Enqueue}
+use Rattle.journal_core.specs.declared.step.Step.TheVariants.{Enqueue}
 use Rattle.sched_core.specs.Kept.{IsBookKept}
 use Rattle.sched_core.specs.Schedulers.{Scheduler}
-use Rattle.sched_core.specs.State.{refusal_of}
-use Rattle.sched_core.proofs.KeptAdmits.{few_admitted, is_admitted, kept_admits}
-use Rattle.sched_core.proofs.KeptSteps.{state_of}
-use Rattle.sched_core.proofs.Refusals.{enqueue_open}
+use Rattle.journal_core.specs.State.{refusal_of}
+use Rattle.sched_core.proofs.KeptAcceptances.{few_admitted, is_admitted, kept_admits}
+use Rattle.sched_core.proofs.KeptScheduler.{state_of}
+use Rattle.journal_core.proofs.RefusalLemmas.{enqueue_open}
 use Rattle.sched_core.proofs.sched.Sched.admit.Goals as goal
 
 pub invariant_of-self : goal.invariant_of-self

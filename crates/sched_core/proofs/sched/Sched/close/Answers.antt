@@ -1,10 +1,11 @@
 use Rattle.std.proofs.Common.{◌≡◌, true, None, sym, subst}
 use Rattle.std.proofs.lemmas.List.{length_push}
-use Rattle.sched_core.specs.declared.step.Step.TheVariants.{Close}
+use Rattle.journal_core.specs.declared.step.Step.TheVariants.{Close}
 use Rattle.sched_core.specs.Schedulers.{Scheduler}
-use Rattle.sched_core.specs.State.{refusal_of}
-use Rattle.sched_core.proofs.Comparing.{counts_idle, few_compared}
-use Rattle.sched_core.proofs.KeptSteps.{kept_closes, kept_counted}
+use Rattle.journal_core.specs.State.{refusal_of}
+use Rattle.fair_core.proofs.ComparisonLemmas.{counts_idle}
+use Rattle.sched_core.proofs.StepComparisons.{few_compared}
+use Rattle.sched_core.proofs.KeptScheduler.{kept_closes, kept_counted}
 use Rattle.sched_core.proofs.sched.Sched.close.Goals as goal
 
 pub invariant_of-self : goal.invariant_of-self

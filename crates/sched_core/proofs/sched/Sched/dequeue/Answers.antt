@@ -1,10 +1,10 @@
 use Rattle.std.proofs.Common.{◌≡◌, None, Some, option_map, ap, refl}
-use Rattle.sched_core.specs.declared.step.Refusal.TheVariants.{Moment}
-use Rattle.sched_core.specs.declared.step.Step.TheVariants.{Dequeue}
-use Rattle.sched_core.specs.Backlogs.{Held}
-use Rattle.sched_core.specs.FairQueues.{AreSound}
-use Rattle.sched_core.specs.State.{refusal_of}
-use Rattle.sched_core.proofs.KeptSteps.{few_served, is_served, kept_counted, kept_serves, room_for_sent, state_of, told_none, told_some}
+use Rattle.journal_core.specs.declared.step.Refusal.TheVariants.{Moment}
+use Rattle.journal_core.specs.declared.step.Step.TheVariants.{Dequeue}
+use Rattle.fair_core.specs.Backlogs.{Held}
+use Rattle.fair_core.specs.FairQueues.{AreSound}
+use Rattle.journal_core.specs.State.{refusal_of}
+use Rattle.sched_core.proofs.KeptScheduler.{few_served, is_served, kept_counted, kept_serves, room_for_sent, state_of, told_none, told_some}
 use Rattle.sched_core.proofs.sched.Sched.dequeue.Goals as goal
 
 pub invariant_of-self : goal.invariant_of-self

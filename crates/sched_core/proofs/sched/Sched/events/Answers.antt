@@ -1,6 +1,6 @@
-use Rattle.sched_core.specs.FairQueues.{queue_of}
-use Rattle.sched_core.specs.FqCodel.{fq_codel}
-use Rattle.sched_core.proofs.LawsOfHistory.{laws_of_history, waits_of_history}
+use Rattle.fair_core.specs.FairQueues.{queue_of}
+use Rattle.fair_core.specs.FqCodel.{fq_codel}
+use Rattle.journal_core.proofs.LawsOfHistory.{laws_of_history, waits_of_history}
 use Rattle.sched_core.proofs.sched.Sched.events.Goals as goal
 
 pub returns-clause-laws : goal.returns-clause-laws

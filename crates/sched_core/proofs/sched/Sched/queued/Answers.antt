@@ -1,5 +1,5 @@
 use Rattle.std.proofs.Common.{◌∙◌}
-use Rattle.sched_core.proofs.KeptSteps.{kept_queued}
+use Rattle.sched_core.proofs.KeptScheduler.{kept_queued}
 use Rattle.sched_core.proofs.sched.Sched.queued.Goals as goal
 
 pub returns-clause-journal : goal.returns-clause-journal

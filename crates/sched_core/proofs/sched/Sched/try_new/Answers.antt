@@ -2,8 +2,8 @@ use Rattle.std.proofs.Common.{◌≡◌, ℕ, zero, suc, false, List, [], refl, 
 use Rattle.std.proofs.lemmas.List.{length-replicate}
 use Rattle.packet_core.specs.declared.packet.FiveTuple.{FiveTuple}
 use Rattle.packet_core.specs.declared.packet.Waiting.{Waiting}
-use Rattle.sched_core.specs.FairQueues.{no_queues, queue_of}
-use Rattle.sched_core.specs.History.{IsHistory}
+use Rattle.fair_core.specs.FairQueues.{no_queues, queue_of}
+use Rattle.journal_core.specs.History.{IsHistory}
 use Rattle.sched_core.proofs.sched.Sched.try_new.Goals as goal
 
 no_packet : (flows flow : ℕ) → queue_of (no_queues flows) flow ≡ []

@@ -1,6 +1,6 @@
 use Rattle.std.proofs.Common.{◌≡◌, ◌++◌, ℕ, List, map}
-use Rattle.sched_core.specs.Statistics.{statistics}
-use Rattle.sched_core.specs.TupleRows.{tuple_rows}
+use Rattle.journal_core.specs.Statistics.{statistics}
+use Rattle.journal_core.specs.TupleRows.{tuple_rows}
 use Rattle.trace_core.specs.Report as Report
 use Rattle.trace_core.specs.Report.{HasText}
 use Rattle.trace_core.proofs.Reporting.{if_ok}

@@ -1,0 +1,123 @@
+-- CoDel and the overflow of the fattest flow are a policy that the laws hold of.
+use Rattle.std.proofs.Common.{◌∙◌, sym, ◌≡◌, ◌≢◌, ℕ, zero, suc, ◌<◌, ◌⊎◌, List, [], ◌∷◌, drop, take, get_or, set, length, slice_get, IsSomeAnd, IsTrue, Some, refl, sym, ap, subst, inl, inr, arith, append-nil}
+use Rattle.std.proofs.lemmas.Bool.{cases_eq, eq-eqb, false≢true, ne_eqb}
+use Rattle.std.proofs.lemmas.List.{get_or-set_other, get_or-set_same, length-set, take-append-drop}
+use Rattle.packet_core.specs.Params.{AreInRange}
+use Rattle.packet_core.specs.declared.packet.Ecn.{Ecn}
+use Rattle.packet_core.specs.declared.packet.Ecn.TheVariants as fields
+use Rattle.packet_core.specs.declared.packet.Waiting.{Waiting}
+use Rattle.packet_core.specs.declared.params.EcnUse.{EcnUse}
+use Rattle.packet_core.specs.declared.params.EcnUse.TheVariants as ecn
+use Rattle.packet_core.specs.declared.params.ParamFields.{ParamFields}
+use Rattle.codel_core.specs.Queue.{IsMarkableAt, is_markable}
+use Rattle.codel_core.specs.Verdict.{Decides, Stops, Verdict}
+use Rattle.codel_core.specs.Verdict.Stops.{leaves as stop_leaves, waits as stop_waits, marks as stop_marks}
+use Rattle.codel_core.specs.Verdict.Verdict.{nothing as verdict_nothing, first_mark as verdict_first_mark, first_drop as verdict_first_drop, drops as verdict_drops}
+use Rattle.codel_core.specs.declared.served.Mark.{Mark}
+use Rattle.codel_core.specs.declared.served.Mark.TheVariants.{NoMark, CodelMark}
+use Rattle.codel_core.specs.declared.state.CodelState.{CodelState}
+use Rattle.journal_core.specs.Disciplines.{Batch, LeaveHeads, MayHave}
+use Rattle.fair_core.specs.FqCodel.{fq_codel_policy}
+use Rattle.fair_core.specs.Overflow.{Overflow, batch_size}
+use Rattle.fair_core.specs.Overflow.Overflow.{fits, exceeds}
+use Rattle.fair_core.specs.Policies.{DropsFromHeads, IsDecided}
+use Rattle.fair_core.proofs.OverflowLemmas.{overflow_once, overflow_there}
+
+-- what CoDel's own laws say of its verdict
+pub record VerdictLaws : Type 0 where
+  pub exists : (p : ParamFields) (now : ℕ) (q : List Waiting) (old : CodelState) → (k : ℕ) × (mark : Mark) × (new : CodelState) × Decides p now q old k mark new
+  pub unique : (p : ParamFields) (now : ℕ) (q : List Waiting) (old : CodelState) (k k' : ℕ) (mark mark' : Mark) (new new' : CodelState)
+      → Decides p now q old k mark new → Decides p now q old k' mark' new' → (k ≡ k') × (mark ≡ mark') × (new ≡ new')
+  pub gives : (p : ParamFields) (now : ℕ) (q : List Waiting) (old : CodelState) (k : ℕ) (mark : Mark) (new : CodelState)
+      → Decides p now q old k mark new → ((q ≡ []) × (k ≡ 0)) ⊎ (k < length q)
+
+-- a place in a list has an element
+found_at : {X : Type 0} (xs : List X) (k : ℕ) → k < length xs → (x : X) × (slice_get xs k ≡ Some x)
+found_at [] k below = absurd (omega arith)
+found_at (x ∷ xs) zero below = (x, refl)
+found_at (x ∷ xs) (suc k) below = found_at xs k (omega arith)
+
+batch_leaves : (queues : List (List Waiting)) (flow n : ℕ) → flow < length queues
+    → LeaveHeads (λ f. get_or queues f []) (record { flow = flow; gone = take n (get_or queues flow []) } ∷ []) (λ f. get_or (set queues flow (drop n (get_or queues flow []))) f [])
+batch_leaves queues flow n within f =
+    elim (cases_eq flow f) [
+      | inl same ↦
+          rw (eq-eqb flow f same, ← same, get_or-set_same queues flow (drop n (get_or queues flow [])) [] within, append-nil (take n (get_or queues flow [])))
+          (sym (take-append-drop n (get_or queues flow [])))
+      | inr other ↦ rw (ne_eqb flow f other, get_or-set_other queues flow f (drop n (get_or queues flow [])) [] (λ e. other (sym e))) refl
+    ]
+
+overflow_leaves : (limit : ℕ) (queues : List (List Waiting)) (batches : List Batch) (queues' : List (List Waiting)) → Overflow limit queues batches queues' → LeaveHeads (λ f. get_or queues f []) batches (λ f. get_or queues' f [])
+overflow_leaves limit queues batches queues' (fits few none e) = rw (none, e) (λ f. refl)
+overflow_leaves limit queues batches queues' (exceeds many flow fattest one e) = rw (one, e) (batch_leaves queues flow (batch_size (length (get_or queues flow []))) fattest.within)
+
+overflow_keeps : (limit : ℕ) (queues : List (List Waiting)) (batches : List Batch) (queues' : List (List Waiting)) → Overflow limit queues batches queues' → length queues' ≡ length queues
+overflow_keeps limit queues batches queues' (fits few none e) = ap length e
+overflow_keeps limit queues batches queues' (exceeds many flow fattest one e) = rw e (length-set queues flow _)
+
+-- Only a packet that may be marked is marked.
+markable : (ecn : EcnUse) (field : Ecn) → IsTrue (is_markable ecn field) → field ≢ fields.NotEct
+markable ecn.Drop fields.NotEct may e = absurd (false≢true may)
+markable ecn.Drop fields.Ect1 may e = cc
+markable ecn.Drop fields.Ect0 may e = cc
+markable ecn.Drop fields.Ce may e = cc
+markable ecn.Mark fields.NotEct may e = absurd (false≢true may)
+markable ecn.Mark fields.Ect1 may e = cc
+markable ecn.Mark fields.Ect0 may e = cc
+markable ecn.Mark fields.Ce may e = cc
+
+module _ (p : ParamFields) where
+  marks_only : (now : ℕ) (queue : List Waiting) (codel : CodelState) (drops : ℕ) (mark : Mark) (codel' : CodelState) → Decides p now queue codel drops mark codel' → mark ≡ CodelMark → IsMarkableAt p queue drops
+  marks_only now queue codel k mark codel' d is = go d.verdict
+    where
+      stops : Stops p now queue codel k mark codel' → IsMarkableAt p queue k
+      stops (stop_leaves undroppable none e) = absurd (let m : CodelMark ≡ NoMark = sym is ∙ none in cc)
+      stops (stop_waits droppable early none e) = absurd (let m : CodelMark ≡ NoMark = sym is ∙ none in cc)
+      stops (stop_marks droppable due may one e) = may
+
+      go : Verdict p now queue codel k mark codel' → IsMarkableAt p queue k
+      go (verdict_nothing undroppable zero_is none e) = absurd (let m : CodelMark ≡ NoMark = sym is ∙ none in cc)
+      go (verdict_first_mark droppable calm may zero_is one e) = rw zero_is may
+      go (verdict_first_drop droppable calm may one_is none e) = absurd (let m : CodelMark ≡ NoMark = sym is ∙ none in cc)
+      go (verdict_drops droppable dropping before at) = stops at
+
+  honest_mark : (now : ℕ) (queue : List Waiting) (codel : CodelState) (drops : ℕ) (mark : Mark) (codel' : CodelState) → Decides p now queue codel drops mark codel' → (w : Waiting) → slice_get queue drops ≡ Some w → MayHave mark w.packet.ecn
+  honest_mark now queue codel drops NoMark codel' d w found = tt
+  honest_mark now queue codel drops CodelMark codel' d w found =
+      let at = subst (λ o. IsSomeAnd o (λ w. IsTrue (is_markable p.ecn w.packet.ecn))) found (marks_only now queue codel drops CodelMark codel' d refl) in
+      markable p.ecn w.packet.ecn at
+
+  pub policy_drops : DropsFromHeads (fq_codel_policy p)
+  policy_drops = record {
+    honest = honest_mark;
+    heads = overflow_leaves p.limit;
+    flows = overflow_keeps p.limit;
+  }
+
+module _ (laws : VerdictLaws) (p : ParamFields) where
+  gives_one : (now : ℕ) (w : Waiting) (queue : List Waiting) (codel : CodelState)
+      → (drops : ℕ) × (mark : Mark) × (codel' : CodelState) × (given : Waiting) × (Decides p now (w ∷ queue) codel drops mark codel') × (slice_get (w ∷ queue) drops ≡ Some given)
+  gives_one now w queue codel =
+      let d = laws.exists p now (w ∷ queue) codel in
+      elim (laws.gives p now (w ∷ queue) codel d.0 d.1 d.2 d.3) [
+        | inl none ↦ let e = none.0 in absurd cc
+        | inr below ↦ let found = found_at (w ∷ queue) d.0 below in (d.0, d.1, d.2, found.0, d.3, found.1)
+      ]
+
+  gives_none : (now : ℕ) (codel : CodelState) → (mark : Mark) × (codel' : CodelState) × Decides p now [] codel 0 mark codel'
+  gives_none now codel =
+      let d = laws.exists p now [] codel in
+      elim (laws.gives p now [] codel d.0 d.1 d.2 d.3) [
+        | inl none ↦ (d.1, d.2, subst (λ k. Decides p now [] codel k d.1 d.2) none.1 d.3)
+        | inr below ↦ absurd (omega arith)
+      ]
+
+  pub policy_decided : AreInRange p → IsDecided (fq_codel_policy p)
+  policy_decided range = record {
+    quantum = range.quantum.0;
+    gives = gives_one;
+    empties = gives_none;
+    once = λ now queue codel drops drops' mark mark' codel' codel'' d d'. laws.unique p now queue codel drops drops' mark mark' codel' codel'' d d';
+    overflows = overflow_there p.limit;
+    overflows_once = overflow_once p.limit;
+  }

@@ -1,0 +1,16 @@
+pub mod FairFifo
+pub mod QuantaOwed
+pub mod SingleTurns
+pub mod ServingChains
+pub mod NewFlowsFirst
+pub mod SoundFlows
+pub mod ComparisonLemmas
+pub mod AccountRanges
+pub mod DroppedPackets
+pub mod ListedFlowLemmas
+pub mod MadeTurns
+pub mod MostTurns
+pub mod ServedChains
+pub mod OverflowLemmas
+pub mod FqCodelPolicy
+pub mod OneRun

@@ -1,0 +1,10 @@
+pub mod FairQueues
+pub mod Turns
+pub mod FairQueueing
+pub mod Overflow
+pub mod Policies
+pub mod TurnBound
+pub mod NewFlows
+pub mod FqCodel
+pub mod Backlogs
+pub mod Shown

@@ -1,0 +1,360 @@
+//! The packets that wait in flows that take turns, and what arrives, is served and overflows.
+
+ghost use Rattle.std.specs.Prelude.{◌≡◌, ℕ, ◌+◌, ◌^◌, ◌<◌, ◌≤◌, IfOk, IfSome, OnErr, OnOk, Some, length, min, option_map, pos, take, ◌<ℤ◌, ◌≤ℤ◌};
+ghost use Rattle.codel_core.specs.Schedule.{IsStateInRange};
+ghost use Rattle.flow_core.specs.FlowLists.{queue_at, waiting_in};
+ghost use Rattle.flow_core.specs.Winners.{CountsFew};
+ghost use Rattle.fair_core.specs.Backlogs.{DropsOverflow, MakesTurn, ServesChain, ServesFlow, ServesQueue, emptied_lists, list_of, shown_head, with_arrival_listed, with_credits_raised, with_lists, without_head};
+ghost use Rattle.journal_core.specs.JournalDrops.{with_drops};
+ghost use Rattle.fair_core.specs.Shown.{flow_shown};
+ghost use Rattle.fair_core.specs.TurnBound.{turns_at_most};
+ghost use Rattle.journal_core.specs.declared.event.Cause.TheVariants as cause;
+ghost use Rattle.fair_core.specs.FairQueues.{AreSound, account_at, head_of, no_queues, to_old};
+
+use crate::account::Account;
+use crate::flow_view::FlowView;
+use codel_core::{Codel, Served};
+use flow_core::Flows;
+use journal_core::{Cause, Fates, Journal, Memory};
+use packet_core::{Params, Waiting};
+use std::alloc::Global;
+use std::marker::Model;
+
+/// The most packets that one overflow drops.
+const MAX_BATCH: u64 = 64;
+
+/// One of the two lists of flows (RFC 8290, section 4).
+#[derive(Clone, Copy, Debug)]
+pub enum FlowList {
+    /// The flows that became active lately.
+    New,
+    /// The flows that had a turn.
+    Old,
+}
+
+/// A flow at the head of a list.
+#[derive(Clone, Copy, Debug)]
+pub struct Head {
+    flow: u32,
+    from: FlowList,
+}
+
+/// What a dequeue gave, and after how many turns.
+#[derive(Clone, Copy, Debug)]
+pub struct Serving {
+    /// How many turns it took.
+    pub turns: u64,
+    /// The packet that is given, if one is.
+    pub served: Option<Served>,
+}
+
+/// The packets that wait, by flow, with both lists of flows, their credits and their CoDel states.
+#[derive(Debug, Drop)]
+pub struct Backlog {
+    flows: Flows,
+    accounts: Vec<Account>,
+    arrived: u64,
+}
+
+impl Model for Backlog {
+    ghost use Rattle.fair_core.specs.Backlogs.{Held, IsHeld, held_of};
+
+    ghost Value = { Held };
+
+    ghost view = { held_of };
+
+    ghost invariant = { IsHeld };
+}
+
+impl Backlog {
+    /// So many flows, from 1 to 65,536, and no packet.
+    pub fn try_new(alloc: Global, flows: u32) -> Result<Backlog, Memory>
+        requires least { 1 ≤ flows }
+        requires most { flows ≤ 65536 }
+        ensures { IfOk result (λ b. (b.queues ≡ no_queues flows) × (b.arrived ≡ 0) × (b.comparisons ≡ 0)) }
+    {
+        let account = Account {
+            credits: 0,
+            codel: Codel::new(),
+        };
+        Ok(Backlog {
+            flows: Flows::try_new(alloc, flows)?,
+            accounts: vec![in alloc; account; flows as usize]?,
+            arrived: 0,
+        })
+    }
+
+    /// Takes memory for so many packets more, into whatever flows.
+    pub fn reserve(&mut self, arrivals: u64) -> Result<(), Memory>
+        requires { arrivals ≤ 2 ^ 40 }
+        ensures queues { self.new.queues ≡ self.old.queues }
+        ensures arrived { self.new.arrived ≡ self.old.arrived }
+        ensures room { self.old.room ≤ self.new.room }
+        ensures comparisons { self.new.comparisons ≡ self.old.comparisons }
+        ensures ok { OnOk result (arrivals ≤ self.new.room) }
+        ensures err { OnErr result (self.new ≡ self.old) }
+    {
+        self.flows.reserve(arrivals)
+    }
+
+    /// How many packets came so far.
+    pub fn arrived(&self) -> u64
+        ensures { result ≡ self.now.arrived }
+    {
+        self.arrived
+    }
+
+    /// How often the bytes of two flows were compared since the last clear.
+    pub fn comparisons(&self) -> u64
+        ensures { result ≡ self.now.comparisons }
+    {
+        self.flows.comparisons()
+    }
+
+    /// Counts the comparisons from 0 again.
+    pub fn clear_comparisons(&mut self)
+        ensures { self.new ≡ record self.old { comparisons = 0 } }
+    {
+        self.flows.clear_comparisons();
+    }
+
+    /// How many packets wait.
+    pub fn waiting(&self) -> u64
+        ensures value { result ≡ waiting_in self.now.queues.lists }
+        ensures size { result ≤ 2 ^ 40 }
+    {
+        self.flows.total_len()
+    }
+
+    /// What is kept of a flow.
+    pub fn view(&self, flow: u32) -> FlowView
+        requires { flow < length self.now.queues.lists.queues }
+        ensures { result ≡ flow_shown self.now.queues flow }
+    {
+        FlowView {
+            len: self.flows.len(flow),
+            bytes: self.flows.bytes(flow),
+            credits: self.credits(flow),
+            codel: self.accounts[flow as usize].codel.state(),
+        }
+    }
+
+    /// The flow that a turn looks at (RFC 8290, section 4.2).
+    fn head(&self) -> Option<Head>
+        ensures value { result ≡ option_map shown_head (head_of self.now.queues) }
+        ensures within { IfSome result (λ head. head.flow < length self.now.queues.lists.queues) }
+        ensures sound { AreSound self.now.queues }
+        ensures bound { (quantum : ℕ) → 0 < quantum → turns_at_most quantum self.now.queues ≤ 2 ^ 40 }
+    {
+        // How many flows there are and that each is listed once is seen here: with it, the turns can be counted.
+        let _flows = self.flows.flows();
+        if let Some(flow) = self.flows.head_new() {
+            return Some(Head {
+                flow,
+                from: FlowList::New,
+            });
+        }
+        let flow = self.flows.head_old()?;
+        Some(Head {
+            flow,
+            from: FlowList::Old,
+        })
+    }
+
+    /// A packet comes to the tail of its flow's queue. A flow that is in no list becomes the last of the new
+    /// ones, with one quantum of credits (RFC 8290, section 4.1).
+    pub fn arrive(&mut self, flow: u32, waiting: Waiting, params: &Params)
+        requires flow { flow < length self.old.queues.lists.queues }
+        requires room { 0 < self.old.room }
+        requires few { self.old.arrived < 2 ^ 40 }
+        ensures queues { self.new.queues ≡ with_arrival_listed params.now self.old.queues flow waiting }
+        ensures arrived { self.new.arrived ≡ self.old.arrived + 1 }
+        ensures room { self.new.room + 1 ≡ self.old.room }
+        ensures few_comparisons { CountsFew (length self.old.queues.lists.queues) 1 self.old.comparisons self.new.comparisons }
+        ensures compares { 2 ≤ length self.old.queues.lists.queues → min (self.old.comparisons + 1) u64.MAX ≤ self.new.comparisons }
+    {
+        self.flows.push(flow, waiting);
+        self.arrived += 1;
+        if !self.flows.listed(flow) {
+            self.flows.add_new(flow);
+            self.accounts[flow as usize].credits = i64::from(params.quantum());
+        }
+    }
+
+    /// Where more than `limit` packets wait, the flow with the most bytes loses a batch from its head, which the
+    /// journal records (RFC 8290, section 4.1).
+    pub fn overflow(&mut self, limit: u32, moment: u64, journal: &mut Journal)
+        requires limit { 1 ≤ limit }
+        requires room { waiting_in self.old.queues.lists ≤ journal.old.room }
+        ensures { DropsOverflow limit moment self.old journal.old self.new journal.new }
+    {
+        if self.flows.total_len() <= u64::from(limit) {
+            return;
+        }
+        let Some(flow) = self.flows.fattest() else {
+            unreachable!()
+        };
+        let batch = (self.flows.len(flow) / 2).clamp(1, MAX_BATCH);
+        drop_batch(&mut self.flows, flow, batch, moment, journal);
+    }
+
+    /// A chain of turns, up to the first one that serves a flow, or to where both lists are empty (RFC 8290,
+    /// section 4.2). What CoDel drops goes to the journal.
+    pub fn serve(&mut self, now: u64, params: &Params, journal: &mut Journal) -> Serving
+        requires moment { now < 2 ^ 60 }
+        requires room { waiting_in self.old.queues.lists ≤ journal.old.room }
+        ensures chain { ServesChain params.now now self.old journal.old result.turns result.served self.new journal.new }
+        ensures arrived { self.new.arrived ≡ self.old.arrived }
+        ensures room { self.new.room ≡ self.old.room }
+        ensures sound { AreSound self.old.queues }
+        ensures quantum { 0 < params.now.quantum }
+    {
+        // That it is above 0 is seen here: with it, the turns end.
+        let _quantum = params.quantum();
+        let mut turns = 0;
+        let mut next = self.head();
+        while let Some(head) = next {
+            turns += 1;
+            let served = self.turn(head, now, params, journal);
+            if served.is_some() {
+                return Serving { turns, served };
+            }
+            next = self.head();
+        }
+        Serving {
+            turns,
+            served: None,
+        }
+    }
+
+    /// One turn of the flow at the head (RFC 8290, section 4.2).
+    fn turn(
+        &mut self,
+        head: Head,
+        now: u64,
+        params: &Params,
+        journal: &mut Journal,
+    ) -> Option<Served>
+        requires head { option_map shown_head (head_of self.old.queues) ≡ Some head }
+        requires flow { head.flow < length self.old.queues.lists.queues }
+        requires moment { now < 2 ^ 60 }
+        requires room { waiting_in self.old.queues.lists ≤ journal.old.room }
+        ensures { MakesTurn params.now now self.old journal.old result self.new journal.new }
+    {
+        if self.credits(head.flow) <= 0 {
+            self.raise_credits(head.flow, params);
+            self.move_to_old(head.from);
+            return None;
+        }
+        let served = self.serve_flow(head.flow, now, params, journal);
+        if served.is_none() {
+            self.leave(head.from);
+        }
+        served
+    }
+
+    /// How many bytes a flow may still send.
+    fn credits(&self, flow: u32) -> i64
+        requires { flow < length self.now.queues.lists.queues }
+        ensures { result ≡ (account_at self.now.queues flow).credits }
+    {
+        self.accounts[flow as usize].credits
+    }
+
+    /// A flow that used up its credits gets a quantum more.
+    fn raise_credits(&mut self, flow: u32, params: &Params)
+        requires flow { flow < length self.old.queues.lists.queues }
+        requires credits { (account_at self.old.queues flow).credits ≤ℤ pos 0 }
+        ensures { self.new ≡ with_credits_raised params.now.quantum self.old flow }
+    {
+        self.accounts[flow as usize].credits += i64::from(params.quantum());
+    }
+
+    /// The flow at the head of that list goes to the end of the list of old flows.
+    fn move_to_old(&mut self, from: FlowList)
+        requires { option_map list_of (head_of self.old.queues) ≡ Some from }
+        ensures { IfSome (head_of self.old.queues) (λ head. self.new ≡ with_lists self.old (to_old self.old.queues head)) }
+    {
+        match from {
+            FlowList::New => self.flows.new_to_old(),
+            FlowList::Old => self.flows.rotate_old(),
+        }
+    }
+
+    /// The flow at the head of that list has no packet: a new flow becomes an old one, and an old flow leaves.
+    fn leave(&mut self, from: FlowList)
+        requires { option_map list_of (head_of self.old.queues) ≡ Some from }
+        ensures { IfSome (head_of self.old.queues) (λ head. self.new ≡ with_lists self.old (emptied_lists self.old.queues head)) }
+    {
+        match from {
+            FlowList::New => self.flows.new_to_old(),
+            FlowList::Old => self.flows.leave_old(),
+        }
+    }
+
+    /// CoDel serves a flow, which has credits above 0. The length of the packet that is given is taken from them.
+    fn serve_flow(
+        &mut self,
+        flow: u32,
+        now: u64,
+        params: &Params,
+        journal: &mut Journal,
+    ) -> Option<Served>
+        requires flow { flow < length self.old.queues.lists.queues }
+        requires moment { now < 2 ^ 60 }
+        requires credits { pos 0 <ℤ (account_at self.old.queues flow).credits }
+        requires room { waiting_in self.old.queues.lists ≤ journal.old.room }
+        ensures { ServesFlow params.now now flow self.old journal.old result self.new journal.new }
+    {
+        let account = &mut self.accounts[flow as usize];
+        let served = serve_queue(
+            &mut self.flows,
+            flow,
+            &mut account.codel,
+            now,
+            params,
+            journal,
+        )?;
+        account.credits -= i64::from(served.waiting.packet.len());
+        Some(served)
+    }
+}
+
+/// CoDel serves the queue of a flow.
+fn serve_queue(
+    flows: &mut Flows,
+    flow: u32,
+    codel: &mut Codel,
+    now: u64,
+    params: &Params,
+    journal: &mut Journal,
+) -> Option<Served>
+    requires flow { flow < length flows.old.lists.queues }
+    requires moment { now < 2 ^ 60 }
+    requires numbers { IsStateInRange codel.old }
+    requires room { waiting_in flows.old.lists ≤ journal.old.room }
+    ensures { ServesQueue params.now now flow flows.old codel.old journal.old result flows.new codel.new journal.new }
+{
+    let mut line = flows.line(flow);
+    let mut fates = Fates {
+        journal,
+        moment: now,
+        cause: Cause::Codel,
+    };
+    codel.serve(&mut line, now, params, &mut fates)
+}
+
+/// Drops so many packets from the head of a flow's queue, as overflow.
+fn drop_batch(flows: &mut Flows, flow: u32, batch: u64, moment: u64, journal: &mut Journal)
+    requires flow { flow < length flows.old.lists.queues }
+    requires room { length (queue_at flows.old.lists flow) ≤ journal.old.room }
+    ensures flows { flows.new ≡ without_head flows.old flow batch flows.new.comparisons }
+    ensures few_comparisons { CountsFew (length flows.old.lists.queues) (length (take batch (queue_at flows.old.lists flow))) flows.old.comparisons flows.new.comparisons }
+    ensures journal { journal.new ≡ with_drops journal.old moment cause.Overflow (take batch (queue_at flows.old.lists flow)) }
+{
+    for _ in 0..batch {
+        if let Some(dropped) = flows.pop(flow) {
+            journal.drop(&dropped, moment, Cause::Overflow);
+        }
+    }
+}

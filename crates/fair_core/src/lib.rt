@@ -1,0 +1,12 @@
+//! What a fair scheduler keeps of its flows (RFC 8290, section 4): their queues, the lists of new and of old flows,
+//! credits and CoDel's states, and how packets arrive, are served in turns and overflow. What it drops goes into a
+//! journal, of whose inside nothing here knows.
+#![tactic(auto)]
+
+mod account;
+mod backlog;
+mod flow_view;
+
+pub use account::Account;
+pub use backlog::{Backlog, FlowList, Head, Serving};
+pub use flow_view::FlowView;

@@ -1,0 +1,110 @@
+-- How an event carries on one flow's share of a journal.
+use Rattle.std.proofs.Common.{◌≡◌, ◌≢◌, ℕ, ◌+◌, ◌≤◌, Bool, true, false, cond, List, [], ◌∷◌, ◌++◌, map, filter, eqb, Some, refl, sym, ap, subst, ◌∙◌, inl, inr, arith, append_assoc, append-nil}
+use Rattle.std.specs.List.{AllByRecursion}
+use Rattle.std.proofs.lemmas.Bool.{cases_Bool}
+use Rattle.std.proofs.lemmas.List.{map-append}
+use Rattle.std.proofs.lemmas.List.Elements.{filter-append}
+use Rattle.packet_core.specs.declared.packet.Waiting.{Waiting}
+use Rattle.journal_core.specs.Happened.{Acceptance, waiting_of, named, is_among, passes}
+use Rattle.journal_core.specs.History.{IsLine}
+use Rattle.journal_core.proofs.ListLemmas.{filter_agree_on, ByRecursion-filter, ByRecursion-passes, ByRecursion-parts, ByRecursion-weaker}
+use Rattle.journal_core.proofs.IdLemmas.{id_of, Rises, Rises-filter, Rises-before, named_itself, passes_at, passes-append, is_among_none, is_among-filter}
+
+-- each id has an acceptance
+abbrev pub AreFound : List Acceptance → List ℕ → Type 0
+AreFound accepted ids = AllByRecursion (λ id. (a : Acceptance) × (named accepted id ≡ Some a)) ids
+
+-- whether an acceptance is of the flow
+abbrev pub of_flow : ℕ → Acceptance → Bool
+of_flow flow a = eqb a.flow flow
+
+-- more acceptances leave the tests of found ids
+pub passes_stay : (test : Acceptance → Bool) (accepted more : List Acceptance) (ids : List ℕ) → AreFound accepted ids → filter (passes test (accepted ++ more)) ids ≡ filter (passes test accepted) ids
+passes_stay test accepted more ids found =
+    filter_agree_on (passes test (accepted ++ more)) (passes test accepted) ids
+    (ByRecursion-weaker (λ id. (a : Acceptance) × (named accepted id ≡ Some a)) (λ id. passes test (accepted ++ more) id ≡ passes test accepted id) ids (λ id h. passes-append test accepted more id h.0 h.1) found)
+
+-- how an acceptance waits, in the queue of its own flow
+arrival_waits : (flow : ℕ) (a : Acceptance) → map waiting_of (filter (of_flow flow) (a ∷ [])) ≡ cond (eqb a.flow flow) (waiting_of a ∷ []) []
+arrival_waits flow a = elim (cases_Bool (eqb a.flow flow)) [ inl t ↦ rw t | inr t ↦ rw t ]
+
+-- a packet is accepted
+pub line_accepts : (flow : ℕ) (waiting : List Waiting) (accepted : List Acceptance) (fated : List ℕ) (a : Acceptance) → AreFound accepted fated → IsLine flow waiting accepted fated
+    → IsLine flow (waiting ++ cond (eqb a.flow flow) (waiting_of a ∷ []) []) (accepted ++ a ∷ []) fated
+line_accepts flow waiting accepted fated a found line = record {
+  gone = line.gone;
+  rest = line.rest ++ filter (of_flow flow) (a ∷ []);
+  split =
+      filter-append (of_flow flow) accepted (a ∷ []) ∙ ap (λ r. r ++ filter (of_flow flow) (a ∷ [])) line.split ∙ append_assoc line.gone line.rest (filter (of_flow flow) (a ∷ []));
+  fates = passes_stay (of_flow flow) accepted (a ∷ []) fated found ∙ line.fates;
+  queue =
+      ap (λ r. r ++ cond (eqb a.flow flow) (waiting_of a ∷ []) []) line.queue ∙ sym (map-append waiting_of line.rest (filter (of_flow flow) (a ∷ [])) ∙ ap (λ r. map waiting_of line.rest ++ r) (arrival_waits flow a));
+}
+
+-- What is known of the packet at the head of a flow's queue, and the flow's share once it has a fate.
+pub record Leaves (flow : ℕ) (w : Waiting) (waiting : List Waiting) (accepted : List Acceptance) (fated : List ℕ) : Type 0 where
+  pub who : Acceptance
+  pub found : named accepted w.id ≡ Some who
+  pub same : waiting_of who ≡ w
+  pub flow_is : eqb who.flow flow ≡ true
+  pub new : is_among fated w.id ≡ false
+  pub line : IsLine flow waiting accepted (fated ++ w.id ∷ [])
+
+all_ids : (P : ℕ → Type 0) (accepted : List Acceptance) → AllByRecursion (λ (a : Acceptance). P a.id) accepted → AllByRecursion P (map id_of accepted)
+all_ids P [] h = tt
+all_ids P (a ∷ accepted) h = (h.0, all_ids P accepted h.1)
+
+one_more : (q : ℕ → Bool) (ids : List ℕ) (id : ℕ) → q id ≡ true → filter q (ids ++ id ∷ []) ≡ filter q ids ++ id ∷ []
+one_more q ids id t = filter-append q ids (id ∷ []) ∙ ap (λ r. filter q ids ++ r) (let e : filter q (id ∷ []) ≡ id ∷ [] = rw t in e)
+
+none_more : (q : ℕ → Bool) (ids : List ℕ) (id : ℕ) → q id ≡ false → filter q (ids ++ id ∷ []) ≡ filter q ids
+none_more q ids id t = filter-append q ids (id ∷ []) ∙ ap (λ r. filter q ids ++ r) (let e : filter q (id ∷ []) ≡ [] = rw t in e) ∙ append-nil (filter q ids)
+
+head_leaves : (flow : ℕ) (a : Acceptance) (gone rest accepted : List Acceptance) (fated : List ℕ) → Rises 0 accepted → filter (of_flow flow) accepted ≡ gone ++ a ∷ rest → filter (passes (of_flow flow) accepted) fated ≡ map id_of gone
+    → Leaves flow (waiting_of a) (map waiting_of rest) accepted fated
+head_leaves flow a gone rest accepted fated rises split fates =
+    let P = λ (b : Acceptance). named accepted b.id ≡ Some b in
+    let each = ByRecursion-filter P (of_flow flow) accepted (named_itself 0 accepted rises) in
+    let found : named accepted a.id ≡ Some a = (ByRecursion-parts P gone (a ∷ rest) (subst (AllByRecursion P) split each)).1.0 in
+    let own : of_flow flow a ≡ true = (ByRecursion-parts (λ b. of_flow flow b ≡ true) gone (a ∷ rest) (subst (AllByRecursion (λ b. of_flow flow b ≡ true)) split (ByRecursion-passes (of_flow flow) accepted))).1.0 in
+    let test : passes (of_flow flow) accepted a.id ≡ true = passes_at (of_flow flow) accepted a.id a found ∙ own in
+    let below = Rises-before 0 gone rest a (subst (Rises 0) split (Rises-filter (of_flow flow) 0 accepted rises)) in
+    let apart = all_ids (λ id. id ≢ a.id) gone (ByRecursion-weaker (λ (b : Acceptance). b.id + 1 ≤ a.id) (λ (b : Acceptance). b.id ≢ a.id) gone (λ b h. λ s. omega arith) below) in
+    record {
+      who = a;
+      found = found;
+      same = refl;
+      flow_is = own;
+      new =
+          sym (is_among-filter (passes (of_flow flow) accepted) fated a.id test) ∙ ap (λ ids. is_among ids a.id) fates ∙ is_among_none (map id_of gone) a.id apart;
+      line = record {
+        gone = gone ++ a ∷ [];
+        rest = rest;
+        split = split ∙ sym (append_assoc gone (a ∷ []) rest);
+        fates =
+            one_more (passes (of_flow flow) accepted) fated a.id test ∙ ap (λ ids. ids ++ a.id ∷ []) fates ∙ sym (map-append id_of gone (a ∷ []));
+        queue = refl;
+      };
+    }
+
+-- a packet leaves the head of its flow's queue
+pub line_leaves : (flow : ℕ) (w : Waiting) (waiting : List Waiting) (accepted : List Acceptance) (fated : List ℕ) → Rises 0 accepted → IsLine flow (w ∷ waiting) accepted fated → Leaves flow w waiting accepted fated
+line_leaves flow w waiting accepted fated rises line = from_rest line.gone line.rest line.split line.fates line.queue
+  where
+    from_rest : (gone rest : List Acceptance) → filter (of_flow flow) accepted ≡ gone ++ rest → filter (passes (of_flow flow) accepted) fated ≡ map id_of gone → w ∷ waiting ≡ map waiting_of rest → Leaves flow w waiting accepted fated
+    from_rest gone [] split fates queue = absurd cc
+    from_rest gone (a ∷ rest) split fates queue =
+        let head : w ≡ waiting_of a = cc in
+        let tail : waiting ≡ map waiting_of rest = cc in
+        rw (head, tail) (head_leaves flow a gone rest accepted fated rises split fates)
+
+-- a packet of another flow has a fate
+pub line_stays : (flow : ℕ) (waiting : List Waiting) (accepted : List Acceptance) (fated : List ℕ) (id : ℕ) (who : Acceptance) → named accepted id ≡ Some who → eqb who.flow flow ≡ false → IsLine flow waiting accepted fated
+    → IsLine flow waiting accepted (fated ++ id ∷ [])
+line_stays flow waiting accepted fated id who found other line = record {
+  gone = line.gone;
+  rest = line.rest;
+  split = line.split;
+  fates = none_more (passes (of_flow flow) accepted) fated id (passes_at (of_flow flow) accepted id who found ∙ other) ∙ line.fates;
+  queue = line.queue;
+}

@@ -1,0 +1,149 @@
+-- Lemmas on acceptances whose ids are consecutive numbers.
+use Rattle.std.proofs.Common.{◌≡◌, ◌≢◌, ℕ, zero, suc, ◌+◌, ◌<◌, ◌≤◌, Bool, true, false, List, [], ◌∷◌, ◌++◌, map, filter, eqb, Some, None, refl, sym, ap, subst, ◌∙◌, inl, inr, arith}
+use Rattle.std.specs.List.{AllByRecursion, range_with_len}
+use Rattle.std.proofs.lemmas.Bool.{cases_Bool, false≢true, eqb-false, eq-eqb, ne_eqb, cases_eq, or_parts}
+use Rattle.journal_core.specs.Happened.{Acceptance, named, is_among, passes}
+use Rattle.journal_core.proofs.ListLemmas.{ByRecursion-weaker, find-append}
+
+abbrev pub id_of : Acceptance → ℕ
+id_of a = a.id
+
+-- the ids rise, from k on
+abbrev pub Rises : ℕ → List Acceptance → Type 0
+Rises k [] = Unit {0}
+Rises k (a ∷ accepted) = (k ≤ a.id) × Rises (a.id + 1) accepted
+
+Rises-lower : (j k : ℕ) (accepted : List Acceptance) → j ≤ k → Rises k accepted → Rises j accepted
+Rises-lower j k [] h r = tt
+Rises-lower j k (a ∷ accepted) h r = let low = r.0 in (omega arith, r.1)
+
+-- ids that count up from k
+pub Rises-range : (k n : ℕ) (accepted : List Acceptance) → map id_of accepted ≡ range_with_len k n → Rises k accepted
+Rises-range k n [] e = tt
+Rises-range k zero (a ∷ accepted) e = absurd cc
+Rises-range k (suc n) (a ∷ accepted) e =
+    let head : a.id ≡ k = cc in
+    let tail : map id_of accepted ≡ range_with_len (k + 1) n = cc in
+    (omega arith, subst (λ j. Rises (j + 1) accepted) (sym head) (Rises-range (k + 1) n accepted tail))
+
+-- and none is past the last
+pub Rises-within : (k n : ℕ) (accepted : List Acceptance) → map id_of accepted ≡ range_with_len k n → AllByRecursion (λ a. a.id < k + n) accepted
+Rises-within k n [] e = tt
+Rises-within k zero (a ∷ accepted) e = absurd cc
+Rises-within k (suc n) (a ∷ accepted) e =
+    let head : a.id ≡ k = cc in
+    let tail : map id_of accepted ≡ range_with_len (k + 1) n = cc in
+    let rest = Rises-within (k + 1) n accepted tail in
+    (omega arith, ByRecursion-weaker (λ b. b.id < (k + 1) + n) (λ b. b.id < k + suc n) accepted (λ b low. omega arith) rest)
+
+pub Rises-filter : (p : Acceptance → Bool) (k : ℕ) (accepted : List Acceptance) → Rises k accepted → Rises k (filter p accepted)
+Rises-filter p k [] r = tt
+Rises-filter p k (a ∷ accepted) r =
+    let ih = Rises-filter p (a.id + 1) accepted r.1 in
+    let low = r.0 in
+    elim (cases_Bool (p a)) [
+      | inl t ↦ rw t (low, ih)
+      | inr t ↦ rw t (Rises-lower k (a.id + 1) (filter p accepted) (omega arith) ih)
+    ]
+
+-- each id is at least the first
+pub Rises-above : (k : ℕ) (accepted : List Acceptance) → Rises k accepted → AllByRecursion (λ a. k ≤ a.id) accepted
+Rises-above k [] r = tt
+Rises-above k (a ∷ accepted) r =
+    let low = r.0 in
+    (low, ByRecursion-weaker (λ b. a.id + 1 ≤ b.id) (λ b. k ≤ b.id) accepted (λ b h. omega arith) (Rises-above (a.id + 1) accepted r.1))
+
+-- behind an acceptance the ids are above its own
+pub Rises-behind : (k : ℕ) (before after : List Acceptance) (a : Acceptance) → Rises k (before ++ a ∷ after) → AllByRecursion (λ b. a.id + 1 ≤ b.id) after
+Rises-behind k [] after a r = Rises-above (a.id + 1) after r.1
+Rises-behind k (b ∷ before) after a r = Rises-behind (b.id + 1) before after a r.1
+
+-- before it they are below its own
+pub Rises-before : (k : ℕ) (before after : List Acceptance) (a : Acceptance) → Rises k (before ++ a ∷ after) → AllByRecursion (λ b. b.id + 1 ≤ a.id) before
+Rises-before k [] after a r = tt
+Rises-before k (b ∷ before) after a r = (Rises-first (b.id + 1) before after a r.1, Rises-before (b.id + 1) before after a r.1)
+  where
+    Rises-first : (k : ℕ) (before after : List Acceptance) (a : Acceptance) → Rises k (before ++ a ∷ after) → k ≤ a.id
+    Rises-first k [] after a r = r.0
+    Rises-first k (b ∷ before) after a r = let low = r.0 in let ih = Rises-first (b.id + 1) before after a r.1 in omega arith
+
+-- an id that none has is not found
+pub named_none : (accepted : List Acceptance) (id : ℕ) → AllByRecursion (λ (a : Acceptance). a.id ≢ id) accepted → named accepted id ≡ None
+named_none [] id h = refl
+named_none (a ∷ accepted) id h = rw (ne_eqb a.id id h.0) (named_none accepted id h.1)
+
+-- each acceptance is found by its id
+pub named_itself : (k : ℕ) (accepted : List Acceptance) → Rises k accepted → AllByRecursion (λ a. named accepted a.id ≡ Some a) accepted
+named_itself k [] r = tt
+named_itself k (a ∷ accepted) r =
+    (rw (eq-eqb a.id a.id refl), behind accepted (Rises-above (a.id + 1) accepted r.1) (named_itself (a.id + 1) accepted r.1))
+  where
+    behind : (some : List Acceptance) → AllByRecursion (λ b. a.id + 1 ≤ b.id) some → AllByRecursion (λ b. named accepted b.id ≡ Some b) some → AllByRecursion (λ b. named (a ∷ accepted) b.id ≡ Some b) some
+    behind [] h e = tt
+    behind (b ∷ some) h e = let low = h.0 in (rw (ne_eqb a.id b.id (λ s. omega arith)) e.0, behind some h.1 e.1)
+
+-- each number that an id has is found
+pub named_within : (k n : ℕ) (accepted : List Acceptance) (id : ℕ) → map id_of accepted ≡ range_with_len k n → k ≤ id → id < k + n → (a : Acceptance) × (named accepted id ≡ Some a)
+named_within k zero accepted id e low high = absurd (omega arith)
+named_within k (suc n) [] id e low high = absurd cc
+named_within k (suc n) (a ∷ accepted) id e low high =
+    let head : a.id ≡ k = cc in
+    let tail : map id_of accepted ≡ range_with_len (k + 1) n = cc in
+    elim (cases_eq a.id id) [
+      | inl same ↦ (a, rw (eq-eqb a.id id same))
+      | inr other ↦
+          let found = named_within (k + 1) n accepted id tail (omega arith) (omega arith) in
+          (found.0, rw (ne_eqb a.id id other) found.1)
+    ]
+
+-- the test of an acceptance that its id finds
+pub passes_at : (test : Acceptance → Bool) (accepted : List Acceptance) (id : ℕ) (a : Acceptance) → named accepted id ≡ Some a → passes test accepted id ≡ test a
+passes_at test accepted id a e = rw e
+
+-- more acceptances leave the test of a known id
+pub passes-append : (test : Acceptance → Bool) (accepted more : List Acceptance) (id : ℕ) (a : Acceptance) → named accepted id ≡ Some a → passes test (accepted ++ more) id ≡ passes test accepted id
+passes-append test accepted more id a e = rw (e, find-append (λ b. eqb b.id id) accepted more a e)
+
+-- whether an id is among those and one more
+pub is_among_push : (ids : List ℕ) (id other : ℕ) → other ≢ id → is_among (ids ++ other ∷ []) id ≡ is_among ids id
+is_among_push [] id other ne = rw (ne_eqb other id ne)
+is_among_push (x ∷ ids) id other ne = rw (is_among_push ids id other ne)
+
+pub is_among_last : (ids : List ℕ) (id : ℕ) → is_among (ids ++ id ∷ []) id ≡ true
+is_among_last [] id = rw (eq-eqb id id refl)
+is_among_last (x ∷ ids) id =
+    elim (cases_Bool (eqb x id)) [
+      | inl t ↦ rw t
+      | inr t ↦ rw t (is_among_last ids id)
+    ]
+
+-- an id that differs from each is not among them
+pub is_among_none : (ids : List ℕ) (id : ℕ) → AllByRecursion (λ x. x ≢ id) ids → is_among ids id ≡ false
+is_among_none [] id h = refl
+is_among_none (x ∷ ids) id h = rw (ne_eqb x id h.0) (is_among_none ids id h.1)
+
+pub differs_from_each : (ids : List ℕ) (id : ℕ) → is_among ids id ≡ false → AllByRecursion (λ x. id ≢ x) ids
+differs_from_each [] id e = tt
+differs_from_each (x ∷ ids) id e =
+    let parts = or_parts (eqb x id) (is_among ids id) e in
+    (λ s. eqb-false x id parts.0 (sym s), differs_from_each ids id parts.1)
+
+-- a filter that passes the id leaves whether it is among them
+pub is_among-filter : (q : ℕ → Bool) (ids : List ℕ) (id : ℕ) → q id ≡ true → is_among (filter q ids) id ≡ is_among ids id
+is_among-filter q [] id t = refl
+is_among-filter q (x ∷ ids) id t =
+    let ih = is_among-filter q ids id t in
+    elim (cases_Bool (q x)) [
+      | inl u ↦ rw (u, ih)
+      | inr u ↦ rw u (ih ∙ sym (rw (ne_eqb x id (λ s. false≢true (sym u ∙ ap q s ∙ t)))))
+    ]
+
+-- an acceptance of the list is among its ids
+pub is_among_itself : (accepted : List Acceptance) → AllByRecursion (λ a. is_among (map id_of accepted) a.id ≡ true) accepted
+is_among_itself [] = tt
+is_among_itself (a ∷ accepted) = (rw (eq-eqb a.id a.id refl), behind accepted (is_among_itself accepted))
+  where
+    behind : (some : List Acceptance) → AllByRecursion (λ b. is_among (map id_of accepted) b.id ≡ true) some → AllByRecursion (λ b. is_among (map id_of (a ∷ accepted)) b.id ≡ true) some
+    behind [] h = tt
+    behind (b ∷ some) h =
+        (elim (cases_Bool (eqb a.id b.id)) [ inl t ↦ rw t | inr t ↦ rw t h.0 ], behind some h.1)

@@ -1,0 +1,64 @@
+-- What waits is what has no fate: the numbers of packets and bytes in the queues are those of the journal.
+use Rattle.std.proofs.Common.{◌≡◌, ◌≢◌, ℕ, suc, ◌+◌, ◌<◌, ◌≤◌, Bool, true, false, not, List, [], ◌∷◌, map, filter, eqb, get_or, length, sum_by, refl, ap, ◌∙◌, inl, inr, arith}
+use Rattle.std.specs.List.{AllByRecursion}
+use Rattle.std.proofs.lemmas.Bool.{cases_Bool, cases_eq, eq-eqb, ne_eqb}
+use Rattle.std.proofs.lemmas.List.Sums.{sum_by-cons}
+use Rattle.packet_core.specs.declared.packet.Waiting.{Waiting}
+use Rattle.journal_core.specs.Happened.{Acceptance, waiting_of}
+use Rattle.journal_core.proofs.ListLemmas.{ByRecursion-both, ByRecursion-filter, ByRecursion-passes, ByRecursion-weaker, ByRecursion-all, filter_within}
+
+-- the elements that pass and those that don't
+sum_by_parts : {X : Type 0} (f : X → ℕ) (p : X → Bool) (xs : List X) → sum_by f xs ≡ sum_by f (filter p xs) + sum_by f (filter (λ x. not (p x)) xs)
+sum_by_parts f p [] = refl
+sum_by_parts f p (x ∷ xs) =
+    let ih = sum_by_parts f p xs in
+    let whole = sum_by-cons f x xs in
+    elim (cases_Bool (p x)) [
+      | inl t ↦ let one = sum_by-cons f x (filter p xs) in rw t (omega arith)
+      | inr t ↦ let one = sum_by-cons f x (filter (λ x. not (p x)) xs) in rw t (omega arith)
+    ]
+
+sum_by-map : {X Y : Type 0} (f : X → Y) (h : Y → ℕ) (xs : List X) → sum_by h (map f xs) ≡ sum_by (λ x. h (f x)) xs
+sum_by-map f h [] = refl
+sum_by-map f h (x ∷ xs) = let ih = sum_by-map f h xs in let one = sum_by-cons h (f x) (map f xs) in let two = sum_by-cons (λ x. h (f x)) x xs in omega arith
+
+-- the acceptances into that flow
+abbrev into : ℕ → Acceptance → Bool
+into flow a = eqb a.flow flow
+
+module _ (h : Waiting → ℕ) where
+  not_into : (k : ℕ) (a : Acceptance) → not (into k a) ≡ true → a.flow ≢ k
+  not_into k a out same = let e : false ≡ true = rw (eq-eqb a.flow k same) at out in cc
+
+  -- Queues of flows from k on that hold the packets of these acceptances hold as much as they all.
+  pub by_queues : (k : ℕ) (queues : List (List Waiting)) (accepted : List Acceptance)
+      → ((i : ℕ) → i < length queues → get_or queues i [] ≡ map waiting_of (filter (into (k + i)) accepted))
+      → AllByRecursion (λ a. (k ≤ a.flow) × (a.flow < k + length queues)) accepted
+      → sum_by (λ q. sum_by h q) queues ≡ sum_by (λ a. h (waiting_of a)) accepted
+  by_queues k [] [] hold among = refl
+  by_queues k [] (a ∷ accepted) hold among = let b = among.0 in absurd (omega arith)
+  by_queues k (q ∷ queues) accepted hold among =
+      let here : q ≡ map waiting_of (filter (into (k + 0)) accepted) = hold 0 (omega arith) in
+      let k_is : k + 0 ≡ k = omega arith in
+      let others = filter (λ a. not (into k a)) accepted in
+      let hold' : (i : ℕ) → i < length queues → get_or queues i [] ≡ map waiting_of (filter (into (suc k + i)) others) = λ i below. hold (suc i) (omega arith) ∙ ap (λ n. map waiting_of (filter (into n) accepted)) (let e : k + suc i ≡ suc k + i = omega arith in e) ∙ ap (λ l. map waiting_of l) (behind i) in
+      let among' : AllByRecursion (λ a. (suc k ≤ a.flow) × (a.flow < suc k + length queues)) others =
+      ByRecursion-weaker (λ a. ((k ≤ a.flow) × (a.flow < k + length (q ∷ queues))) × (not (into k a) ≡ true)) (λ a. (suc k ≤ a.flow) × (a.flow < suc k + length queues)) others
+      (λ a b. let differs = not_into k a b.1 in let low = b.0.0 in let high = b.0.1 in omega arith)
+      (ByRecursion-both (λ a. (k ≤ a.flow) × (a.flow < k + length (q ∷ queues))) (λ a. not (into k a) ≡ true) others
+      (ByRecursion-filter (λ a. (k ≤ a.flow) × (a.flow < k + length (q ∷ queues))) (λ a. not (into k a)) accepted among) (ByRecursion-passes (λ a. not (into k a)) accepted)) in
+      let rest = by_queues (suc k) queues others hold' among' in
+      let first : sum_by h q ≡ sum_by (λ a. h (waiting_of a)) (filter (into k) accepted) = ap (sum_by h) here ∙ sum_by-map waiting_of h (filter (into (k + 0)) accepted) ∙ ap (λ n. sum_by (λ a. h (waiting_of a)) (filter (into n) accepted)) k_is in
+      let parts = sum_by_parts (λ a. h (waiting_of a)) (into k) accepted in
+      let whole = sum_by-cons (λ q. sum_by h q) q queues in
+      omega arith
+    where
+      implies : (i : ℕ) (a : Acceptance) → into (suc k + i) a ≡ true → not (into k a) ≡ true
+      implies i a is =
+          elim (cases_eq a.flow (suc k + i)) [
+            | inl e ↦ rw (ne_eqb a.flow k (λ s. absurd (omega arith))) refl
+            | inr differs ↦ let f : false ≡ true = rw (ne_eqb a.flow (suc k + i) differs) at is in absurd cc
+          ]
+
+      behind : (i : ℕ) → filter (into (suc k + i)) accepted ≡ filter (into (suc k + i)) (filter (λ a. not (into k a)) accepted)
+      behind i = filter_within (into (suc k + i)) (λ a. not (into k a)) accepted (ByRecursion-all (λ a. into (suc k + i) a ≡ true → not (into k a) ≡ true) accepted (implies i))

@@ -1,0 +1,67 @@
+use Rattle.std.specs.Prelude.{ℕ, ◌+◌, ◌*◌, ◌-◌, ◌≤◌, List, [], ◌∷◌, ◌++◌}
+use Rattle.codel_core.specs.declared.served.Mark.{Mark}
+use Rattle.codel_core.specs.declared.served.Mark.TheVariants.{NoMark, CodelMark}
+use Rattle.packet_core.specs.declared.packet.Waiting.{Waiting}
+use Rattle.journal_core.specs.declared.event.Cause.{Cause}
+use Rattle.journal_core.specs.declared.event.Cause.TheVariants.{Codel, Overflow}
+use Rattle.journal_core.specs.declared.event.Event.{Event}
+use Rattle.journal_core.specs.declared.journal.Counts.{Counts}
+
+-- the journal as the scheduler sees it: the events, the counts that run along, and how many events more take no memory
+pub record Book : Type 0 where
+  pub events : List Event
+  pub counts : Counts
+  pub room : ℕ
+
+abbrev pub no_counts : Counts
+no_counts = record { accepted = 0; accepted_bytes = 0; sent = 0; sent_bytes = 0; dropped_codel = 0; dropped_overflow = 0; dropped_bytes = 0; marked = 0 }
+
+-- one event more, and these counts
+abbrev pub with_event : Book → Event → Counts → Book
+with_event book event counts = record { events = book.events ++ event ∷ []; counts = counts; room = book.room - 1 }
+
+-- one packet of that length accepted
+abbrev pub count_accepted : Counts → ℕ → Counts
+count_accepted c len = record c { accepted = c.accepted + 1; accepted_bytes = c.accepted_bytes + len }
+
+-- how many marks that is
+abbrev pub marks_of : Mark → ℕ
+marks_of NoMark = 0
+marks_of CodelMark = 1
+
+-- one sent
+abbrev pub count_sent : Counts → ℕ → Mark → Counts
+count_sent c len mark = record c { sent = c.sent + 1; sent_bytes = c.sent_bytes + len; marked = c.marked + marks_of mark }
+
+-- how many drops by CoDel that is, and how many by overflow
+abbrev pub codel_drops_of : Cause → ℕ
+codel_drops_of Codel = 1
+codel_drops_of Overflow = 0
+
+abbrev pub overflow_drops_of : Cause → ℕ
+overflow_drops_of Codel = 0
+overflow_drops_of Overflow = 1
+
+-- one dropped
+abbrev pub count_dropped : Counts → ℕ → Cause → Counts
+count_dropped c len cause = record c {
+  dropped_codel = c.dropped_codel + codel_drops_of cause;
+  dropped_overflow = c.dropped_overflow + overflow_drops_of cause;
+  dropped_bytes = c.dropped_bytes + len;
+}
+
+-- those dropped, one after another
+abbrev pub count_drops : Cause → Counts → List Waiting → Counts
+count_drops why c [] = c
+count_drops why c (w ∷ ws) = count_drops why (count_dropped c w.packet.len why) ws
+
+-- No count is above the number of events, and no sum of lengths above what so many packets can have.
+pub record IsCounted (c : Counts) (n : ℕ) : Type 0 where
+  pub accepted : c.accepted ≤ n
+  pub accepted_bytes : c.accepted_bytes ≤ 65535 * n
+  pub sent : c.sent ≤ n
+  pub sent_bytes : c.sent_bytes ≤ 65535 * n
+  pub dropped_codel : c.dropped_codel ≤ n
+  pub dropped_overflow : c.dropped_overflow ≤ n
+  pub dropped_bytes : c.dropped_bytes ≤ 65535 * n
+  pub marked : c.marked ≤ n

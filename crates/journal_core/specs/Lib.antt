@@ -1,0 +1,13 @@
+pub mod State
+pub mod Disciplines
+pub mod Steps
+pub mod Runs
+pub mod Happened
+pub mod JournalLaws
+pub mod Statistics
+pub mod TupleRows
+pub mod Tallies
+pub mod Books
+pub mod JournalDrops
+pub mod Calls
+pub mod History

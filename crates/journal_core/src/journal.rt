@@ -1,0 +1,172 @@
+//! The events so far, with the counts that run along.
+
+ghost use Rattle.std.specs.Prelude.{◌≡◌, ◌+◌, ◌*◌, ◌-◌, ◌^◌, ◌<◌, ◌≤◌, [], IfOk, OnOk, OnErr, length};
+
+use crate::event::{Cause, Event};
+use crate::step::Memory;
+use codel_core::{Mark, Served};
+use packet_core::Waiting;
+use std::alloc::Global;
+use std::marker::Model;
+
+/// The most events that a journal holds. 2^40 packets have at most two each, there is one close, and room may be
+/// reserved for as many packets more.
+pub const MAX_EVENTS: usize = 1 << 43;
+
+/// Numbers of events and sums of lengths, in bytes, that run along with the journal.
+#[derive(Clone, Copy, Debug, PartialEq, Eq)]
+pub struct Counts {
+    /// Packets accepted.
+    pub accepted: u64,
+    /// The sum of their lengths.
+    pub accepted_bytes: u64,
+    /// Packets sent.
+    pub sent: u64,
+    /// The sum of their lengths.
+    pub sent_bytes: u64,
+    /// Packets that CoDel dropped.
+    pub dropped_codel: u64,
+    /// Packets that overflowed.
+    pub dropped_overflow: u64,
+    /// The sum of the lengths of all dropped packets.
+    pub dropped_bytes: u64,
+    /// Packets sent with a mark of CoDel's.
+    pub marked: u64,
+}
+
+/// The events so far. Room for more is taken ahead, so that to record one takes no memory.
+#[derive(Debug, Drop)]
+pub struct Journal {
+    events: Vec<Event>,
+    counts: Counts,
+}
+
+impl Model for Journal {
+    ghost use Rattle.std.specs.Prelude.{◌≡◌, ◌-◌, ◌≤◌, min, vec_len, vec_capacity};
+    ghost use Rattle.journal_core.specs.Books.{Book, IsCounted};
+    ghost use Rattle.journal_core.specs.declared.journal.TheConstants.{MAX_EVENTS};
+
+    ghost Value = { Book };
+
+    ghost view = { λ j. record { events = j.events.items; counts = j.counts; room = min (vec_capacity j.events) MAX_EVENTS - vec_len j.events } };
+
+    ghost invariant = { λ j. IsCounted j.counts (vec_len j.events) × (vec_len j.events ≤ MAX_EVENTS) };
+}
+
+impl Journal {
+    ghost use Rattle.packet_core.specs.Packets.{IsLengthInRange};
+    ghost use Rattle.journal_core.specs.Books.{no_counts, with_event, count_accepted, count_sent, count_dropped};
+    ghost use Rattle.journal_core.specs.declared.event.Event.TheVariants.{Accepted, Closed};
+    ghost use Rattle.journal_core.specs.declared.event.Event.TheVariants as event;
+
+    /// A journal with no event, and room for `room` of them.
+    pub fn try_new(alloc: Global, room: usize) -> Result<Journal, Memory>
+        requires { room ≤ MAX_EVENTS }
+        ensures { IfOk result (λ j. (j.events ≡ []) × (j.counts ≡ no_counts) × (room ≤ j.room)) }
+    {
+        Ok(Journal {
+            events: Vec::with_capacity(alloc, room)?,
+            counts: Counts {
+                accepted: 0,
+                accepted_bytes: 0,
+                sent: 0,
+                sent_bytes: 0,
+                dropped_codel: 0,
+                dropped_overflow: 0,
+                dropped_bytes: 0,
+                marked: 0,
+            },
+        })
+    }
+
+    /// Takes room for `room` events more.
+    pub fn reserve(&mut self, room: usize) -> Result<(), Memory>
+        requires { length self.old.events + room ≤ MAX_EVENTS }
+        ensures events { self.new.events ≡ self.old.events }
+        ensures counts { self.new.counts ≡ self.old.counts }
+        ensures room { self.old.room ≤ self.new.room }
+        ensures ok { OnOk result (room ≤ self.new.room) }
+        ensures err { OnErr result (self.new ≡ self.old) }
+    {
+        self.events.reserve(room)
+    }
+
+    /// The events so far, in order.
+    pub fn events(&self) -> &[Event]
+        ensures { result.now ≡ self.now.events }
+    {
+        &self.events
+    }
+
+    /// Where its memory comes from.
+    pub fn allocator(&self) -> Global {
+        *self.events.allocator()
+    }
+
+    /// The counts that run along.
+    pub fn counts(&self) -> Counts
+        ensures { result ≡ self.now.counts }
+    {
+        self.counts
+    }
+
+    /// A packet was accepted.
+    pub fn accept(&mut self, waiting: &Waiting, lane: u32, flow: u32)
+        requires { 0 < self.old.room }
+        ensures { self.new ≡ with_event self.old (Accepted waiting.now.id waiting.now.stamp lane flow waiting.now.packet) (count_accepted self.old.counts waiting.now.packet.len) }
+    {
+        self.counts.accepted += 1;
+        self.counts.accepted_bytes += u64::from(waiting.packet.len());
+        self.events.push_reserved(Event::Accepted {
+            id: waiting.id,
+            moment: waiting.stamp,
+            lane,
+            flow,
+            packet: waiting.packet,
+        });
+    }
+
+    /// A packet was given to the device, with that ECN field.
+    pub fn send(&mut self, served: &Served, moment: u64)
+        requires { 0 < self.old.room }
+        ensures { self.new ≡ with_event self.old (event.Sent served.now.waiting.id moment served.now.waiting.packet.ecn served.now.mark) (count_sent self.old.counts served.now.waiting.packet.len served.now.mark) }
+    {
+        self.counts.sent += 1;
+        self.counts.sent_bytes += u64::from(served.waiting.packet.len());
+        match served.mark {
+            Mark::NoMark => {}
+            Mark::CodelMark => self.counts.marked += 1,
+        }
+        self.events.push_reserved(Event::Sent {
+            id: served.waiting.id,
+            moment,
+            ecn: served.waiting.packet.ecn(),
+            mark: served.mark,
+        });
+    }
+
+    /// A packet was dropped.
+    pub fn drop(&mut self, waiting: &Waiting, moment: u64, cause: Cause)
+        requires { 0 < self.old.room }
+        ensures { self.new ≡ with_event self.old (event.Dropped waiting.now.id moment cause) (count_dropped self.old.counts waiting.now.packet.len cause) }
+    {
+        match cause {
+            Cause::Codel => self.counts.dropped_codel += 1,
+            Cause::Overflow => self.counts.dropped_overflow += 1,
+        }
+        self.counts.dropped_bytes += u64::from(waiting.packet.len());
+        self.events.push_reserved(Event::Dropped {
+            id: waiting.id,
+            moment,
+            cause,
+        });
+    }
+
+    /// There was a close.
+    pub fn close(&mut self, moment: u64)
+        requires { 0 < self.old.room }
+        ensures { self.new ≡ with_event self.old (Closed moment) self.old.counts }
+    {
+        self.events.push_reserved(Event::Closed { moment });
+    }
+}

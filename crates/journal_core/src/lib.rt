@@ -1,0 +1,21 @@
+//! What a packet scheduler is asked, what it answers, and the journal of what became of every packet: with its laws,
+//! its statistics and its rows by five-tuple. They hold of every scheduler that drops from the heads of queues, and
+//! nothing here knows of flows that take turns or of CoDel's state.
+#![tactic(auto)]
+
+mod event;
+mod fates;
+mod journal;
+mod outcome;
+mod step;
+mod totals;
+mod tuple_rows;
+
+pub use codel_core::Mark;
+pub use event::{Cause, Event};
+pub use fates::Fates;
+pub use journal::{Counts, Journal, MAX_EVENTS};
+pub use outcome::{Answer, Outcome};
+pub use step::{Admitted, CloseFault, Memory, MomentFault, Refusal, Sent, Step};
+pub use totals::Totals;
+pub use tuple_rows::{TupleRow, gather_rows};

@@ -1,0 +1,9 @@
+pub mod Examples
+pub mod ExamplesVerdict
+pub mod ExamplesComputed
+pub mod ExamplesRun
+pub mod FairExamples
+pub mod OverflowExamples
+pub mod ExamplesSpacing
+pub mod CodelExamples
+pub mod GiantExamples
