@@ -65,8 +65,7 @@ struct Page {
 }
 
 impl Sink for Page {
-    ghost use Rattle.std.specs.Prelude.{sym};
-    ghost use Rattle.std.proofs.Common.{◌∙◌, ap, append_assoc};
+    ghost use Rattle.std.proofs.Common.{◌∙◌, ap, append_assoc, sym};
     ghost use Rattle.std.proofs.lemmas.List.{append-nil};
 
     ghost Wrote = { λ a text b. b.bytes.items ≡ a.bytes.items ++ text };
