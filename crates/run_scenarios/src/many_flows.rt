@@ -1,4 +1,4 @@
-use crate::schedulers::one_flow;
+use crate::packets::one_flow;
 use packet_core::{ParamFields, Params, Seed};
 use std::alloc::{AllocError, Global};
 use std::str;

@@ -1,4 +1,4 @@
-use crate::schedulers::{PORT, accepted, four_flows, one_flow, packet, sent};
+use crate::packets::{PORT, accepted, four_flows, one_flow, packet, sent};
 use codel_core::CodelState;
 use packet_core::{Ecn, ParamFields, Params, Seed};
 use sched_core::{

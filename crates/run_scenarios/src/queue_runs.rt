@@ -1,7 +1,7 @@
+use crate::packets::{accepted, dropped, four_flows, one_flow};
 use crate::runs::{
     expect_events, expect_flow, expect_outcomes, expect_run, in_time, outcome, run_front,
 };
-use crate::schedulers::{accepted, dropped, four_flows, one_flow};
 use codel_core::CodelState;
 use packet_core::{Ecn, EcnUse};
 use sched_core::{Answer, Cause, Event, FlowView, Mark};

@@ -1,5 +1,5 @@
+use crate::packets::{four_flows, one_flow};
 use crate::runs::{expect_flow, expect_outcomes, expect_run, in_time, outcome, run_front};
-use crate::schedulers::{four_flows, one_flow};
 use packet_core::ParamFields;
 use sched_core::Answer;
 use std::test::Fail;
