@@ -1,4 +1,5 @@
 mod Examples
+mod HashedBytesExample
 pub mod Numbers
 mod Ranges
 pub mod Reading

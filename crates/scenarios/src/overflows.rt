@@ -1,8 +1,9 @@
 use crate::schedulers::{
     PORT, accepted, arrive, dropped, expect_events, expect_idle, expect_sent, four_flows, one_flow,
-    scheduler,
+    packet, scheduler,
 };
-use sched_core::{Cause, Sched};
+use packet_core::Ecn;
+use sched_core::{Answer, Cause, MomentFault, Refusal, Sched, Step};
 use std::process::Abort;
 use std::test::Fail;
 
@@ -91,5 +92,43 @@ fn two_comparisons_at_most_for_each_event(rt: HostRuntime) -> Result<(), Fail> {
     expect_comparisons(&rt, &sched, 1, 2);
     expect_idle(&rt, &mut sched, 0)?;
     expect_comparisons(&rt, &sched, 0, 0);
+    Ok(())
+}
+
+/// A step that enqueues a packet of 100 bytes to that destination port.
+fn enqueue(moment: u64, dport: u16) -> Result<Step, Fail> {
+    Ok(Step::Enqueue {
+        moment,
+        lane: 0,
+        packet: packet(dport, 100, Ecn::NotEct)?,
+    })
+}
+
+#[test]
+fn turns_and_comparisons_behind_a_step_of_any_kind(rt: HostRuntime) -> Result<(), Fail> {
+    let mut fields = four_flows();
+    fields.limit = 1;
+    let mut sched = scheduler(&rt, fields)?;
+    let backwards = Answer::Refused(Refusal::Moment(MomentFault::Backwards { last: 2 }));
+    let closed = Answer::Refused(Refusal::ClosedAlready);
+    // The second packet's arrival drops the first one. So the dequeue looks at a flow without packets, then sends.
+    let steps = [
+        (enqueue(1, 1)?, Answer::Accepted, 0, 1, 2),
+        (enqueue(1, 2)?, Answer::Accepted, 0, 2, 4),
+        (Step::Dequeue { moment: 2 }, Answer::Sent, 2, 1, 2),
+        (Step::Dequeue { moment: 1 }, backwards, 2, 1, 2),
+        (Step::Close { moment: 3 }, Answer::Closed, 2, 0, 0),
+        (enqueue(3, 1)?, closed, 2, 0, 0),
+    ];
+    for (step, answer, turns, least, most) in steps {
+        let before = sched.comparisons();
+        assert_eq!(rt; sched.make(&step)?, answer);
+        assert_eq!(rt; sched.turns(), turns);
+        expect_comparisons(&rt, &sched, least, most);
+        // A refused step leaves the number of the step before it.
+        if matches!(answer, Answer::Refused(_)) {
+            assert_eq!(rt; sched.comparisons(), before);
+        }
+    }
     Ok(())
 }

@@ -1,6 +1,6 @@
 use crate::schedulers::{PORT, arrive, four_flows, one_flow, packet, scheduler};
-use packet_core::{Ecn, FiveTuple, Packet};
-use sched_core::{Sched, TupleRow};
+use packet_core::{Ecn, FiveTuple, Packet, Params, Seed};
+use sched_core::{Engine, Sched, TupleRow};
 use std::process::Abort;
 use std::test::Fail;
 
@@ -100,4 +100,32 @@ fn overflow_drops_in_a_row(rt: HostRuntime) -> Result<(), Fail> {
         queued: 2,
     };
     expect_rows(&rt, &sched, &[fattest, other])
+}
+
+#[test]
+fn rows_of_an_engine(rt: HostRuntime) -> Result<(), Fail> {
+    let params = Params::try_new(four_flows())?;
+    let mut engine = Engine::try_new(rt.alloc(), params, Seed([0; 16]))?;
+    for (moment, dport) in [(0, 3), (1, 2), (2, 3)] {
+        engine.enqueue(moment, 0, packet(dport, 1_000, Ecn::NotEct)?)?;
+    }
+    engine.dequeue(3)?;
+    let first = TupleRow {
+        tuple: tuple(5000, 3)?,
+        flow: 3,
+        accepted: 2,
+        sent: 1,
+        dropped: 0,
+        queued: 1,
+    };
+    let second = TupleRow {
+        tuple: tuple(5000, 2)?,
+        flow: 2,
+        accepted: 1,
+        sent: 0,
+        dropped: 0,
+        queued: 1,
+    };
+    assert_eq!(rt; engine.tuple_rows()?.as_slice(), [first, second].as_slice());
+    Ok(())
 }

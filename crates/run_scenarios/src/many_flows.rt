@@ -1,0 +1,69 @@
+use crate::packets::one_flow;
+use packet_core::{ParamFields, Params, Seed};
+use std::alloc::{AllocError, Global};
+use std::str;
+use std::test::Fail;
+use trace_core::run;
+
+/// The most flows that there may be.
+const FLOWS: u32 = 65_536;
+
+/// The length of a packet, and that of all packets, in bytes.
+const LENGTH: u32 = 100;
+
+const BYTES: u32 = FLOWS * LENGTH;
+
+/// The greatest limit and the greatest number of flows.
+fn greatest() -> ParamFields {
+    let mut fields = one_flow();
+    fields.limit = 1_048_576;
+    fields.flows = FLOWS;
+    fields
+}
+
+/// A packet for each flow, then a dequeue for each packet, and one more.
+fn trace_of_flows(alloc: Global) -> Result<String, AllocError> {
+    let mut trace = String::new(alloc);
+    for dport in 0..FLOWS {
+        writeln!(trace, "enq,0,17,10.0.0.1,10.0.0.2,5000,{dport},{LENGTH},0")?;
+    }
+    for _ in 0..=FLOWS {
+        trace.push_str("deq,1\n")?;
+    }
+    Ok(trace)
+}
+
+/// What the run of that trace gives: the packets are sent in the order in which they came.
+fn report_of_flows(alloc: Global) -> Result<String, AllocError> {
+    let mut report = String::new(alloc);
+    for id in 0..FLOWS {
+        writeln!(report, "accepted,{id},{id}")?;
+    }
+    for id in 0..FLOWS {
+        writeln!(report, "sent,{id},0")?;
+    }
+    writeln!(report, "idle")?;
+    writeln!(
+        report,
+        "totals,{FLOWS},{BYTES},{FLOWS},{BYTES},0,0,0,0,0,0,open"
+    )?;
+    for flow in 0..FLOWS {
+        writeln!(
+            report,
+            "tuple,17,10.0.0.1,10.0.0.2,5000,{flow},{flow},1,1,0,0"
+        )?;
+    }
+    Ok(report)
+}
+
+#[test]
+fn many_flows_take_turns(rt: HostRuntime) -> Result<(), Fail> {
+    let params = Params::try_new(greatest())?;
+    let trace = trace_of_flows(rt.alloc())?;
+    let report = report_of_flows(rt.alloc())?;
+    let mut written = Vec::new(rt.alloc());
+    let mut reader = trace.as_bytes();
+    run(rt.alloc(), &mut reader, &mut written, params, Seed([0; 16]))?;
+    assert!(rt; str::from_utf8(&written)? == report.as_str());
+    Ok(())
+}
