@@ -88,6 +88,28 @@ fn help_on_the_formats(rt: HostRuntime) -> Result<(), Fail> {
 }
 
 #[test]
+fn help_on_the_faults(rt: HostRuntime) -> Result<(), Fail> {
+    let texts = [
+        "\nFaults of a parameter word, ",
+        "\n  UnknownWord   ",
+        "\n  MissingValue   ",
+        "\n  NotANumber   ",
+        "\n  OutOfRange   ",
+        "\nFaults of the trace, ",
+        "\n  BadKind   ",
+        "\n  BadFieldCount   ",
+        "\n  BadNumber   ",
+        "\n  BadAddress   ",
+        "\n  LengthOutOfRange   ",
+        "\n  BadEcn   ",
+        "\n  TooLarge   ",
+        "\n  Read   ",
+        "\n  Memory   ",
+    ];
+    expect_help(&rt, &["trace", "--help"], &texts)
+}
+
+#[test]
 fn failed_writes_of_help_refused(rt: HostRuntime) -> Result<(), Fail> {
     let mut taken = [0; 5];
     let mut told = Vec::new(rt.alloc());
