@@ -127,8 +127,10 @@ impl<T: Drop> From<AllocFailed<T>> for ProgramFault {
 
 /// Why the words can't be had.
 impl From<io::Error> for ProgramFault {
-    ghost from_gives = { λ error e. (error_kind error ≡ ErrorKind.OutOfMemory → e ≡ program_fault.Memory)
-        × (error_kind error ≢ ErrorKind.OutOfMemory → e ≡ program_fault.NotUtf8) };
+    ghost use Rattle.std.specs.declared.io.ErrorKind.TheVariants.{OutOfMemory};
+
+    ghost from_gives = { λ error e. (error_kind error ≡ OutOfMemory → e ≡ program_fault.Memory)
+        × (error_kind error ≢ OutOfMemory → e ≡ program_fault.NotUtf8) };
 
     fn from(error: io::Error) -> ProgramFault {
         match error.kind() {
