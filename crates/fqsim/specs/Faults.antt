@@ -35,12 +35,14 @@ status_of program_fault.Write = 1
 -- writer came from what it held to what it holds. The seed is looked at first, then the parameters, then the input.
 -- With a failed write it holds a front of the report more, and with any other fault what it held. That memory was
 -- wanting can't be said.
-abbrev pub IsRunFault : Option (List ℕ) → List (List ℕ) → Option (List ℕ) → Option (List ℕ) → Option (List ℕ) → ProgramFault → Type 0
+abbrev pub IsRunFault : Option (List ℕ) → List (List ℕ) → Option (List ℕ) → Option (List ℕ) → Option (List ℕ)
+    → ProgramFault → Type 0
 IsRunFault seed words input old new program_fault.Seed = (seed_given seed ≡ None) × Keeps old new
 IsRunFault seed words input old new (program_fault.Params fault) =
     (seed_given seed ≢ None) × (params_of_words words ≡ Err fault) × Keeps old new
 IsRunFault seed words input old new (program_fault.Trace fault) =
-    (seed_given seed ≢ None) × IsOk (params_of_words words) × IfSome input (λ bytes. IsFaultOf bytes fault) × Keeps old new
+    (seed_given seed ≢ None) × IsOk (params_of_words words) × IfSome input (λ bytes. IsFaultOf bytes fault)
+    × Keeps old new
 IsRunFault seed words input old new program_fault.Memory = Keeps old new
 IsRunFault seed words input old new program_fault.Write = BeginsReport seed words input old new
 IsRunFault seed words input old new (program_fault.CommandLine text) = ⊥

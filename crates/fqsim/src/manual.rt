@@ -128,7 +128,8 @@ Exit status:
      'fqsim: row ROW: Memory', 'fqsim: memory' or 'fqsim: write'. After a failed
      write standard output has the front of the text, else nothing.
   2  Something is wrong that was given, and nothing was written to standard
-     output. On standard error stands a text on the command line, 'fqsim: seed',
+     output. On standard error stands a text on the command line,
+     'fqsim: a word isn't UTF-8', 'fqsim: seed',
      'fqsim: parameter word PLACE: NAME' (places count the parameter words from
      1) or 'fqsim: row ROW: NAME' (rows count from 1).
 

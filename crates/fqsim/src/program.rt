@@ -152,7 +152,8 @@ pub fn program<R: Read, W: Write, F: Write>(
 ) -> u8
     // With the status 0 the writer holds what it held, and then the report of the input with the seed and the
     // parameters of the words, where these are those of a run. Else they ask for help, and a text is written.
-    ensures answer { result ≡ 0 → Answers (map (λ w. w.now) words.now) (R.remaining reader.old) (W.contents writer.old) (W.contents writer.new) }
+    ensures answer { result ≡ 0 → Answers (map (λ w. w.now) words.now) (R.remaining reader.old)
+        (W.contents writer.old) (W.contents writer.new) }
 
     // Any other status is that of a fault that these words and this input have, by which the writer came from what it
     // held to what it holds: a front of the report or of help where a write failed, and else what it held.
@@ -178,10 +179,12 @@ fn answer<R: Read, W: Write>(
     reader: &mut R,
     writer: &mut W,
 ) -> Result<(), ProgramFault>
-    ensures answer { OnOk result (Answers (map (λ w. w.now) words.now) (R.remaining reader.old) (W.contents writer.old) (W.contents writer.new)) }
+    ensures answer { OnOk result (Answers (map (λ w. w.now) words.now) (R.remaining reader.old)
+        (W.contents writer.old) (W.contents writer.new)) }
     ensures fault { IfErr result (IsFaultOn (map (λ w. w.now) words.now) (R.remaining reader.old)
         (W.contents writer.old) (W.contents writer.new)) }
-    ensures untouched { IfErr result (λ fault. (fault ≢ program_fault.Write) → Keeps (W.contents writer.old) (W.contents writer.new)) }
+    ensures untouched { IfErr result (λ fault. (fault ≢ program_fault.Write)
+        → Keeps (W.contents writer.old) (W.contents writer.new)) }
 {
     match parse(alloc, words)? {
         Request::Trace(trace) => simulate(alloc, trace.seed, &trace.parameters, reader, writer),
@@ -220,13 +223,19 @@ fn simulate<R: Read, W: Write>(
     reader: &mut R,
     writer: &mut W,
 ) -> Result<(), ProgramFault>
-    ensures report { OnOk result (IsRunFor (option_map (λ s. s.now) seed.entry) (map (λ w. w.now) parameters.now) (R.remaining reader.old) (λ text. Appends (W.contents writer.old) (W.contents writer.new) text)) }
+    ensures report { OnOk result (IsRunFor (option_map (λ s. s.now) seed.entry) (map (λ w. w.now) parameters.now)
+        (R.remaining reader.old) (λ text. Appends (W.contents writer.old) (W.contents writer.new) text)) }
     ensures seed { IsErrOf result program_fault.Seed ↔ (seed_given (option_map (λ s. s.now) seed.entry) ≡ None) }
-    ensures params { (fault : ParamFault) → IsErrOf result (program_fault.Params fault) ↔ (seed_given (option_map (λ s. s.now) seed.entry) ≢ None) × (params_of_words (map (λ w. w.now) parameters.now) ≡ Err fault) }
+    ensures params { (fault : ParamFault) → IsErrOf result (program_fault.Params fault)
+        ↔ (seed_given (option_map (λ s. s.now) seed.entry) ≢ None)
+        × (params_of_words (map (λ w. w.now) parameters.now) ≡ Err fault) }
     ensures fault { IfErr result (IsRunFault (option_map (λ s. s.now) seed.entry) (map (λ w. w.now) parameters.now)
         (R.remaining reader.old) (W.contents writer.old) (W.contents writer.new)) }
-    ensures front { result ≡ Err program_fault.Write → IsRunFor (option_map (λ s. s.now) seed.entry) (map (λ w. w.now) parameters.now) (R.remaining reader.old) (λ text. (count : ℕ) × Appends (W.contents writer.old) (W.contents writer.new) (take count text)) }
-    ensures untouched { IfErr result (λ fault. (fault ≢ program_fault.Write) → Keeps (W.contents writer.old) (W.contents writer.new)) }
+    ensures front { result ≡ Err program_fault.Write
+        → IsRunFor (option_map (λ s. s.now) seed.entry) (map (λ w. w.now) parameters.now) (R.remaining reader.old)
+        (λ text. (count : ℕ) × Appends (W.contents writer.old) (W.contents writer.new) (take count text)) }
+    ensures untouched { IfErr result (λ fault. (fault ≢ program_fault.Write)
+        → Keeps (W.contents writer.old) (W.contents writer.new)) }
 {
     let seed = seed_given(seed)?;
     let params = read_params(parameters)?;

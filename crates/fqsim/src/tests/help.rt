@@ -80,6 +80,7 @@ fn help_on_the_formats(rt: HostRuntime) -> Result<(), Fail> {
         "\n  totals,ACCEPTED,ACCEPTED_BYTES,SENT,SENT_BYTES,DROPPED_CODEL,\n      DROPPED_OVERFLOW,DROPPED_BYTES,MARKED,QUEUED,QUEUED_BYTES,STATE\n",
         "\n  tuple,PROTO,SRC,DST,SPORT,DPORT,FLOW,ACCEPTED,SENT,DROPPED,QUEUED\n",
         "\nExample:\n",
+        "'fqsim: a word isn't UTF-8'",
         "'fqsim: seed'",
         "'fqsim: parameter word PLACE: NAME'",
         "'fqsim: row ROW: NAME'",
