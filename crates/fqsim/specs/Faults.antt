@@ -1,5 +1,6 @@
 -- Why the program fails, and what status it ends with then.
-use Rattle.std.specs.Prelude.{◌≡◌, ◌≢◌, ℕ, List, IfSome, IsOk, Option, None, Err, ⊤}
+use Rattle.std.specs.Prelude.{◌≡◌, ◌≢◌, ℕ, List, IfSome, IsOk, Option, None, Err}
+use Rattle.std.specs.Io.KnownBytes.{Keeps}
 use Rattle.packet_core.specs.Words.{params_of_words}
 use Rattle.trace_core.specs.Traces.{IsFaultOf}
 use Rattle.trace_core.specs.declared.reader.TraceFaultKind.{TraceFaultKind}
@@ -7,6 +8,7 @@ use Rattle.trace_core.specs.declared.reader.TraceFaultKind.TheVariants as trace_
 use Rattle.trace_core.specs.declared.trace_run.RunFault.{RunFault}
 use Rattle.trace_core.specs.declared.trace_run.RunFault.TheVariants as run_fault
 use Rattle.fqsim.specs.CommandLine.{AsksForRun, IsMistake, parameter_words, seed_text}
+use Rattle.fqsim.specs.Runs.{Begins, BeginsReport}
 use Rattle.fqsim.specs.Seeds.{seed_given}
 use Rattle.fqsim.specs.declared.command_line.CommandFault.{CommandFault}
 use Rattle.fqsim.specs.declared.command_line.CommandFault.TheVariants as command_fault
@@ -29,29 +31,36 @@ status_of (program_fault.Trace fault) = trace_status fault.what
 status_of program_fault.Memory = 1
 status_of program_fault.Write = 1
 
--- The fault is one of a run of the input, with the seed of that text and the parameters of those words. The seed is
--- looked at first, then the parameters, then the input.
-abbrev pub IsRunFault : Option (List ℕ) → List (List ℕ) → Option (List ℕ) → ProgramFault → Type 0
-IsRunFault seed words input program_fault.Seed = seed_given seed ≡ None
-IsRunFault seed words input (program_fault.Params fault) = (seed_given seed ≢ None) × (params_of_words words ≡ Err fault)
-IsRunFault seed words input (program_fault.Trace fault) =
+-- The fault is one of a run of the input, with the seed of that text and the parameters of those words, by which the
+-- writer came from what it held to what it holds. The seed is looked at first, then the parameters, then the input.
+-- With a failed write it holds a front of the report more, and with any other fault what it held. That memory was
+-- wanting can't be said.
+abbrev pub IsRunFault : Option (List ℕ) → List (List ℕ) → Option (List ℕ) → Option (List ℕ) → Option (List ℕ)
+    → ProgramFault → Type 0
+IsRunFault seed words input old new program_fault.Seed = (seed_given seed ≡ None) × Keeps old new
+IsRunFault seed words input old new (program_fault.Params fault) =
+    (seed_given seed ≢ None) × (params_of_words words ≡ Err fault) × Keeps old new
+IsRunFault seed words input old new (program_fault.Trace fault) =
     (seed_given seed ≢ None) × IsOk (params_of_words words) × IfSome input (λ bytes. IsFaultOf bytes fault)
-IsRunFault seed words input program_fault.Memory = ⊤
-IsRunFault seed words input program_fault.Write = ⊤
-IsRunFault seed words input (program_fault.CommandLine text) = ⊥
-IsRunFault seed words input program_fault.NotUtf8 = ⊥
+    × Keeps old new
+IsRunFault seed words input old new program_fault.Memory = Keeps old new
+IsRunFault seed words input old new program_fault.Write = BeginsReport seed words input old new
+IsRunFault seed words input old new (program_fault.CommandLine text) = ⊥
+IsRunFault seed words input old new program_fault.NotUtf8 = ⊥
 
--- the fault is one of these words and this input
-abbrev pub IsFaultOn : List (List ℕ) → Option (List ℕ) → ProgramFault → Type 0
-IsFaultOn words input (program_fault.CommandLine text) = IsMistake words
-IsFaultOn words input program_fault.NotUtf8 = ⊥
-IsFaultOn words input program_fault.Seed = AsksForRun words × IsRunFault (seed_text words) (parameter_words words) input program_fault.Seed
-IsFaultOn words input (program_fault.Params fault) =
-    AsksForRun words × IsRunFault (seed_text words) (parameter_words words) input (program_fault.Params fault)
-IsFaultOn words input (program_fault.Trace fault) =
-    AsksForRun words × IsRunFault (seed_text words) (parameter_words words) input (program_fault.Trace fault)
-IsFaultOn words input program_fault.Memory = ⊤
-IsFaultOn words input program_fault.Write = ⊤
+-- The fault is one of these words and this input, by which the writer came from what it held to what it holds. Of
+-- the words nothing is said at want of memory, since `clap` may want it whatever they are.
+abbrev pub IsFaultOn : List (List ℕ) → Option (List ℕ) → Option (List ℕ) → Option (List ℕ) → ProgramFault → Type 0
+IsFaultOn words input old new (program_fault.CommandLine text) = IsMistake words × Keeps old new
+IsFaultOn words input old new program_fault.NotUtf8 = ⊥
+IsFaultOn words input old new program_fault.Seed =
+    AsksForRun words × IsRunFault (seed_text words) (parameter_words words) input old new program_fault.Seed
+IsFaultOn words input old new (program_fault.Params fault) =
+    AsksForRun words × IsRunFault (seed_text words) (parameter_words words) input old new (program_fault.Params fault)
+IsFaultOn words input old new (program_fault.Trace fault) =
+    AsksForRun words × IsRunFault (seed_text words) (parameter_words words) input old new (program_fault.Trace fault)
+IsFaultOn words input old new program_fault.Memory = Keeps old new
+IsFaultOn words input old new program_fault.Write = Begins words input old new
 
 -- the fault of the program for one of the command line
 abbrev pub command_fault_told : CommandFault → ProgramFault

@@ -1,5 +1,5 @@
 -- What the program answers to a command line.
-use Rattle.std.specs.Prelude.{◌≡◌, ◌⊎◌, ℕ, List, IfSome, Option, Some, Ok}
+use Rattle.std.specs.Prelude.{◌≡◌, ◌⊎◌, ℕ, List, IfSome, Option, Some, Ok, take}
 use Rattle.std.specs.Io.KnownBytes.{Appends}
 use Rattle.packet_core.specs.Words.{params_of_words}
 use Rattle.packet_core.specs.declared.flow.Seed.{Seed}
@@ -17,14 +17,31 @@ pub record IsRunFor (seed_text : Option (List ℕ)) (parameter_words : List (Lis
   pub params_read : params_of_words parameter_words ≡ Ok params
   pub report : IfSome input (λ bytes. (text : List ℕ) × IsReportOf params seed bytes text × Wrote text)
 
+-- The text of the seed and the parameter words are good, and a front of the report was written behind what was there.
+abbrev pub BeginsReport : Option (List ℕ) → List (List ℕ) → Option (List ℕ) → Option (List ℕ) → Option (List ℕ) → Type 0
+BeginsReport seed_text parameter_words input old new =
+    IsRunFor seed_text parameter_words input (λ text. (count : ℕ) × Appends old new (take count text))
+
 -- The words ask for a run, and its report was written behind what was there.
 abbrev pub AnswersRun : List (List ℕ) → Option (List ℕ) → Option (List ℕ) → Option (List ℕ) → Type 0
 AnswersRun words input old new = AsksForRun words × IsRunFor (seed_text words) (parameter_words words) input (λ text. Appends old new text)
+
+-- The words ask for a run, and a front of its report was written behind what was there.
+abbrev pub BeginsRun : List (List ℕ) → Option (List ℕ) → Option (List ℕ) → Option (List ℕ) → Type 0
+BeginsRun words input old new = AsksForRun words × BeginsReport (seed_text words) (parameter_words words) input old new
 
 -- The words ask for help, and a text was written behind what was there.
 abbrev pub AnswersHelp : List (List ℕ) → Option (List ℕ) → Option (List ℕ) → Type 0
 AnswersHelp words old new = AsksForHelp words × (text : List ℕ) × Appends old new text
 
+-- The words ask for help, and a front of a text was written behind what was there.
+abbrev pub BeginsHelp : List (List ℕ) → Option (List ℕ) → Option (List ℕ) → Type 0
+BeginsHelp words old new = AsksForHelp words × (text : List ℕ) × (count : ℕ) × Appends old new (take count text)
+
 -- what the program writes where nothing fails
 abbrev pub Answers : List (List ℕ) → Option (List ℕ) → Option (List ℕ) → Option (List ℕ) → Type 0
 Answers words input old new = AnswersRun words input old new ⊎ AnswersHelp words old new
+
+-- what the program has written where a write fails
+abbrev pub Begins : List (List ℕ) → Option (List ℕ) → Option (List ℕ) → Option (List ℕ) → Type 0
+Begins words input old new = BeginsRun words input old new ⊎ BeginsHelp words old new

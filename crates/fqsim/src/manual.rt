@@ -128,6 +128,28 @@ Exit status:
      'fqsim: row ROW: Memory', 'fqsim: memory' or 'fqsim: write'. After a failed
      write standard output has the front of the text, else nothing.
   2  Something is wrong that was given, and nothing was written to standard
-     output. On standard error stands a text on the command line, 'fqsim: seed',
+     output. On standard error stands a text on the command line,
+     'fqsim: a word isn't UTF-8', 'fqsim: seed',
      'fqsim: parameter word PLACE: NAME' (places count the parameter words from
-     1) or 'fqsim: row ROW: NAME' (rows count from 1).";
+     1) or 'fqsim: row ROW: NAME' (rows count from 1).
+
+Faults of a parameter word, at their place:
+
+  UnknownWord        the word names no parameter, or no way to classify
+  MissingValue       no word stands behind a parameter that wants a value
+  NotANumber         the value isn't written as a number or a time is
+  OutOfRange         the value is outside its range
+
+Faults of the trace, at their row:
+
+  BadKind            the first field isn't 'enq', 'deq' or 'close'
+  BadFieldCount      the row has another number of fields than its kind has
+  BadNumber          a number isn't written in digits, or is too large for its
+                     field
+  BadAddress         an address isn't four numbers from 0 to 255, joined by
+                     dots and without leading zeros
+  LengthOutOfRange   LEN is outside 1 to 65535
+  BadEcn             ECN isn't one character from 0 to 3
+  TooLarge           more than 134217728 bytes (at row 0) or 1000000 rows
+  Read               the bytes (at row 0) or the row couldn't be read
+  Memory             no memory for the bytes (at row 0) or for the row";

@@ -1,5 +1,6 @@
-ghost use Rattle.std.specs.Prelude.{◌≡◌, ◌≢◌, ◌≤◌, ◌↔◌, ℕ, Err, IfErr, IfOk, IsErr, IsErrOf, None, OnOk, Some, map, option_map, take};
+ghost use Rattle.std.specs.Prelude.{◌≡◌, ◌≢◌, ◌≤◌, ◌↔◌, ℕ, Err, IfErr, IfOk, IsErr, IsErrOf, None, OnErr, OnOk, Some, map, option_map, take};
 ghost use Rattle.std.specs.Result.{IsOkUnless};
+ghost use Rattle.std.specs.IoError.{error_kind};
 ghost use Rattle.std.specs.Io.KnownBytes.{Appends, Keeps};
 ghost use Rattle.packet_core.specs.Words.{params_of_words};
 ghost use Rattle.fqsim.specs.Faults.{IsFaultOn, IsRunFault, command_fault_told, run_fault_told, status_of, trace_status};
@@ -126,6 +127,11 @@ impl<T: Drop> From<AllocFailed<T>> for ProgramFault {
 
 /// Why the words can't be had.
 impl From<io::Error> for ProgramFault {
+    ghost use Rattle.std.specs.declared.io.ErrorKind.TheVariants.{OutOfMemory};
+
+    ghost from_gives = { λ error e. (error_kind error ≡ OutOfMemory → e ≡ program_fault.Memory)
+        × (error_kind error ≢ OutOfMemory → e ≡ program_fault.NotUtf8) };
+
     fn from(error: io::Error) -> ProgramFault {
         match error.kind() {
             ErrorKind::OutOfMemory => ProgramFault::Memory,
@@ -146,10 +152,15 @@ pub fn program<R: Read, W: Write, F: Write>(
 ) -> u8
     // With the status 0 the writer holds what it held, and then the report of the input with the seed and the
     // parameters of the words, where these are those of a run. Else they ask for help, and a text is written.
-    ensures answer { result ≡ 0 → Answers (map (λ w. w.now) words.now) (R.remaining reader.old) (W.contents writer.old) (W.contents writer.new) }
+    ensures answer { result ≡ 0 → Answers (map (λ w. w.now) words.now) (R.remaining reader.old)
+        (W.contents writer.old) (W.contents writer.new) }
 
-    // Any other status is that of a fault that these words and this input have.
-    ensures fault { (result ≢ 0) → (fault : ProgramFault) × IsFaultOn (map (λ w. w.now) words.now) (R.remaining reader.old) fault × (result ≡ status_of fault) }
+    // Any other status is that of a fault that these words and this input have, by which the writer came from what it
+    // held to what it holds: a front of the report or of help where a write failed, and else what it held.
+    ensures fault { (result ≢ 0) → (fault : ProgramFault)
+        × IsFaultOn (map (λ w. w.now) words.now) (R.remaining reader.old)
+        (W.contents writer.old) (W.contents writer.new) fault
+        × (result ≡ status_of fault) }
 
     // With the status 2, where something that was given is wrong, nothing was written.
     ensures input_fault { result ≡ 2 → Keeps (W.contents writer.old) (W.contents writer.new) }
@@ -168,9 +179,12 @@ fn answer<R: Read, W: Write>(
     reader: &mut R,
     writer: &mut W,
 ) -> Result<(), ProgramFault>
-    ensures answer { OnOk result (Answers (map (λ w. w.now) words.now) (R.remaining reader.old) (W.contents writer.old) (W.contents writer.new)) }
-    ensures fault { IfErr result (λ fault. IsFaultOn (map (λ w. w.now) words.now) (R.remaining reader.old) fault) }
-    ensures untouched { IfErr result (λ fault. (fault ≢ program_fault.Write) → Keeps (W.contents writer.old) (W.contents writer.new)) }
+    ensures answer { OnOk result (Answers (map (λ w. w.now) words.now) (R.remaining reader.old)
+        (W.contents writer.old) (W.contents writer.new)) }
+    ensures fault { IfErr result (IsFaultOn (map (λ w. w.now) words.now) (R.remaining reader.old)
+        (W.contents writer.old) (W.contents writer.new)) }
+    ensures untouched { IfErr result (λ fault. (fault ≢ program_fault.Write)
+        → Keeps (W.contents writer.old) (W.contents writer.new)) }
 {
     match parse(alloc, words)? {
         Request::Trace(trace) => simulate(alloc, trace.seed, &trace.parameters, reader, writer),
@@ -178,15 +192,26 @@ fn answer<R: Read, W: Write>(
     }
 }
 
-/// Writes the text of help.
+/// Writes the text of help. Where a write fails or takes nothing, a front of it is written.
 fn show<W: Write>(writer: &mut W, text: &str) -> Result<(), ProgramFault>
     ensures whole { OnOk result (Appends (W.contents writer.old) (W.contents writer.new) text.now) }
+    ensures front { OnErr result ((count : ℕ)
+        × Appends (W.contents writer.old) (W.contents writer.new) (take count text.now)) }
     ensures fault { IsOkUnless result program_fault.Write }
 {
-    match writer.write_all(text.as_bytes()) {
-        Ok(()) => Ok(()),
-        Err(_) => Err(ProgramFault::Write),
+    let bytes = text.as_bytes();
+    let mut done = 0;
+    // Each turn takes a byte or more.
+    for _turn in 0..bytes.len() {
+        if done == bytes.len() {
+            return Ok(());
+        }
+        match writer.write(&bytes[done..]) {
+            Ok(0) | Err(_) => return Err(ProgramFault::Write),
+            Ok(count) => done += count,
+        }
     }
+    Ok(())
 }
 
 /// Reads a trace, makes its run with the seed of that text and the parameters of those words, and writes the report.
@@ -198,12 +223,19 @@ fn simulate<R: Read, W: Write>(
     reader: &mut R,
     writer: &mut W,
 ) -> Result<(), ProgramFault>
-    ensures report { OnOk result (IsRunFor (option_map (λ s. s.now) seed.entry) (map (λ w. w.now) parameters.now) (R.remaining reader.old) (λ text. Appends (W.contents writer.old) (W.contents writer.new) text)) }
+    ensures report { OnOk result (IsRunFor (option_map (λ s. s.now) seed.entry) (map (λ w. w.now) parameters.now)
+        (R.remaining reader.old) (λ text. Appends (W.contents writer.old) (W.contents writer.new) text)) }
     ensures seed { IsErrOf result program_fault.Seed ↔ (seed_given (option_map (λ s. s.now) seed.entry) ≡ None) }
-    ensures params { (fault : ParamFault) → IsErrOf result (program_fault.Params fault) ↔ (seed_given (option_map (λ s. s.now) seed.entry) ≢ None) × (params_of_words (map (λ w. w.now) parameters.now) ≡ Err fault) }
-    ensures fault { IfErr result (λ fault. IsRunFault (option_map (λ s. s.now) seed.entry) (map (λ w. w.now) parameters.now) (R.remaining reader.old) fault) }
-    ensures front { result ≡ Err program_fault.Write → IsRunFor (option_map (λ s. s.now) seed.entry) (map (λ w. w.now) parameters.now) (R.remaining reader.old) (λ text. (count : ℕ) × Appends (W.contents writer.old) (W.contents writer.new) (take count text)) }
-    ensures untouched { IfErr result (λ fault. (fault ≢ program_fault.Write) → Keeps (W.contents writer.old) (W.contents writer.new)) }
+    ensures params { (fault : ParamFault) → IsErrOf result (program_fault.Params fault)
+        ↔ (seed_given (option_map (λ s. s.now) seed.entry) ≢ None)
+        × (params_of_words (map (λ w. w.now) parameters.now) ≡ Err fault) }
+    ensures fault { IfErr result (IsRunFault (option_map (λ s. s.now) seed.entry) (map (λ w. w.now) parameters.now)
+        (R.remaining reader.old) (W.contents writer.old) (W.contents writer.new)) }
+    ensures front { result ≡ Err program_fault.Write
+        → IsRunFor (option_map (λ s. s.now) seed.entry) (map (λ w. w.now) parameters.now) (R.remaining reader.old)
+        (λ text. (count : ℕ) × Appends (W.contents writer.old) (W.contents writer.new) (take count text)) }
+    ensures untouched { IfErr result (λ fault. (fault ≢ program_fault.Write)
+        → Keeps (W.contents writer.old) (W.contents writer.new)) }
 {
     let seed = seed_given(seed)?;
     let params = read_params(parameters)?;

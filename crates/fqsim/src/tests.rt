@@ -1,5 +1,6 @@
 mod codel;
 mod command_line;
+mod faults;
 mod help;
 mod reports;
 mod row_faults;

@@ -80,9 +80,32 @@ fn help_on_the_formats(rt: HostRuntime) -> Result<(), Fail> {
         "\n  totals,ACCEPTED,ACCEPTED_BYTES,SENT,SENT_BYTES,DROPPED_CODEL,\n      DROPPED_OVERFLOW,DROPPED_BYTES,MARKED,QUEUED,QUEUED_BYTES,STATE\n",
         "\n  tuple,PROTO,SRC,DST,SPORT,DPORT,FLOW,ACCEPTED,SENT,DROPPED,QUEUED\n",
         "\nExample:\n",
+        "'fqsim: a word isn't UTF-8'",
         "'fqsim: seed'",
         "'fqsim: parameter word PLACE: NAME'",
         "'fqsim: row ROW: NAME'",
+    ];
+    expect_help(&rt, &["trace", "--help"], &texts)
+}
+
+#[test]
+fn help_on_the_faults(rt: HostRuntime) -> Result<(), Fail> {
+    let texts = [
+        "\nFaults of a parameter word, ",
+        "\n  UnknownWord   ",
+        "\n  MissingValue   ",
+        "\n  NotANumber   ",
+        "\n  OutOfRange   ",
+        "\nFaults of the trace, ",
+        "\n  BadKind   ",
+        "\n  BadFieldCount   ",
+        "\n  BadNumber   ",
+        "\n  BadAddress   ",
+        "\n  LengthOutOfRange   ",
+        "\n  BadEcn   ",
+        "\n  TooLarge   ",
+        "\n  Read   ",
+        "\n  Memory   ",
     ];
     expect_help(&rt, &["trace", "--help"], &texts)
 }
