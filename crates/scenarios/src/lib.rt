@@ -3,13 +3,6 @@
 #![tactic(auto)]
 
 #[cfg(test)]
-<<<<<<< HEAD
-mod embedders;
-#[cfg(test)]
-mod many_flows;
-#[cfg(test)]
-=======
->>>>>>> 49a7fb22ec65d446f2a0856c5832450da3d3e826
 mod overflows;
 #[cfg(test)]
 mod schedulers;
