@@ -5,8 +5,8 @@ use crate::packet::FiveTuple;
 use crate::params::{Classify, Params};
 use sha2::{Digest, Sha256};
 
-/// What the choice of flows is seeded with, so that nobody outside can tell which five-tuples share a flow
-/// (RFC 8290, section 4.1).
+/// What the choice of flows is seeded with (RFC 8290, section 4.1). A secret one keeps senders from choosing
+/// five-tuples that share a flow; nothing of that is proved.
 #[derive(Clone, Copy, Debug, PartialEq, Eq, Hash)]
 pub struct Seed(pub [u8; 16]);
 

@@ -1,9 +1,9 @@
 //! The scheduler as a library: three packets come where two may wait, and the device takes one.
 #![tactic(auto)]
 
-use anyhow::{Error, Result, anyhow};
+use anyhow::Result;
 use packet_core::{Ecn, FiveTuple, Ip, LengthOutOfRange, Packet, Seed, read_params};
-use sched_core::{Engine, Event, Refusal};
+use sched_core::{Engine, Event};
 
 fn main(rt: HostRuntime) -> Result<()> {
     // The parameters that aren't said are the standard ones.
@@ -22,9 +22,9 @@ fn main(rt: HostRuntime) -> Result<()> {
 fn make_steps(rt: &impl Print, engine: &mut Engine) -> Result<()> {
     engine.reserve(4)?; // the next four steps take no memory
     for moment in 0..3 {
-        engine.enqueue(moment, 0, query()?).map_err(refused)?;
+        engine.enqueue(moment, 0, query()?)?;
     }
-    if let Some(sent) = engine.dequeue(3).map_err(refused)? {
+    if let Some(sent) = engine.dequeue(3)? {
         println!(rt; "packet {} goes out", sent.id)?;
     }
     Ok(())
@@ -51,9 +51,4 @@ fn tell(rt: &impl Print, event: &Event) -> Result<()> {
         Event::Closed { moment } => println!(rt; "{moment}: closed")?,
     }
     Ok(())
-}
-
-/// A refusal as the program's error.
-fn refused(refusal: Refusal) -> Error {
-    anyhow!("a step was refused: {refusal:?}")
 }
