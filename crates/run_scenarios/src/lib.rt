@@ -3,6 +3,8 @@
 #![tactic(auto)]
 
 #[cfg(test)]
+mod embedders;
+#[cfg(test)]
 mod many_flows;
 #[cfg(test)]
 mod packets;

@@ -2,7 +2,7 @@
 
 ghost use Rattle.std.specs.Prelude.{◌≡◌, ◌++◌, Some, true};
 
-use crate::schedulers::one_flow;
+use crate::packets::one_flow;
 use packet_core::{Params, Seed};
 use sched_core::Step;
 use std::io::{self, ErrorKind, Read};
