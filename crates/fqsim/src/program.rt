@@ -155,6 +155,9 @@ pub fn program<R: Read, W: Write, F: Write>(
     ensures answer { result ≡ 0 → Answers (map (λ w. w.now) words.now) (R.remaining reader.old)
         (W.contents writer.old) (W.contents writer.new) }
 
+    // With the status 0 nothing is told.
+    ensures quiet { result ≡ 0 → Keeps (F.contents faults.old) (F.contents faults.new) }
+
     // Any other status is that of a fault that these words and this input have, by which the writer came from what it
     // held to what it holds: a front of the report or of help where a write failed, and else what it held.
     ensures fault { (result ≢ 0) → (fault : ProgramFault)
