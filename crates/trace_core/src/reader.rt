@@ -71,8 +71,8 @@ pub fn read_trace<R: Read>(alloc: Global, reader: &mut R) -> Result<Vec<Step>, T
     read_trace_from(alloc, &mut Watched::new(reader))
 }
 
-/// The same of the trace that a source gives, which tells whether it has failed. So it is said when a failed read is
-/// answered: where one has, and at no other time.
+/// The same as `read_trace`, of the trace that a source gives, which tells whether it has failed. `Read` at row 0 is
+/// answered only where it has, and `Read` at a later row only where the reader of `csv` over its text has failed.
 pub fn read_trace_from<S: Source>(alloc: Global, source: &mut S) -> Result<Vec<Step>, TraceFault>
     ensures steps { IfOk result (λ steps. IfSome (S.remaining source.old) (λ bytes. Traces.trace_of bytes ≡ Ok steps.items)) }
     ensures fault { IfErr result (λ fault. IfSome (S.remaining source.old) (λ bytes. Traces.IsFaultOf bytes fault)) }

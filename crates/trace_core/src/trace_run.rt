@@ -69,8 +69,9 @@ pub fn run<R: Read, W: Write>(
     )
 }
 
-/// The same from a source to a sink, which tell whether they have failed. So it is said when a read or a write
-/// that failed is answered: where one has, and at no other time.
+/// The same as `run`, from a source to a sink, which tell whether they have failed. For a caller whose reader or
+/// writer can tell that: `Read` at row 0 is answered only where the source has failed, `Read` at a later row only
+/// where the reader of `csv` over its text has, and `Write` only where the sink has.
 pub fn run_between<S: Source, K: Sink>(
     alloc: Global,
     source: &mut S,
