@@ -1,7 +1,7 @@
 use packet_core::{Classify, Ecn, EcnUse, FiveTuple, Ip, Packet, ParamFields, Params, Seed};
 use sched_core::{
-    Admitted, Answer, Cause, CloseFault, Event, Mark, MomentFault, Refusal, Sched, Sent, Step,
-    Totals,
+    Admitted, Answer, Cause, CloseFault, Engine, Event, Mark, MomentFault, Refusal, Sched, Sent,
+    Step, Totals,
 };
 use std::process::Abort;
 use std::test::Fail;
@@ -174,11 +174,16 @@ fn steps_are_answered_as_in_a_run(rt: HostRuntime) -> Result<(), Fail> {
         (Step::Dequeue { moment: 3 }, Answer::Sent),
         (Step::Dequeue { moment: 2 }, Answer::Refused(backwards)),
     ];
+    let mut engine = Engine::try_new(rt.alloc(), Params::try_new(one_flow())?, Seed([0; 16]))?;
     for (step, answer) in steps {
         assert_eq!(rt; sched.make(&step)?, answer);
+        assert_eq!(rt; engine.make(&step)?, answer);
     }
     assert_eq!(rt; sched.events().len(), 3);
     assert_eq!(rt; sched.last_moment(), 3);
+    // The refused steps aren't stored.
+    assert_eq!(rt; engine.steps().len(), 4);
+    assert_eq!(rt; engine.events(), sched.events());
     Ok(())
 }
 
