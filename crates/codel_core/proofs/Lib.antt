@@ -1,7 +1,5 @@
-pub mod Digits
-pub mod Quotients
-pub mod Examples
-pub mod Spacings
-pub mod Turns
-pub mod VerdictLaws
-pub mod Ranges
+pub mod RootLemmas
+pub mod ServeLemmas
+pub mod SpacingLemmas
+pub mod StateRanges
+pub mod VerdictLemmas

@@ -1,3 +1,5 @@
+//! CoDel for one queue: what is kept of it, and the serve that drops, marks and gives.
+
 ghost use Rattle.std.specs.Prelude.{◌≡◌, ◌^◌, ◌<◌, ◌≤◌, ◌↔◌, [], drop, length, slice_get, IsNone, None, Some, false};
 ghost use Rattle.packet_core.specs.Params.{IsIntervalInRange};
 ghost use Rattle.codel_core.specs.Schedule.{IsStateInRange, StaysInRange};
@@ -140,6 +142,8 @@ fn serve_from<L: Pull, S: DropSink>(
         sink.take(head);
         head = pull_waiting(line);
         if !judge(state, &head, line, now, params) {
+            // No further drop is due, so `drop_next` stays at the moment at which the last one was: should dropping
+            // begin again, `first_count` takes the time since then for the time since that drop.
             state.dropping = false;
             return Some(Served::unmarked(head));
         }

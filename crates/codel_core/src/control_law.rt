@@ -1,3 +1,5 @@
+//! The control law: how far apart the drops of a queue stand.
+
 ghost use Rattle.std.specs.Prelude.{◌^◌, ◌≤◌};
 ghost use Rattle.codel_core.specs.Spacing.{IsSpacing};
 

@@ -1,3 +1,5 @@
+//! The judgements of a serve: whether a packet is late, droppable or markable, and how dropping begins.
+
 ghost use Rattle.std.specs.Prelude.{◌≡◌, ◌+◌, ◌^◌, ◌<◌, ◌≤◌, ◌↔◌, IsTrue, length};
 ghost use Rattle.codel_core.specs.Queue.{IsLateBefore, HasCome, is_markable};
 ghost use Rattle.codel_core.specs.Schedule.{IsStateInRange, entered, resumed_count};
@@ -10,6 +12,10 @@ use packet_core::{Ecn, EcnUse, Params, Waiting};
 
 /// Whether a packet that was just pulled is late: it waited for the target, and more than `mtu` bytes
 /// are left behind it.
+///
+/// However long it waited, a packet with at most one packet's worth of bytes behind it is no sign of a standing
+/// queue: the link sends those bytes next, and then the queue is gone. A drop would only leave the link with less to
+/// send (RFC 8289, section 4.2). The packet's own bytes don't count, since it leaves the queue either way.
 fn is_late<L: Pull>(head: &Waiting, line: &L, now: u64, params: &Params) -> bool
     requires { length (L.items line.now) ≤ 2 ^ 40 }
     ensures { IsTrue result ↔ IsLateBefore params.now now head.now (L.items line.now) }
@@ -61,6 +67,12 @@ pub(crate) fn may_mark(params: &Params, head: &Waiting) -> bool
 }
 
 /// The count that dropping begins with.
+///
+/// Where a queue drops again soon after it stopped, its load is most likely the same, and the rate of drops that
+/// controlled it then is the place to start from: from a count of one the drops would have to grow as dense again,
+/// and the queue would stand that long (RFC 8289, section 5.5). That rate is in what the count grew by, without what
+/// it began with: else each cycle would begin with more than the last one needed. `drop_next` is near the moment of
+/// the last drop, as it doesn't move when dropping ends, so it tells how long ago that was.
 fn first_count(state: &CodelState, now: u64, params: &Params) -> u64
     requires { IsStateInRange state.now }
     ensures value { result ≡ resumed_count params.now now state.now }

@@ -1,3 +1,5 @@
+//! What CoDel takes packets from, and what takes the packets that it drops.
+
 ghost use Rattle.std.specs.Prelude.{◌≡◌, ℕ, ◌+◌, ◌^◌, ◌<◌, ◌≤◌, List, [], ◌∷◌, ◌++◌, length, drop, slice_get};
 ghost use Rattle.packet_core.specs.declared.packet.Waiting.{Waiting};
 ghost use Rattle.codel_core.specs.Queue.{bytes_of};

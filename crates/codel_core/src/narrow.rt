@@ -1,3 +1,5 @@
+//! The square root of a number of 64 bits.
+
 ghost use Rattle.codel_core.specs.Root.{IsRoot};
 
 /// The square root of `v`, rounded down, for every `v` of 64 bits.

@@ -1,3 +1,5 @@
+//! A packet that is given, and its mark.
+
 ghost use Rattle.std.specs.Prelude.{◌≡◌};
 
 use packet_core::Waiting;

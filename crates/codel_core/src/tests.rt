@@ -1,3 +1,5 @@
+//! Roots and spacings at their edges.
+
 use crate::{root, spacing};
 
 #[test]

@@ -15,7 +15,7 @@ use crate::account::Account;
 use crate::flow_view::FlowView;
 use codel_core::{Codel, Served};
 use flow_core::Flows;
-use journal_core::{Cause, Fates, Journal, Memory};
+use journal_core::{Cause, Fates, Journal, Keeps, Memory};
 use packet_core::{Params, Waiting};
 use std::alloc::Global;
 use std::marker::Model;
@@ -183,7 +183,7 @@ impl Backlog {
 
     /// Where more than `limit` packets wait, the flow with the most bytes loses a batch from its head, which the
     /// journal records (RFC 8290, section 4.1).
-    pub fn overflow(&mut self, limit: u32, moment: u64, journal: &mut Journal)
+    pub fn overflow<K: Keeps>(&mut self, limit: u32, moment: u64, journal: &mut Journal<K>)
         requires limit { 1 ≤ limit }
         requires room { waiting_in self.old.queues.lists ≤ journal.old.room }
         ensures { DropsOverflow limit moment self.old journal.old self.new journal.new }
@@ -200,7 +200,12 @@ impl Backlog {
 
     /// A chain of turns, up to the first one that serves a flow, or to where both lists are empty (RFC 8290,
     /// section 4.2). What CoDel drops goes to the journal.
-    pub fn serve(&mut self, now: u64, params: &Params, journal: &mut Journal) -> Serving
+    pub fn serve<K: Keeps>(
+        &mut self,
+        now: u64,
+        params: &Params,
+        journal: &mut Journal<K>,
+    ) -> Serving
         requires moment { now < 2 ^ 60 }
         requires room { waiting_in self.old.queues.lists ≤ journal.old.room }
         ensures chain { ServesChain params.now now self.old journal.old result.turns result.served self.new journal.new }
@@ -228,12 +233,12 @@ impl Backlog {
     }
 
     /// One turn of the flow at the head (RFC 8290, section 4.2).
-    fn turn(
+    fn turn<K: Keeps>(
         &mut self,
         head: Head,
         now: u64,
         params: &Params,
-        journal: &mut Journal,
+        journal: &mut Journal<K>,
     ) -> Option<Served>
         requires head { option_map shown_head (head_of self.old.queues) ≡ Some head }
         requires flow { head.flow < length self.old.queues.lists.queues }
@@ -293,12 +298,12 @@ impl Backlog {
     }
 
     /// CoDel serves a flow, which has credits above 0. The length of the packet that is given is taken from them.
-    fn serve_flow(
+    fn serve_flow<K: Keeps>(
         &mut self,
         flow: u32,
         now: u64,
         params: &Params,
-        journal: &mut Journal,
+        journal: &mut Journal<K>,
     ) -> Option<Served>
         requires flow { flow < length self.old.queues.lists.queues }
         requires moment { now < 2 ^ 60 }
@@ -321,13 +326,13 @@ impl Backlog {
 }
 
 /// CoDel serves the queue of a flow.
-fn serve_queue(
+fn serve_queue<K: Keeps>(
     flows: &mut Flows,
     flow: u32,
     codel: &mut Codel,
     now: u64,
     params: &Params,
-    journal: &mut Journal,
+    journal: &mut Journal<K>,
 ) -> Option<Served>
     requires flow { flow < length flows.old.lists.queues }
     requires moment { now < 2 ^ 60 }
@@ -345,7 +350,13 @@ fn serve_queue(
 }
 
 /// Drops so many packets from the head of a flow's queue, as overflow.
-fn drop_batch(flows: &mut Flows, flow: u32, batch: u64, moment: u64, journal: &mut Journal)
+fn drop_batch<K: Keeps>(
+    flows: &mut Flows,
+    flow: u32,
+    batch: u64,
+    moment: u64,
+    journal: &mut Journal<K>,
+)
     requires flow { flow < length flows.old.lists.queues }
     requires room { length (queue_at flows.old.lists flow) ≤ journal.old.room }
     ensures flows { flows.new ≡ without_head flows.old flow batch flows.new.comparisons }

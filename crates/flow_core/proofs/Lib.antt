@@ -1,9 +1,8 @@
-pub mod Chained
-pub mod Chaining
-pub mod Climbing
-pub mod Comparing
-pub mod Keeping
-pub mod Linking
-pub mod Listing
-pub mod Winning
-pub mod WinnersKeeping
+pub mod ByteLemmas
+pub mod ChainLemmas
+pub mod FlowNumberLemmas
+pub mod LinkLemmas
+pub mod NodeLemmas
+pub mod PlacedLemmas
+pub mod ReadLemmas
+pub mod WinnerLemmas

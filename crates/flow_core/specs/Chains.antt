@@ -2,11 +2,10 @@
 use Rattle.std.specs.Prelude.{◌≡◌, ◌⊎◌, ℕ, zero, suc, ◌≤◌, List, [], ◌∷◌, ◌++◌, All, Option, Some, None, get_or, length, map, sum_by, vec_len}
 use Rattle.slab.specs.Slab.{Slab, HasRoomFor, get, slab_len}
 use Rattle.packet_core.specs.declared.packet.Waiting.{Waiting}
-use Rattle.flow_core.specs.declared.chains.TheConstants.{MAX_WAITING}
 use Rattle.flow_core.specs.declared.chains.Chain.{Chain}
 use Rattle.flow_core.specs.declared.chains.Chains.TheInside.{Inside}
 use Rattle.flow_core.specs.declared.chains.Link.{Link}
-use Rattle.flow_core.specs.declared.flows.TheConstants.{MAX_FLOWS}
+use Rattle.flow_core.specs.declared.limits.TheConstants.{MAX_FLOWS, MAX_WAITING}
 use Rattle.flow_core.specs.Queues.{Queues}
 
 -- the packet of a slot, and the key of the one behind it

@@ -1,7 +1,7 @@
 -- How the fields of the tree give what callers see, and what they keep.
 use Rattle.std.specs.Prelude.{◌≡◌, ◌^◌, ◌<◌, ◌≤◌, All, vec_len}
 use Rattle.flow_core.specs.declared.winner_tree.WinnerTree.TheInside.{Inside}
-use Rattle.flow_core.specs.declared.flows.TheConstants.{MAX_FLOWS}
+use Rattle.flow_core.specs.declared.limits.TheConstants.{MAX_FLOWS}
 use Rattle.flow_core.specs.Winners.{ByteCounts, IsLevels}
 use Rattle.flow_core.specs.WinnerNodes.{AreWinners}
 

@@ -2,8 +2,8 @@
 
 ghost use Rattle.std.specs.Prelude.{◌+◌, ◌^◌, ◌<◌};
 
-use crate::MAX_WAITING;
 use crate::chains::Chains;
+use crate::limits::MAX_WAITING;
 use packet_core::{Ecn, FiveTuple, Ip, Packet, Waiting};
 use std::process::Abort;
 use std::test::Fail;

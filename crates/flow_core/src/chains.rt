@@ -2,14 +2,11 @@
 
 ghost use Rattle.std.specs.Prelude.{◌≡◌, ◌+◌, ◌-◌, ◌^◌, ◌<◌, ◌≤◌, [], ◌∷◌, ◌++◌, IfOk, OnErr, OnOk, drop, get_or, length, option_map, replicate, set, slice_get, sum_by};
 
-use crate::flows::{MAX_FLOWS, Memory};
+use crate::limits::{MAX_FLOWS, MAX_WAITING, Memory};
 use packet_core::Waiting;
 use slab::Slab;
 use std::alloc::Global;
 use std::marker::Model;
-
-/// The most packets that wait at once, in all flows together.
-pub const MAX_WAITING: u64 = 1 << 40;
 
 /// A packet that waits, and the key of the one behind it in its flow. The last one of a flow has none behind it.
 #[derive(Clone, Copy, Debug)]

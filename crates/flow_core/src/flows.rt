@@ -1,22 +1,19 @@
+//! The flows as callers see them, and the queue of one of them as a line that CoDel pulls from.
+
 ghost use Rattle.std.specs.Prelude.{◌≡◌, ◌+◌, ◌^◌, ◌<◌, ◌≤◌, ◌↔◌, [], ◌∷◌, ◌++◌, All, Contains, IfOk, IfSome, IsNone, IsTrue, OnErr, OnOk, drop, length, min, slice_get, take};
 ghost use Rattle.packet_core.specs.Packets.{IsLengthInRange};
 ghost use Rattle.flow_core.specs.Fattest.{IsFattest, bytes_at};
 ghost use Rattle.flow_core.specs.FlowLists.{AreListed, no_flows, queue_at, waiting_in, with_queue};
 ghost use Rattle.flow_core.specs.Winners.{CountsFew, IsLevels};
 
-use crate::chains::{Chains, MAX_WAITING};
-use crate::line::Line;
+use crate::chains::Chains;
+use crate::limits::{MAX_FLOWS, MAX_WAITING, Memory};
 use crate::listed_flows::ListedFlows;
 use crate::winner_tree::WinnerTree;
+use codel_core::Pull;
 use packet_core::Waiting;
-use std::alloc::{AllocError, Global};
+use std::alloc::Global;
 use std::marker::Model;
-
-/// Want of memory: a growth was refused.
-pub type Memory = AllocError;
-
-/// The most flows.
-pub const MAX_FLOWS: u32 = 65_536;
 
 /// The queues of all flows, the list of new flows and the list of old flows (RFC 8290, sections 4 and 5). A
 /// flow is called by its number, from 0. Room for pushes is taken ahead, so that only `try_new` and `reserve`
@@ -243,5 +240,36 @@ impl Flows {
         // So few packets wait in a flow as in all of them.
         let _ = &self.chains;
         Line { flows: self, flow }
+    }
+}
+
+/// The queue of one flow, borrowed: a pull takes its head.
+#[derive(Drop)]
+pub struct Line<'a> {
+    /// The flows that it is borrowed from.
+    pub flows: &'a mut Flows,
+    /// The flow's number.
+    pub flow: u32,
+    pub ghost within: { flow < length flows.now.lists.queues },
+}
+
+impl Pull for Line<'_> {
+    ghost use Rattle.flow_core.specs.FlowLists.{queue_at};
+    ghost use Rattle.flow_core.specs.Pulling.{PullsFlow, pulls_none, pulls_more};
+
+    ghost items = { λ l. queue_at l.flows.now.lists l.flow };
+
+    ghost pulled = { λ a n b. PullsFlow a.flow a.flows n b.flow b.flows };
+
+    ghost pulled_none = { λ a. pulls_none a.flow a.flows };
+
+    ghost pulled_more = { λ a b c n first then'. pulls_more a.flow a.flows b.flow b.flows c.flow c.flows n a.within first then' };
+
+    fn pull(&mut self) -> Option<Waiting> {
+        self.flows.pop(self.flow)
+    }
+
+    fn bytes_left(&self) -> u64 {
+        self.flows.bytes(self.flow)
     }
 }

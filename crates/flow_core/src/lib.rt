@@ -10,7 +10,7 @@
 mod chain_tests;
 mod chains;
 mod flows;
-mod line;
+mod limits;
 mod listed_flows;
 #[cfg(test)]
 mod listed_tests;
@@ -22,6 +22,5 @@ mod tests;
 mod winner_tests;
 mod winner_tree;
 
-pub use chains::MAX_WAITING;
-pub use flows::{Flows, MAX_FLOWS, Memory};
-pub use line::Line;
+pub use flows::{Flows, Line};
+pub use limits::{MAX_FLOWS, MAX_WAITING, Memory};

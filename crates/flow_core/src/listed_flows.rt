@@ -1,9 +1,11 @@
+//! The list of new flows and the list of old flows, chained through one table.
+
 ghost use Rattle.std.specs.Prelude.{◌≡◌, ◌≢◌, ℕ, ◌+◌, ◌<◌, ◌≤◌, ◌↔◌, [], ◌∷◌, ◌++◌, Contains, IfOk, IfSome, IsTrue, drop, length, slice_get, take};
 ghost use Rattle.flow_core.specs.declared.listed_flows.Link.TheVariants.{Unlisted};
 ghost use Rattle.flow_core.specs.Listed.{AreFlows};
 ghost use Rattle.flow_core.specs.Links.{Appends, IsRest};
 
-use crate::flows::Memory;
+use crate::limits::Memory;
 use std::alloc::Global;
 use std::marker::Model;
 

@@ -1,6 +1,6 @@
 //! The tree of winners, beside a scan of all flows.
 
-use crate::flows::MAX_FLOWS;
+use crate::limits::MAX_FLOWS;
 use crate::winner_tree::WinnerTree;
 use std::alloc::Global;
 use std::process::Abort;

@@ -2,9 +2,9 @@
 //! bytes is at most one walk between its leaf and the root, and the winner of all flows is read at the root.
 ghost use Rattle.std.specs.Prelude.{◌≡◌, ◌≢◌, ℕ, [], ◌+◌, ◌-◌, ◌*◌, ◌^◌, ◌<◌, ◌≤◌, ◌↔◌, All, IfOk, IfSome, IsNone, IsTrue, length, min, replicate, slice_index, slice_set, vec_len};
 ghost use Rattle.flow_core.specs.Winners.{CountsFew, HasMostBytes, IsLevels};
-ghost use Rattle.flow_core.specs.WinnerNodes.{AreWinners, beside, ComparedAtFall, ComparedAtGrowth, ComparedBelowRoot, ComparedFromRoot, HasFallen, HasGrown, HasLeaves, IsPowerOfTwo, WinsOver, WinsSoHigh};
+ghost use Rattle.flow_core.specs.WinnerNodes.{AreWinners, beside, HasFallen, HasGrown, HasLeaves, IsPowerOfTwo, WinsOver};
 
-use crate::flows::{MAX_FLOWS, Memory};
+use crate::limits::{MAX_FLOWS, Memory};
 use std::alloc::Global;
 use std::marker::Model;
 
@@ -56,7 +56,6 @@ impl WinnerTree {
         ensures bytes { self.new.bytes ≡ slice_set self.old.bytes flow (slice_index self.old.bytes flow + bytes) }
         ensures few_comparisons { CountsFew (length self.old.bytes) 1 self.old.comparisons self.new.comparisons }
         ensures compares { 2 ≤ length self.old.bytes → min (self.old.comparisons + 1) u64.MAX ≤ self.new.comparisons }
-        ensures counted { (made : ℕ) × ComparedAtGrowth self.old.bytes self.new.bytes flow made × (self.new.comparisons ≡ min (self.old.comparisons + made) u64.MAX) }
     {
         self.bytes[flow as usize] += bytes;
         let made = raise(&self.bytes, &mut self.winners, flow);
@@ -69,7 +68,6 @@ impl WinnerTree {
         requires there { bytes ≤ slice_index self.old.bytes flow }
         ensures bytes { self.new.bytes ≡ slice_set self.old.bytes flow (slice_index self.old.bytes flow - bytes) }
         ensures few_comparisons { CountsFew (length self.old.bytes) 1 self.old.comparisons self.new.comparisons }
-        ensures counted { (made : ℕ) × ComparedAtFall self.old.bytes flow made × (self.new.comparisons ≡ min (self.old.comparisons + made) u64.MAX) }
     {
         self.bytes[flow as usize] -= bytes;
         let made = lower(&self.bytes, &mut self.winners, flow);
@@ -229,7 +227,6 @@ fn raise(bytes: &[u64], winners: &mut [u32], flow: u32) -> u64
     ensures winners { AreWinners bytes.now winners.new }
     ensures few { (levels : ℕ) → length winners.old ≡ 2 ^ levels → result ≤ levels }
     ensures compares { 2 ≤ length winners.old → 1 ≤ result }
-    ensures counted { ComparedFromRoot winners.old winners.new flow result }
 {
     let mut node = winners.len() + flow as usize;
     // One flow has no node above its leaf.
@@ -265,7 +262,6 @@ fn climb(bytes: &[u64], winners: &mut [u32], flow: u32) -> u64
     requires loses { WinsOver bytes.now (slice_index winners.old 1) flow }
     ensures winners { AreWinners bytes.now winners.new }
     ensures few { (levels : ℕ) → length winners.old ≡ 2 ^ levels → result + 1 ≤ levels }
-    ensures counted { ComparedBelowRoot winners.old winners.new flow result }
 {
     let own = bytes[flow as usize];
     let mut comparisons = 0;
@@ -296,7 +292,6 @@ fn lower(bytes: &[u64], winners: &mut [u32], flow: u32) -> u64
     requires fallen { HasFallen bytes.now winners.old flow }
     ensures winners { AreWinners bytes.now winners.new }
     ensures few { (levels : ℕ) → length winners.old ≡ 2 ^ levels → result ≤ levels }
-    ensures counted { WinsSoHigh winners.old flow result }
 {
     let mut node = winners.len() + flow as usize;
     let mut comparisons = 0;

@@ -3,8 +3,8 @@ use Rattle.std.specs.Prelude.{◌≡◌, ◌≢◌, ℕ, List, IfSome, IsOk, Opt
 use Rattle.std.specs.Io.KnownBytes.{Keeps}
 use Rattle.packet_core.specs.Words.{params_of_words}
 use Rattle.trace_core.specs.Traces.{IsFaultOf}
-use Rattle.trace_core.specs.declared.reader.TraceFaultKind.{TraceFaultKind}
-use Rattle.trace_core.specs.declared.reader.TraceFaultKind.TheVariants as trace_fault
+use Rattle.trace_core.specs.declared.faults.TraceFaultKind.{TraceFaultKind}
+use Rattle.trace_core.specs.declared.faults.TraceFaultKind.TheVariants as trace_fault
 use Rattle.trace_core.specs.declared.trace_run.RunFault.{RunFault}
 use Rattle.trace_core.specs.declared.trace_run.RunFault.TheVariants as run_fault
 use Rattle.fqsim.specs.CommandLine.{AsksForRun, IsMistake, parameter_words, seed_text}

@@ -16,3 +16,4 @@ pub mod FirstOfEach
 pub mod TupleCounts
 pub mod TallyLemmas
 pub mod JournalPrefixes
+pub mod Walks

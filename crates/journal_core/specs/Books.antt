@@ -1,4 +1,4 @@
-use Rattle.std.specs.Prelude.{ℕ, ◌+◌, ◌*◌, ◌-◌, ◌≤◌, List, [], ◌∷◌, ◌++◌}
+use Rattle.std.specs.Prelude.{ℕ, ◌+◌, ◌*◌, ◌-◌, ◌≤◌, List, [], ◌∷◌, ◌++◌, length}
 use Rattle.codel_core.specs.declared.served.Mark.{Mark}
 use Rattle.codel_core.specs.declared.served.Mark.TheVariants.{NoMark, CodelMark}
 use Rattle.packet_core.specs.declared.packet.Waiting.{Waiting}
@@ -6,6 +6,7 @@ use Rattle.journal_core.specs.declared.event.Cause.{Cause}
 use Rattle.journal_core.specs.declared.event.Cause.TheVariants.{Codel, Overflow}
 use Rattle.journal_core.specs.declared.event.Event.{Event}
 use Rattle.journal_core.specs.declared.journal.Counts.{Counts}
+use Rattle.journal_core.specs.declared.keeper.TheConstants.{MAX_EVENTS}
 
 -- the journal as the scheduler sees it: the events, the counts that run along, and how many events more take no memory
 pub record Book : Type 0 where
@@ -65,3 +66,7 @@ pub record IsCounted (c : Counts) (n : ℕ) : Type 0 where
   pub dropped_overflow : c.dropped_overflow ≤ n
   pub dropped_bytes : c.dropped_bytes ≤ 65535 * n
   pub marked : c.marked ≤ n
+
+-- The counts are in range for those events, of which there are not too many.
+abbrev pub CountsFewEvents : Counts → List Event → Type 0
+CountsFewEvents counts events = IsCounted counts (length events) × (length events ≤ MAX_EVENTS)

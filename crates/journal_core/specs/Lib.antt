@@ -8,6 +8,7 @@ pub mod Statistics
 pub mod TupleRows
 pub mod Tallies
 pub mod Books
+pub mod Keepers
 pub mod JournalDrops
 pub mod Calls
 pub mod History

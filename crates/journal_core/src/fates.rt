@@ -2,21 +2,22 @@
 
 use crate::event::Cause;
 use crate::journal::Journal;
+use crate::keeper::Keeps;
 use codel_core::DropSink;
 use packet_core::Waiting;
 
 /// The journal, borrowed: a packet that is taken is dropped at that moment, in microseconds, for that cause.
 #[derive(Drop)]
-pub struct Fates<'a> {
+pub struct Fates<'a, K: Keeps> {
     /// The journal.
-    pub journal: &'a mut Journal,
+    pub journal: &'a mut Journal<K>,
     /// The moment of the drops, in microseconds.
     pub moment: u64,
     /// Why the packets are dropped.
     pub cause: Cause,
 }
 
-impl DropSink for Fates<'_> {
+impl<K: Keeps> DropSink for Fates<'_, K> {
     ghost use Rattle.journal_core.specs.JournalDrops.{RecordsDrops, records_none, records_more};
 
     ghost room = { λ f. f.journal.now.room };

@@ -1,17 +1,15 @@
 //! The events so far, with the counts that run along.
 
 ghost use Rattle.std.specs.Prelude.{◌≡◌, ◌+◌, ◌*◌, ◌-◌, ◌^◌, ◌<◌, ◌≤◌, [], IfOk, OnOk, OnErr, length};
+ghost use Rattle.journal_core.specs.declared.keeper.TheConstants.{MAX_EVENTS};
 
 use crate::event::{Cause, Event};
+use crate::keeper::{Keeps, Stored, Unstored};
 use crate::step::Memory;
 use codel_core::{Mark, Served};
 use packet_core::Waiting;
 use std::alloc::Global;
 use std::marker::Model;
-
-/// The most events that a journal holds. 2^40 packets have at most two each, there is one close, and room may be
-/// reserved for as many packets more.
-pub const MAX_EVENTS: usize = 1 << 43;
 
 /// Numbers of events and sums of lengths, in bytes, that run along with the journal.
 #[derive(Clone, Copy, Debug, PartialEq, Eq)]
@@ -34,38 +32,38 @@ pub struct Counts {
     pub marked: u64,
 }
 
-/// The events so far. Room for more is taken ahead, so that to record one takes no memory.
+/// The events so far, told to a keeper. Room for more is taken ahead, so that to record one takes no memory.
 #[derive(Debug, Drop)]
-pub struct Journal {
-    events: Vec<Event>,
+pub struct Journal<K: Keeps = Stored> {
+    keeper: K,
     counts: Counts,
 }
 
-impl Model for Journal {
-    ghost use Rattle.std.specs.Prelude.{◌≡◌, ◌-◌, ◌≤◌, min, vec_len, vec_capacity};
-    ghost use Rattle.journal_core.specs.Books.{Book, IsCounted};
-    ghost use Rattle.journal_core.specs.declared.journal.TheConstants.{MAX_EVENTS};
+impl<K: Keeps> Model for Journal<K> {
+    ghost use Rattle.journal_core.specs.Books.{Book, CountsFewEvents};
 
     ghost Value = { Book };
 
-    ghost view = { λ j. record { events = j.events.items; counts = j.counts; room = min (vec_capacity j.events) MAX_EVENTS - vec_len j.events } };
+    ghost view = { λ j. record { events = K.events j.keeper; counts = j.counts; room = K.room j.keeper } };
 
-    ghost invariant = { λ j. IsCounted j.counts (vec_len j.events) × (vec_len j.events ≤ MAX_EVENTS) };
+    ghost invariant = { λ j. CountsFewEvents j.counts (K.events j.keeper) };
 }
 
-impl Journal {
+impl<K: Keeps> Journal<K> {
     ghost use Rattle.packet_core.specs.Packets.{IsLengthInRange};
     ghost use Rattle.journal_core.specs.Books.{no_counts, with_event, count_accepted, count_sent, count_dropped};
     ghost use Rattle.journal_core.specs.declared.event.Event.TheVariants.{Accepted, Closed};
     ghost use Rattle.journal_core.specs.declared.event.Event.TheVariants as event;
 
-    /// A journal with no event, and room for `room` of them.
-    pub fn try_new(alloc: Global, room: usize) -> Result<Journal, Memory>
-        requires { room ≤ MAX_EVENTS }
+    /// A journal with no event, and room for `room` of them, which it tells to a keeper that was told none.
+    pub fn try_over(mut keeper: K, room: usize) -> Result<Journal<K>, Memory>
+        requires untold { K.events keeper ≡ [] }
+        requires most { room ≤ MAX_EVENTS }
         ensures { IfOk result (λ j. (j.events ≡ []) × (j.counts ≡ no_counts) × (room ≤ j.room)) }
     {
+        keeper.reserve(room)?;
         Ok(Journal {
-            events: Vec::with_capacity(alloc, room)?,
+            keeper,
             counts: Counts {
                 accepted: 0,
                 accepted_bytes: 0,
@@ -88,19 +86,7 @@ impl Journal {
         ensures ok { OnOk result (room ≤ self.new.room) }
         ensures err { OnErr result (self.new ≡ self.old) }
     {
-        self.events.reserve(room)
-    }
-
-    /// The events so far, in order.
-    pub fn events(&self) -> &[Event]
-        ensures { result.now ≡ self.now.events }
-    {
-        &self.events
-    }
-
-    /// Where its memory comes from.
-    pub fn allocator(&self) -> Global {
-        *self.events.allocator()
+        self.keeper.reserve(room)
     }
 
     /// The counts that run along.
@@ -117,7 +103,7 @@ impl Journal {
     {
         self.counts.accepted += 1;
         self.counts.accepted_bytes += u64::from(waiting.packet.len());
-        self.events.push_reserved(Event::Accepted {
+        self.keeper.tell(Event::Accepted {
             id: waiting.id,
             moment: waiting.stamp,
             lane,
@@ -137,7 +123,7 @@ impl Journal {
             Mark::NoMark => {}
             Mark::CodelMark => self.counts.marked += 1,
         }
-        self.events.push_reserved(Event::Sent {
+        self.keeper.tell(Event::Sent {
             id: served.waiting.id,
             moment,
             ecn: served.waiting.packet.ecn(),
@@ -155,7 +141,7 @@ impl Journal {
             Cause::Overflow => self.counts.dropped_overflow += 1,
         }
         self.counts.dropped_bytes += u64::from(waiting.packet.len());
-        self.events.push_reserved(Event::Dropped {
+        self.keeper.tell(Event::Dropped {
             id: waiting.id,
             moment,
             cause,
@@ -167,6 +153,33 @@ impl Journal {
         requires { 0 < self.old.room }
         ensures { self.new ≡ with_event self.old (Closed moment) self.old.counts }
     {
-        self.events.push_reserved(Event::Closed { moment });
+        self.keeper.tell(Event::Closed { moment });
     }
 }
+
+impl Journal<Stored> {
+    ghost use Rattle.journal_core.specs.Books.{no_counts};
+
+    /// A journal with no event, and room for `room` of them.
+    pub fn try_new(alloc: Global, room: usize) -> Result<Journal, Memory>
+        requires { room ≤ MAX_EVENTS }
+        ensures { IfOk result (λ j. (j.events ≡ []) × (j.counts ≡ no_counts) × (room ≤ j.room)) }
+    {
+        Journal::try_over(Stored::new(alloc), room)
+    }
+
+    /// The events so far, in order.
+    pub fn events(&self) -> &[Event]
+        ensures { result.now ≡ self.now.events }
+    {
+        self.keeper.events()
+    }
+
+    /// Where its memory comes from.
+    pub fn allocator(&self) -> Global {
+        self.keeper.allocator()
+    }
+}
+
+// A journal that stores no event takes the bytes of its counts alone.
+const _: () = prove!(size_of::<Journal<Unstored>>() == size_of::<Counts>());

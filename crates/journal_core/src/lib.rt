@@ -5,7 +5,9 @@
 
 mod event;
 mod fates;
+mod ghost_events;
 mod journal;
+mod keeper;
 mod outcome;
 mod step;
 mod totals;
@@ -14,7 +16,9 @@ mod tuple_rows;
 pub use codel_core::Mark;
 pub use event::{Cause, Event};
 pub use fates::Fates;
-pub use journal::{Counts, Journal, MAX_EVENTS};
+pub use ghost_events::GhostEvents;
+pub use journal::{Counts, Journal};
+pub use keeper::{Keeps, MAX_EVENTS, Stored, Unstored};
 pub use outcome::{Answer, Outcome};
 pub use step::{Admitted, CloseFault, Memory, MomentFault, Refusal, Sent, Step};
 pub use totals::Totals;

@@ -1,6 +1,4 @@
-mod Examples
-mod HashedBytesExample
-pub mod Numbers
-mod Ranges
-pub mod Reading
-pub mod Texts
+mod HashedBytes
+pub mod NumberLemmas
+pub mod TextLemmas
+pub mod WordLemmas

@@ -1,4 +1,4 @@
-use Rattle.std.specs.Prelude.{ℕ, ◌≤◌}
+use Rattle.std.specs.Prelude.{◌≡◌, ℕ, ◌≤◌, ◌⊎◌, List, [], ◌∷◌}
 use Rattle.packet_core.specs.declared.params.ParamFields.{ParamFields}
 use Rattle.packet_core.specs.declared.params.EcnUse.TheVariants.{Mark}
 use Rattle.packet_core.specs.declared.params.Classify.TheVariants.{Hash}
@@ -19,37 +19,49 @@ standard_fields =
       classify = Hash;
     }
 
--- packets
+-- the parameters that have a range, in the order in which the ranges are tested
+abbrev pub ranged : List ParamName
+ranged = Limit ∷ Flows ∷ Quantum ∷ Mtu ∷ Target ∷ Interval ∷ []
+
+-- the least and the greatest value of a parameter
+abbrev pub range_of : ParamName → ℕ × ℕ
+range_of Limit = (1, 1048576)
+range_of Flows = (1, 65536)
+range_of Quantum = (1, 1000000)
+range_of Mtu = (0, 65535)
+range_of Target = (0, 1000000000)
+range_of Interval = (1, 1000000000)
+
+-- what a parameter is set to
+abbrev pub value_of : ParamName → ParamFields → ℕ
+value_of Limit p = p.limit
+value_of Flows p = p.flows
+value_of Quantum p = p.quantum
+value_of Mtu p = p.mtu
+value_of Target p = p.target
+value_of Interval p = p.interval
+
+-- a value is one that the parameter can have
+abbrev pub IsValueOf : ParamName → ℕ → Type 0
+IsValueOf name n = ((range_of name).0 ≤ n) × (n ≤ (range_of name).1)
+
 abbrev pub IsLimitInRange : ℕ → Type 0
-IsLimitInRange n = (1 ≤ n) × (n ≤ 1048576)
+IsLimitInRange n = IsValueOf Limit n
 
 abbrev pub IsFlowsInRange : ℕ → Type 0
-IsFlowsInRange n = (1 ≤ n) × (n ≤ 65536)
+IsFlowsInRange n = IsValueOf Flows n
 
--- bytes
 abbrev pub IsQuantumInRange : ℕ → Type 0
-IsQuantumInRange n = (1 ≤ n) × (n ≤ 1000000)
+IsQuantumInRange n = IsValueOf Quantum n
 
--- bytes
 abbrev pub IsMtuInRange : ℕ → Type 0
-IsMtuInRange n = n ≤ 65535
+IsMtuInRange n = IsValueOf Mtu n
 
--- microseconds
 abbrev pub IsTargetInRange : ℕ → Type 0
-IsTargetInRange n = n ≤ 1000000000
+IsTargetInRange n = IsValueOf Target n
 
--- microseconds
 abbrev pub IsIntervalInRange : ℕ → Type 0
-IsIntervalInRange n = (1 ≤ n) × (n ≤ 1000000000)
-
--- the parameter of that name is in its range
-abbrev pub IsInRange : ParamName → ParamFields → Type 0
-IsInRange Limit p = IsLimitInRange p.limit
-IsInRange Flows p = IsFlowsInRange p.flows
-IsInRange Quantum p = IsQuantumInRange p.quantum
-IsInRange Mtu p = IsMtuInRange p.mtu
-IsInRange Target p = IsTargetInRange p.target
-IsInRange Interval p = IsIntervalInRange p.interval
+IsIntervalInRange n = IsValueOf Interval n
 
 -- each parameter is in its range
 pub record AreInRange (p : ParamFields) : Type 0 where
@@ -60,16 +72,12 @@ pub record AreInRange (p : ParamFields) : Type 0 where
   pub target : IsTargetInRange p.target
   pub interval : IsIntervalInRange p.interval
 
--- the parameters before that one are in their ranges
-abbrev pub AreInRangeBefore : ParamName → ParamFields → Type 0
-AreInRangeBefore Limit p = Unit {0}
-AreInRangeBefore Flows p = IsLimitInRange p.limit
-AreInRangeBefore Quantum p = IsLimitInRange p.limit × IsFlowsInRange p.flows
-AreInRangeBefore Mtu p = IsLimitInRange p.limit × IsFlowsInRange p.flows × IsQuantumInRange p.quantum
-AreInRangeBefore Target p = IsLimitInRange p.limit × IsFlowsInRange p.flows × IsQuantumInRange p.quantum × IsMtuInRange p.mtu
-AreInRangeBefore Interval p =
-    IsLimitInRange p.limit × IsFlowsInRange p.flows × IsQuantumInRange p.quantum × IsMtuInRange p.mtu × IsTargetInRange p.target
+-- of those parameters, that one is the first that is out of its range
+abbrev pub IsFirstOutOf : List ParamName → ParamName → ParamFields → Type 0
+IsFirstOutOf [] name p = ⊥
+IsFirstOutOf (next ∷ names) name p =
+    ((name ≡ next) × ¬ IsValueOf next (value_of next p)) ⊎ (IsValueOf next (value_of next p) × IsFirstOutOf names name p)
 
 -- that parameter is the first one that is out of its range
 abbrev pub IsFirstOutOfRange : ParamName → ParamFields → Type 0
-IsFirstOutOfRange name p = (¬ IsInRange name p) × AreInRangeBefore name p
+IsFirstOutOfRange name p = IsFirstOutOf ranged name p

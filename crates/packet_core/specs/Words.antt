@@ -4,7 +4,7 @@ use Rattle.std.specs.Char.{is_ascii_digit}
 use Rattle.std.specs.List.{take_while}
 use Rattle.std.specs.Str.{all_ascii_digits, bytes_eq}
 use Rattle.std.specs.Str.Parse.{digits_value}
-use Rattle.packet_core.specs.Params.{standard_fields}
+use Rattle.packet_core.specs.Params.{range_of, standard_fields}
 use Rattle.packet_core.specs.declared.params.Classify.TheVariants.{Dport, Hash}
 use Rattle.packet_core.specs.declared.params.EcnUse.TheVariants as ecn_use
 use Rattle.packet_core.specs.declared.params.ParamFields.{ParamFields}
@@ -67,12 +67,7 @@ amount_of Interval text = time_of text
 
 -- whether a value is one that the parameter can have
 abbrev pub is_in_range : ParamName → ℕ → Bool
-is_in_range Limit n = nat_le 1 n && nat_le n 1048576
-is_in_range Flows n = nat_le 1 n && nat_le n 65536
-is_in_range Quantum n = nat_le 1 n && nat_le n 1000000
-is_in_range Mtu n = nat_le n 65535
-is_in_range Target n = nat_le n 1000000000
-is_in_range Interval n = nat_le 1 n && nat_le n 1000000000
+is_in_range name n = nat_le (range_of name).0 n && nat_le n (range_of name).1
 
 -- the parameters with one of them at this value
 abbrev pub with_value : ParamName → ℕ → ParamFields → ParamFields

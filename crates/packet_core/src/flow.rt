@@ -1,3 +1,5 @@
+//! The choice of a packet's flow.
+
 ghost use Rattle.std.specs.Prelude.{◌≡◌, ◌<◌};
 ghost use Rattle.packet_core.specs.FlowNumber.{flow_number, hash_value, hashed_message};
 

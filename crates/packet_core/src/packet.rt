@@ -1,3 +1,5 @@
+//! Packets, their five-tuples and their ECN fields.
+
 ghost use Rattle.std.specs.Prelude.{◌≡◌, ◌≤◌, ◌↔◌, IsOk, IfOk};
 ghost use Rattle.packet_core.specs.Packets.{IsLengthInRange};
 

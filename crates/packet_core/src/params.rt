@@ -1,3 +1,5 @@
+//! The parameters of a scheduler and their ranges.
+
 ghost use Rattle.std.specs.Prelude.{◌≡◌, ◌↔◌, IsOk, IfOk, IfErr};
 ghost use Rattle.packet_core.specs.Params.{IsLimitInRange, IsFlowsInRange, IsQuantumInRange, IsMtuInRange, IsTargetInRange, IsIntervalInRange};
 

@@ -1,3 +1,5 @@
+//! The ends of each range, and what a refusal names.
+
 mod flows;
 mod words;
 

@@ -11,7 +11,7 @@ use Rattle.journal_core.specs.History.{AreCounts, IsHistory}
 use Rattle.sched_core.specs.Schedulers.{Scheduler}
 
 -- what callers see of a scheduler's fields
-abbrev pub scheduler_of : Inside → Scheduler
+abbrev pub scheduler_of : {K : Type 0} → Inside K → Scheduler
 scheduler_of s = record {
   params = s.params;
   seed = s.seed;
@@ -43,5 +43,5 @@ pub record IsBookKept (p : ParamFields) (seed : Seed) (held : Held) (book : Book
   pub counts : AreCounts book.counts book.events
 
 -- what holds of a scheduler's fields
-abbrev pub IsKept : Inside → Type 0
+abbrev pub IsKept : {K : Type 0} → Inside K → Type 0
 IsKept s = IsBookKept s.params s.seed s.backlog s.journal s.last_moment s.is_closed s.room

@@ -1,4 +1,4 @@
-ghost use Rattle.std.specs.Prelude.{◌≡◌, ◌≢◌, ◌+◌, ◌-◌, ◌<◌, ◌≤◌, max, All, Some, None, IfOk, IfErr, IsOk, MatchResult, OnOk, OnErr};
+ghost use Rattle.std.specs.Prelude.{◌≡◌, ◌≢◌, ◌+◌, ◌-◌, ◌<◌, ◌≤◌, [], max, All, Some, None, IfOk, IfErr, IsOk, MatchResult, OnOk, OnErr};
 ghost use Rattle.journal_core.specs.State.{moment_fault_of, Tests};
 ghost use Rattle.journal_core.specs.declared.outcome.Answer.TheVariants as answer;
 ghost use Rattle.journal_core.specs.declared.step.Refusal.TheVariants as refusal;
@@ -6,8 +6,8 @@ ghost use Rattle.journal_core.specs.declared.step.Refusal.TheVariants as refusal
 use codel_core::Served;
 use fair_core::{Backlog, FlowView};
 use journal_core::{
-    Admitted, Answer, CloseFault, Event, Journal, Memory, MomentFault, Refusal, Sent, Step, Totals,
-    TupleRow, gather_rows,
+    Admitted, Answer, CloseFault, Event, Journal, Keeps, Memory, MomentFault, Refusal, Sent, Step,
+    Stored, Totals, TupleRow, gather_rows,
 };
 use packet_core::{Packet, Params, Seed, Waiting, flow_of};
 use std::alloc::{AllocError, Global};
@@ -57,20 +57,21 @@ fn sent_of(served: &Served, moment: u64) -> Sent
     }
 }
 
-/// A packet scheduler by FQ-CoDel (RFC 8290), with the journal of what became of every packet.
+/// A packet scheduler by FQ-CoDel (RFC 8290), with the journal of what became of every packet. The journal tells its
+/// events to a keeper, which stores all of them unless another is chosen.
 #[derive(Debug, Drop)]
-pub struct Sched {
+pub struct Sched<K: Keeps = Stored> {
     params: Params,
     seed: Seed,
     backlog: Backlog,
-    journal: Journal,
+    journal: Journal<K>,
     last_moment: u64,
     is_closed: bool,
     turns: u64,
     room: u64,
 }
 
-impl Model for Sched {
+impl<K: Keeps> Model for Sched<K> {
     ghost use Rattle.sched_core.specs.Schedulers.{Scheduler};
 
     ghost Value = { Scheduler };
@@ -82,7 +83,7 @@ impl Model for Sched {
     ghost invariant = { IsKept };
 }
 
-impl Sched {
+impl<K: Keeps> Sched<K> {
     ghost use Rattle.flow_core.specs.FlowLists.{waiting_in};
     ghost use Rattle.sched_core.specs.AnyStep.{GoesOn, WantsRoom};
     ghost use Rattle.journal_core.specs.Calls.{admitted_at, close_refusal};
@@ -93,17 +94,22 @@ impl Sched {
     ghost use Rattle.fair_core.specs.Shown.{flow_shown};
     ghost use Rattle.journal_core.specs.State.{refusal_of, IsRefusal};
     ghost use Rattle.journal_core.specs.Statistics.{statistics};
-    ghost use Rattle.journal_core.specs.TupleRows.{tuple_rows};
     ghost use Rattle.journal_core.specs.declared.step.Step.TheVariants.{Enqueue, Dequeue, Close};
 
-    /// A scheduler before its first step. Room for the close, for both lists of flows, for the credits and for
-    /// CoDel's states is taken here.
-    pub fn try_new(alloc: Global, params: Params, seed: Seed) -> Result<Sched, Memory>
+    /// A scheduler before its first step, which tells its events to a keeper that was told none. Room for the close,
+    /// for both lists of flows, for the credits and for CoDel's states is taken here.
+    pub fn try_with_keeper(
+        alloc: Global,
+        params: Params,
+        seed: Seed,
+        keeper: K,
+    ) -> Result<Sched<K>, Memory>
+        requires { K.events keeper ≡ [] }
         ensures { IfOk result (λ s. s ≡ new_scheduler params seed) }
     {
         Ok(Sched {
             backlog: Backlog::try_new(alloc, params.flows())?,
-            journal: Journal::try_new(alloc, 1)?,
+            journal: Journal::try_over(keeper, 1)?,
             params,
             seed,
             last_moment: 0,
@@ -302,13 +308,12 @@ impl Sched {
         self.backlog.view(flow)
     }
 
-    /// The journal: what became of every packet, in order.
-    pub fn events(&self) -> &[Event]
-        ensures value { result.now ≡ self.now.standing.events }
-        ensures laws { JournalLaws (discipline_of self.now).flow_of result.now }
-        ensures waiting { WaitWithoutFate (queue_of (flows_of self.now)) result.now }
+    /// The laws of the journal at every moment, whether its events are stored or not.
+    pub fn journal_laws(&self)
+        ensures laws { JournalLaws (discipline_of self.now).flow_of self.now.standing.events }
+        ensures waiting { WaitWithoutFate (queue_of (flows_of self.now)) self.now.standing.events }
     {
-        self.journal.events()
+        let _ = &self.journal;
     }
 
     /// The statistics of the journal.
@@ -331,15 +336,6 @@ impl Sched {
             queued_bytes: counts.accepted_bytes - (counts.sent_bytes + counts.dropped_bytes),
             closed: self.is_closed,
         }
-    }
-
-    /// What became of the packets of each five-tuple, in order of first acceptance. It goes once through the journal,
-    /// and fails for want of memory alone.
-    pub fn tuple_rows(&self) -> Result<Vec<TupleRow>, Memory>
-        ensures rows { IfOk result (λ rows. rows.items ≡ tuple_rows self.now.standing.events) }
-        ensures balance { IfOk result (λ rows. All (λ row. row.accepted ≡ row.sent + row.dropped + row.queued) rows.items) }
-    {
-        gather_rows(self.journal.allocator(), self.events())
     }
 
     /// How many packets wait.
@@ -392,5 +388,39 @@ impl Sched {
             return Err(CloseFault::ClosedAlready);
         }
         Ok(())
+    }
+}
+
+impl Sched<Stored> {
+    ghost use Rattle.fair_core.specs.FairQueues.{queue_of};
+    ghost use Rattle.journal_core.specs.JournalLaws.{JournalLaws, WaitWithoutFate};
+    ghost use Rattle.sched_core.specs.Schedulers.{discipline_of, flows_of, new_scheduler};
+    ghost use Rattle.journal_core.specs.TupleRows.{tuple_rows};
+
+    /// A scheduler before its first step. Room for the close, for both lists of flows, for the credits and for
+    /// CoDel's states is taken here.
+    pub fn try_new(alloc: Global, params: Params, seed: Seed) -> Result<Sched, Memory>
+        ensures { IfOk result (λ s. s ≡ new_scheduler params seed) }
+    {
+        Sched::try_with_keeper(alloc, params, seed, Stored::new(alloc))
+    }
+
+    /// The journal: what became of every packet, in order.
+    pub fn events(&self) -> &[Event]
+        ensures value { result.now ≡ self.now.standing.events }
+        ensures laws { JournalLaws (discipline_of self.now).flow_of result.now }
+        ensures waiting { WaitWithoutFate (queue_of (flows_of self.now)) result.now }
+    {
+        self.journal_laws();
+        self.journal.events()
+    }
+
+    /// What became of the packets of each five-tuple, in order of first acceptance. It goes once through the journal,
+    /// and fails for want of memory alone.
+    pub fn tuple_rows(&self) -> Result<Vec<TupleRow>, Memory>
+        ensures rows { IfOk result (λ rows. rows.items ≡ tuple_rows self.now.standing.events) }
+        ensures balance { IfOk result (λ rows. All (λ row. row.accepted ≡ row.sent + row.dropped + row.queued) rows.items) }
+    {
+        gather_rows(self.journal.allocator(), self.events())
     }
 }

@@ -16,8 +16,7 @@ use Rattle.packet_core.specs.declared.packet.Ecn.{Ecn}
 use Rattle.packet_core.specs.declared.packet.Ecn.TheVariants.{NotEct, Ect1, Ect0, Ce}
 use Rattle.journal_core.specs.declared.event.Cause.{Cause}
 use Rattle.journal_core.specs.declared.event.Cause.TheVariants.{Codel, Overflow}
-use Rattle.trace_core.specs.Report.{ArePlain, IsPlain, IsPlainRow, behind, cause_name, dotted, line_of, state_name}
-use Rattle.trace_core.specs.RowGrammar.{ecn_digit}
+use Rattle.trace_core.specs.Report.{ArePlain, IsPlain, IsPlainRow, behind, cause_name, dotted, ecn_digit, line_of, state_name}
 
 differs : (a b : ℕ) → a ≢ b → (a == b) ≡ false
 differs a b h = elim (cases_Bool (a == b)) [ inl same ↦ absurd (h ((Decides-eqb a b).0 same)) | inr other ↦ other ]

@@ -1,6 +1,6 @@
 -- Facts on the records that a reader has reached, and on the steps of records.
 use Rattle.std.proofs.Common.{◌≡◌, ◌∙◌, ℕ, zero, suc, ◌+◌, ◌≤◌, ◌<◌, true, false, List, [], ◌∷◌, ◌++◌, Option, Some, None, Result, Ok, Err, length, refl, ap, arith, append_assoc, inl, inr, ◌-◌, add-zero}
-use Rattle.std.specs.Prelude.{◌⊎◌, IfErr, IfOk, IfSome, nat_lt}
+use Rattle.std.specs.Prelude.{◌⊎◌, IfErr, IfSome, nat_lt}
 use Rattle.std.proofs.lemmas.Bool.{cases_Bool, lt-ltb, ltb-true}
 use Rattle.std.proofs.lemmas.List.{append-nil}
 use Rattle.csv.specs.Machine.{Read as Cut, ends_at_end, field_after, fields_after, is_end, next_record, step}
@@ -12,9 +12,9 @@ use Rattle.csv.specs.declared.parser.Config.{Config}
 use Rattle.csv.specs.declared.parser.State.{State}
 use Rattle.csv.specs.declared.parser.State.TheVariants as st
 use Rattle.journal_core.specs.declared.step.Step.{Step}
-use Rattle.trace_core.specs.declared.reader.TraceFault.{TraceFault}
-use Rattle.trace_core.specs.declared.reader.TraceFaultKind.{TraceFaultKind}
-use Rattle.trace_core.specs.declared.reader.TraceFaultKind.TheVariants.{Memory, Read, TooLarge}
+use Rattle.trace_core.specs.declared.faults.TraceFault.{TraceFault}
+use Rattle.trace_core.specs.declared.faults.TraceFaultKind.{TraceFaultKind}
+use Rattle.trace_core.specs.declared.faults.TraceFaultKind.TheVariants.{Memory, Read, TooLarge}
 use Rattle.trace_core.specs.Rows.{◌>>=◌, row_of}
 use Rattle.trace_core.specs.Traces.{FailsAtRow, FailsBehind, IsFaultOf, ReadsUpTo, StopsAtRow, TextReader, at_row}
 use Rattle.trace_core.specs.Traces.{csv_fault, is_blank, steps_from, steps_of, text_left, trace_of}
@@ -227,11 +227,6 @@ whole_trace (Some bytes) text r same small e = rw (← same, not_large 134217728
 large_trace : (known : Option (List ℕ)) → IfSome known (λ bytes. 134217728 < length bytes) → IfSome known (λ bytes. trace_of bytes ≡ Err (record { row = 0; what = TooLarge }))
 large_trace None large = tt
 large_trace (Some bytes) large = rw (lt-ltb 134217728 (length bytes) large) refl
-
-pub rows_steps : {V : Type 0} (items : V → List Step) (known : Option (List ℕ)) (text : List ℕ) (r : Result V TraceFault) → IfSome known (λ bytes. text ≡ bytes) → length text ≤ 134217728
-    → IfOk r (λ v. steps_of text ≡ Ok (items v)) → IfOk r (λ v. IfSome known (λ bytes. trace_of bytes ≡ Ok (items v)))
-rows_steps items known text (Ok v) same small e = whole_trace known text (Ok (items v)) same small e
-rows_steps items known text (Err fault) same small e = tt
 
 pub row_fault_of : (known : Option (List ℕ)) (text : List ℕ) (fault : TraceFault) → IfSome known (λ bytes. text ≡ bytes)
     → length text ≤ 134217728 → (steps_of text ≡ Err fault) ⊎ StopsAtRow text fault → IfSome known (λ bytes. IsFaultOf bytes fault)

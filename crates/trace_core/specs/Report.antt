@@ -21,6 +21,8 @@ use Rattle.journal_core.specs.declared.tuple_rows.TupleRow.{TupleRow}
 use Rattle.journal_core.specs.TupleRows.{tuple_rows}
 use Rattle.packet_core.specs.Packets.{ip_bytes}
 use Rattle.packet_core.specs.declared.flow.Seed.{Seed}
+use Rattle.packet_core.specs.declared.packet.Ecn.{Ecn}
+use Rattle.packet_core.specs.declared.packet.Ecn.TheVariants.{NotEct, Ect1, Ect0, Ce}
 use Rattle.packet_core.specs.declared.params.ParamFields.{ParamFields}
 use Rattle.fair_core.specs.FairQueues.{FairQueues, no_queues}
 use Rattle.fair_core.specs.FqCodel.{fq_codel}
@@ -30,7 +32,13 @@ use Rattle.sched_core.specs.Schedulers.{Scheduler, discipline_of}
 use Rattle.journal_core.specs.Steps.{Steps}
 use Rattle.trace_core.specs.Traces.{steps_of, trace_of}
 use Rattle.trace_core.specs.declared.report.Rows.{Rows}
-use Rattle.trace_core.specs.RowGrammar.{ecn_digit}
+
+-- the digit for an ECN field
+abbrev pub ecn_digit : Ecn → List ℕ
+ecn_digit NotEct = codes "0"
+ecn_digit Ect1 = codes "1"
+ecn_digit Ect0 = codes "2"
+ecn_digit Ce = codes "3"
 
 -- the word for a cause
 abbrev pub cause_name : Cause → List ℕ
@@ -142,7 +150,7 @@ IsPlainRow [] = ⊥
 IsPlainRow (field ∷ rest) = (0 < length field) × IsPlain field × ArePlain rest
 
 -- These bytes are written behind the rows so far, whatever those are.
-abbrev pub Adds : Rows → Rows → List ℕ → Type 0
+unfoldable pub Adds : Rows → Rows → List ℕ → Type 0
 Adds old new more = (text : List ℕ) → HasText old text → HasText new (text ++ more)
 
 -- A step is made, and the rows of what it gave are written.

@@ -1,8 +1,8 @@
 -- How a row's fields read, as the step that they ask for or the first fault.
-use Rattle.std.specs.Prelude.{ℕ, ◌^◌, Bool, not, List, [], ◌∷◌, Option, Some, None, Result, Ok, Err, option_and_then, option_map, length, get_or, nat_lt, nat_le, ◌==◌, ◌&&◌, if◌then◌else◌}
+use Rattle.std.specs.Prelude.{ℕ, ◌+◌, ◌^◌, Bool, List, [], ◌∷◌, Option, Some, None, Result, Ok, Err, option_and_then, option_map, length, get_or, take, drop, nat_lt, nat_le, ◌==◌, ◌&&◌, if◌then◌else◌}
 use Rattle.std.specs.Prelude.{ok_or, codes}
 use Rattle.std.specs.Char.{digit_value}
-use Rattle.std.specs.List.{list_all}
+use Rattle.std.specs.List.{list_all, position}
 use Rattle.std.specs.Str.{bytes_eq}
 use Rattle.std.specs.Str.Parse.{digits_value}
 use Rattle.packet_core.specs.Packets.{PacketParts}
@@ -12,8 +12,8 @@ use Rattle.packet_core.specs.declared.packet.Ip.{Ip}
 use Rattle.packet_core.specs.declared.packet.Ip.TheVariants.{V4}
 use Rattle.journal_core.specs.declared.step.Step.{Step}
 use Rattle.journal_core.specs.declared.step.Step.TheVariants as step
-use Rattle.trace_core.specs.declared.reader.TraceFaultKind.{TraceFaultKind}
-use Rattle.trace_core.specs.declared.reader.TraceFaultKind.TheVariants.{BadKind, BadFieldCount, BadNumber, BadAddress, BadEcn, LengthOutOfRange}
+use Rattle.trace_core.specs.declared.faults.TraceFaultKind.{TraceFaultKind}
+use Rattle.trace_core.specs.declared.faults.TraceFaultKind.TheVariants.{BadKind, BadFieldCount, BadNumber, BadAddress, BadEcn, LengthOutOfRange}
 use Rattle.trace_core.specs.declared.row.RowKind.{RowKind}
 use Rattle.trace_core.specs.declared.row.RowKind.TheVariants.{Enqueue, Dequeue, Close}
 
@@ -31,9 +31,17 @@ x >>? next = option_and_then next x
 abbrev pub is_numeral : List ℕ → Bool
 is_numeral text = nat_lt 0 (length text) && list_all (λ byte. nat_lt (digit_value byte) 10) text
 
--- a number below a bound
+-- the value of a text of one or more decimal digits
+unfoldable pub numeral_of : List ℕ → Option ℕ
+numeral_of text = if is_numeral text then Some (digits_value 10 text) else None
+
+-- a number, where it is below a bound
+abbrev pub below : ℕ → ℕ → Option ℕ
+below bound n = if nat_lt n bound then Some n else None
+
+-- the number that a text writes, below a bound
 unfoldable pub number_of : ℕ → List ℕ → Result ℕ TraceFaultKind
-number_of bound text = if is_numeral text && nat_lt (digits_value 10 text) bound then Ok (digits_value 10 text) else Err BadNumber
+number_of bound text = ok_or (numeral_of text >>? below bound) BadNumber
 
 -- whether a packet can have this length
 abbrev pub is_length : ℕ → Bool
@@ -41,7 +49,7 @@ is_length len = nat_le 1 len && nat_le len 65535
 
 -- a packet's length
 unfoldable pub length_of : List ℕ → Result ℕ TraceFaultKind
-length_of text = if is_numeral text then (if is_length (digits_value 10 text) then Ok (digits_value 10 text) else Err LengthOutOfRange) else Err BadNumber
+length_of text = ok_or (numeral_of text) BadNumber >>= λ len. if is_length len then Ok len else Err LengthOutOfRange
 
 -- an ECN field
 unfoldable pub ecn_of : List ℕ → Result Ecn TraceFaultKind
@@ -62,8 +70,7 @@ kind_of name =
 
 -- what stands before a text's first dot, and what behind it
 unfoldable pub cut_of : List ℕ → Option (List ℕ × List ℕ)
-cut_of [] = None
-cut_of (byte ∷ text) = if byte == 46 then Some ([], text) else option_map (λ parts. (byte ∷ parts.0, parts.1)) (cut_of text)
+cut_of text = option_map (λ place. (take place text, drop (place + 1) text)) (position (λ byte. byte == 46) text)
 
 -- whether a zero stands before another byte
 abbrev pub starts_with_zero : List ℕ → Bool
@@ -71,8 +78,7 @@ starts_with_zero text = nat_lt 1 (length text) && (get_or text 0 0 == 48)
 
 -- a number from 0 to 255 without leading zeros
 unfoldable pub octet_of : List ℕ → Option ℕ
-octet_of text =
-    if is_numeral text && nat_lt (digits_value 10 text) (2 ^ 8) && not (starts_with_zero text) then Some (digits_value 10 text) else None
+octet_of text = if starts_with_zero text then None else numeral_of text >>? below (2 ^ 8)
 
 -- four of them, joined by dots
 unfoldable pub four_octets_of : List ℕ → Option Ip

@@ -13,9 +13,9 @@ use Rattle.csv.specs.declared.reader.Trim.TheVariants as trim
 use Rattle.journal_core.specs.declared.step.Step.{Step}
 use Rattle.trace_core.specs.declared.reader.Next.{Next}
 use Rattle.trace_core.specs.declared.reader.Next.TheVariants as next
-use Rattle.trace_core.specs.declared.reader.TraceFault.{TraceFault}
-use Rattle.trace_core.specs.declared.reader.TraceFaultKind.{TraceFaultKind}
-use Rattle.trace_core.specs.declared.reader.TraceFaultKind.TheVariants.{Memory, Read, TooLarge}
+use Rattle.trace_core.specs.declared.faults.TraceFault.{TraceFault}
+use Rattle.trace_core.specs.declared.faults.TraceFaultKind.{TraceFaultKind}
+use Rattle.trace_core.specs.declared.faults.TraceFaultKind.TheVariants.{Memory, Read, TooLarge}
 use Rattle.trace_core.specs.declared.reader.TraceRows.{TraceRows}
 use Rattle.trace_core.specs.Rows.{◌>>=◌, field_of, row_of}
 

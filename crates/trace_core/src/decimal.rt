@@ -1,3 +1,4 @@
+//! Numbers in decimal digits, as a report has them.
 ghost use Rattle.std.specs.Prelude.{◌≡◌};
 ghost use Rattle.std.specs.Fmt.{decimal};
 ghost use Rattle.trace_core.specs.Report.{IsPlain};

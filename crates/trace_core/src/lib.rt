@@ -6,12 +6,14 @@
 #![tactic(auto)]
 
 mod decimal;
+mod faults;
 mod reader;
 mod report;
 mod row;
 mod streams;
 mod trace_run;
 
-pub use reader::{MAX_BYTES, MAX_ROWS, TraceFault, TraceFaultKind, read_trace, read_trace_from};
+pub use faults::{MAX_BYTES, MAX_ROWS, TraceFault, TraceFaultKind};
+pub use reader::{read_trace, read_trace_from};
 pub use streams::{Sink, Source};
 pub use trace_run::{RunFault, run, run_between};

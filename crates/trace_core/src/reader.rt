@@ -1,66 +1,19 @@
+//! The reading of a trace: its bytes, the records that `csv` cuts off them, and the rows and steps of these.
 ghost use Rattle.std.specs.Prelude.{◌≡◌, ◌<◌, ◌≤◌, ◌⊎◌, ◌∷◌, [], ℕ, ◌++◌, IfErr, IfOk, IfSome, IsErrOf, List, Ok, Err, false, length, true, vec_len};
 ghost use Rattle.csv.specs.Reading.{default_config, error_kind, records, strip_bom};
 ghost use Rattle.csv.specs.Records.{fields_of};
 ghost use Rattle.trace_core.specs.Traces as Traces;
 
+use crate::faults::{MAX_BYTES, MAX_ROWS, TraceFault, TraceFaultKind};
 use crate::row::{field, read_row};
 use crate::streams::{Source, Watched};
 use csv::{ByteRecord, ErrorKind, ReaderBuilder};
 use sched_core::Step;
 use std::alloc::Global;
 use std::io::Read;
-use thiserror::Error;
-
-/// The most bytes that a trace has.
-pub const MAX_BYTES: usize = 134_217_728;
-
-/// The most rows that a trace has.
-pub const MAX_ROWS: u64 = 1_000_000;
 
 /// How many bytes are asked for at once.
 const CHUNK: usize = 65_536;
-
-/// What is wrong with a trace.
-#[derive(Clone, Copy, Debug, PartialEq, Eq, Error)]
-pub enum TraceFaultKind {
-    /// The bytes couldn't be read.
-    #[error("Read")]
-    Read,
-    /// There are more than `MAX_BYTES` bytes or more than `MAX_ROWS` rows.
-    #[error("TooLarge")]
-    TooLarge,
-    /// The first field isn't `enq`, `deq` or `close`.
-    #[error("BadKind")]
-    BadKind,
-    /// The row has another number of fields than its kind has.
-    #[error("BadFieldCount")]
-    BadFieldCount,
-    /// A number isn't written in decimal digits, or is too large for its field.
-    #[error("BadNumber")]
-    BadNumber,
-    /// An address isn't four numbers from 0 to 255, without leading zeros and joined by dots.
-    #[error("BadAddress")]
-    BadAddress,
-    /// The ECN field isn't one digit from 0 to 3.
-    #[error("BadEcn")]
-    BadEcn,
-    /// A packet's length is outside 1 to 65,535 bytes.
-    #[error("LengthOutOfRange")]
-    LengthOutOfRange,
-    /// A growth was refused.
-    #[error("Memory")]
-    Memory,
-}
-
-/// Why a trace wasn't read.
-#[derive(Clone, Copy, Debug, PartialEq, Eq, Error)]
-#[error("row {row}: {what}")]
-pub struct TraceFault {
-    /// The row, from 1, and 0 where the fault came before the first row.
-    pub row: u64,
-    /// What is wrong there.
-    pub what: TraceFaultKind,
-}
 
 /// The steps of the trace that a reader gives, one for each row, in order. It refuses a trace whose bytes
 /// can't be read or are too many, and then the first faulty row.

@@ -1,9 +1,9 @@
+//! The rows of a report, and its text.
 ghost use Rattle.std.specs.Prelude.{◌≡◌, ◌++◌, ◌∷◌, [], ℕ, List, IfOk, OnOk, map, string_bytes};
 ghost use Rattle.journal_core.specs.Statistics.{statistics};
 ghost use Rattle.journal_core.specs.TupleRows.{tuple_rows};
 ghost use Rattle.packet_core.specs.Packets.{ip_bytes};
 ghost use Rattle.trace_core.specs.Report as Report;
-ghost use Rattle.trace_core.specs.RowGrammar.{ecn_digit};
 
 use crate::decimal::Digits;
 use csv::{Writer, WriterBuilder};
@@ -213,7 +213,7 @@ impl Rows {
 
 /// The two bits of an ECN field as a number.
 fn ecn_digit(ecn: Ecn) -> &'static [u8]
-    ensures { result.now ≡ ecn_digit ecn }
+    ensures { result.now ≡ Report.ecn_digit ecn }
 {
     match ecn {
         Ecn::NotEct => b"0",

@@ -1,17 +1,12 @@
-ghost use Rattle.std.specs.Prelude.{◌≡◌, ◌≢◌, ◌<◌, ◌^◌, ◌↔◌, min, Contains, IfErr, IfOk, IfSome, IsNone, IsTrue, Ok};
+//! One row of a trace: its fields, from left to right, and the step that they ask for.
+ghost use Rattle.std.specs.Prelude.{◌≡◌, ◌≢◌, ◌<◌, ◌^◌, min, option_map, IfErr, IfOk};
 ghost use Rattle.std.specs.Char.{digit_value};
 ghost use Rattle.std.specs.Option.{SomeIff};
-ghost use Rattle.std.specs.Result.{IsOkUnless, OkIff};
-ghost use Rattle.std.specs.Str.Parse.{IsNumeral, digits_value};
 ghost use Rattle.packet_core.specs.Packets.{IsLengthInRange};
-ghost use Rattle.packet_core.specs.declared.packet.Ecn.{Ecn};
-ghost use Rattle.packet_core.specs.declared.packet.Ip.{Ip};
 ghost use Rattle.csv.specs.Records.{fields_of};
-ghost use Rattle.trace_core.specs.declared.row.RowKind.{RowKind};
-ghost use Rattle.trace_core.specs.Rows.{address_of, field_of, fields_of_kind, four_octets_of, packet_of, row_of};
-ghost use Rattle.trace_core.specs.RowGrammar.{HasLeadingZero, IsAddress, IsCutAtDot, IsLengthFault, IsNumberBelow, IsOctet, ecn_digit, kind_name};
+ghost use Rattle.trace_core.specs.Rows.{address_of, cut_of, ecn_of, field_of, fields_of_kind, four_octets_of, kind_of, length_of, number_of, numeral_of, octet_of, packet_of, row_of, starts_with_zero};
 
-use crate::reader::TraceFaultKind;
+use crate::faults::TraceFaultKind;
 use csv::ByteRecord;
 use packet_core::{Ecn, FiveTuple, Ip, MAX_LENGTH, Packet};
 use sched_core::{MAX_MOMENT, Step};
@@ -44,6 +39,7 @@ impl RowKind {
 
 /// The step that a row asks for. It refuses a first field that names no kind, then another number of fields
 /// than the kind has, then the first faulty field from the left.
+#[tactic(auto, unfolding(crate::specs::Rows::row_of))]
 pub(crate) fn read_row(row: &ByteRecord) -> Result<Step, TraceFaultKind>
     ensures value { result ≡ row_of (fields_of row.now) }
     ensures fault { IfErr result (λ fault. fault ≢ TraceFaultKind.Read) }
@@ -75,20 +71,24 @@ pub(crate) fn field(row: &ByteRecord, place: usize) -> &[u8]
 }
 
 /// What a row's first field asks for.
+#[tactic(auto, unfolding(crate::specs::Rows::kind_of))]
 fn read_kind(name: &[u8]) -> Result<RowKind, TraceFaultKind>
-    ensures name { IfOk result (λ kind. name.now ≡ kind_name kind) }
-    ensures succeeds { (kind : RowKind) → name.now ≡ kind_name kind → result ≡ Ok kind }
-    ensures fault { IsOkUnless result TraceFaultKind.BadKind }
+    ensures value { result ≡ kind_of name.now }
+    ensures fault { IfErr result (λ fault. fault ≢ TraceFaultKind.Read) }
 {
-    match name {
-        b"enq" => Ok(RowKind::Enqueue),
-        b"deq" => Ok(RowKind::Dequeue),
-        b"close" => Ok(RowKind::Close),
-        _ => Err(TraceFaultKind::BadKind),
+    if name == b"enq".as_slice() {
+        Ok(RowKind::Enqueue)
+    } else if name == b"deq".as_slice() {
+        Ok(RowKind::Dequeue)
+    } else if name == b"close".as_slice() {
+        Ok(RowKind::Close)
+    } else {
+        Err(TraceFaultKind::BadKind)
     }
 }
 
 /// The packet of a row that has all its fields, which are read from left to right.
+#[tactic(auto, unfolding(crate::specs::Rows::packet_of))]
 fn read_packet(row: &ByteRecord) -> Result<Packet, TraceFaultKind>
     ensures value { result ≡ packet_of (fields_of row.now) }
     ensures fault { IfErr result (λ fault. fault ≢ TraceFaultKind.Read) }
@@ -111,9 +111,10 @@ fn read_packet(row: &ByteRecord) -> Result<Packet, TraceFaultKind>
 }
 
 /// A moment in microseconds. It is refused where it isn't digits with a value below 2^60.
+#[tactic(auto, using(crate::proofs::Fields::below_cut), unfolding(crate::specs::Rows::number_of))]
 fn read_moment(text: &[u8]) -> Result<u64, TraceFaultKind>
-    ensures value { OkIff result (IsNumberBelow (2 ^ 60) text.now) (digits_value 10 text.now) }
-    ensures fault { IsOkUnless result TraceFaultKind.BadNumber }
+    ensures value { result ≡ number_of (2 ^ 60) text.now }
+    ensures fault { IfErr result (λ fault. fault ≢ TraceFaultKind.Read) }
 {
     match number(text) {
         Some(moment) if moment < MAX_MOMENT => Ok(moment),
@@ -122,27 +123,31 @@ fn read_moment(text: &[u8]) -> Result<u64, TraceFaultKind>
 }
 
 /// A protocol's number. It is refused where it isn't digits with a value of at most 255.
+#[tactic(auto, using(crate::proofs::Fields::below_cut), unfolding(crate::specs::Rows::number_of))]
 fn read_u8(text: &[u8]) -> Result<u8, TraceFaultKind>
-    ensures value { OkIff result (IsNumberBelow (2 ^ 8) text.now) (digits_value 10 text.now) }
-    ensures fault { IsOkUnless result TraceFaultKind.BadNumber }
+    ensures value { result ≡ number_of (2 ^ 8) text.now }
+    ensures fault { IfErr result (λ fault. fault ≢ TraceFaultKind.Read) }
 {
     let value = number(text).ok_or(TraceFaultKind::BadNumber)?;
     u8::try_from(value).map_err(|_| TraceFaultKind::BadNumber)
 }
 
 /// A port. It is refused where it isn't digits with a value of at most 65,535.
+#[tactic(auto, using(crate::proofs::Fields::below_cut), unfolding(crate::specs::Rows::number_of))]
 fn read_u16(text: &[u8]) -> Result<u16, TraceFaultKind>
-    ensures value { OkIff result (IsNumberBelow (2 ^ 16) text.now) (digits_value 10 text.now) }
-    ensures fault { IsOkUnless result TraceFaultKind.BadNumber }
+    ensures value { result ≡ number_of (2 ^ 16) text.now }
+    ensures fault { IfErr result (λ fault. fault ≢ TraceFaultKind.Read) }
 {
     let value = number(text).ok_or(TraceFaultKind::BadNumber)?;
     u16::try_from(value).map_err(|_| TraceFaultKind::BadNumber)
 }
 
 /// A length in bytes. It is refused where it isn't digits, and then where the value is outside 1 to 65,535.
+#[tactic(auto, unfolding(crate::specs::Rows::length_of))]
 fn read_length(text: &[u8]) -> Result<u32, TraceFaultKind>
-    ensures value { OkIff result (IsNumeral 10 text.now × IsLengthInRange (digits_value 10 text.now)) (digits_value 10 text.now) }
-    ensures fault { IfErr result (λ e. IsLengthFault text.now e) }
+    ensures value { result ≡ length_of text.now }
+    ensures range { IfOk result (λ len. IsLengthInRange len) }
+    ensures fault { IfErr result (λ fault. fault ≢ TraceFaultKind.Read) }
 {
     let value = number(text).ok_or(TraceFaultKind::BadNumber)?;
     match u32::try_from(value) {
@@ -152,25 +157,29 @@ fn read_length(text: &[u8]) -> Result<u32, TraceFaultKind>
 }
 
 /// The two bits of explicit congestion notification, as one digit from 0 to 3.
+#[tactic(auto, unfolding(crate::specs::Rows::ecn_of))]
 fn read_ecn(text: &[u8]) -> Result<Ecn, TraceFaultKind>
-    ensures digit { IfOk result (λ ecn. text.now ≡ ecn_digit ecn) }
-    ensures succeeds { (ecn : Ecn) → text.now ≡ ecn_digit ecn → result ≡ Ok ecn }
-    ensures fault { IsOkUnless result TraceFaultKind.BadEcn }
+    ensures value { result ≡ ecn_of text.now }
+    ensures fault { IfErr result (λ fault. fault ≢ TraceFaultKind.Read) }
 {
-    match text {
-        b"0" => Ok(Ecn::NotEct),
-        b"1" => Ok(Ecn::Ect1),
-        b"2" => Ok(Ecn::Ect0),
-        b"3" => Ok(Ecn::Ce),
-        _ => Err(TraceFaultKind::BadEcn),
+    if text == b"0".as_slice() {
+        Ok(Ecn::NotEct)
+    } else if text == b"1".as_slice() {
+        Ok(Ecn::Ect1)
+    } else if text == b"2".as_slice() {
+        Ok(Ecn::Ect0)
+    } else if text == b"3".as_slice() {
+        Ok(Ecn::Ce)
+    } else {
+        Err(TraceFaultKind::BadEcn)
     }
 }
 
 /// An address: four numbers from 0 to 255 without leading zeros, joined by dots.
+#[tactic(auto, unfolding(crate::specs::Rows::address_of))]
 fn read_address(text: &[u8]) -> Result<Ip, TraceFaultKind>
-    ensures address { IfOk result (λ ip. IsAddress text.now ip) }
-    ensures fault { IfErr result (λ fault. (fault ≡ TraceFaultKind.BadAddress) × ((ip : Ip) → ¬ (IsAddress text.now ip))) }
-    ensures reading { result ≡ address_of text.now }
+    ensures value { result ≡ address_of text.now }
+    ensures fault { IfErr result (λ fault. fault ≢ TraceFaultKind.Read) }
 {
     match address(text) {
         Some(ip) => Ok(ip),
@@ -179,10 +188,9 @@ fn read_address(text: &[u8]) -> Result<Ip, TraceFaultKind>
 }
 
 /// The address that the text is, if it is one.
+#[tactic(auto, unfolding(crate::specs::Rows::four_octets_of))]
 fn address(text: &[u8]) -> Option<Ip>
-    ensures address { IfSome result (λ ip. IsAddress text.now ip) }
-    ensures none { IsNone result → (ip : Ip) → ¬ (IsAddress text.now ip) }
-    ensures reading { result ≡ four_octets_of text.now }
+    ensures { result ≡ four_octets_of text.now }
 {
     let (first, text) = cut_at_dot(text)?;
     let (second, text) = cut_at_dot(text)?;
@@ -192,40 +200,26 @@ fn address(text: &[u8]) -> Option<Ip>
 
 /// What stands before the first dot and what stands behind it, if there is a dot.
 fn cut_at_dot(text: &[u8]) -> Option<(&[u8], &[u8])>
-    ensures parts { IfSome result (λ parts. IsCutAtDot text.now parts.0.now parts.1.now) }
-    ensures none { IsNone result → ¬ (Contains text.now 46) }
+    ensures { option_map (λ parts. (parts.0.now, parts.1.now)) result ≡ cut_of text.now }
 {
-    for place in 0..text.len() {
-        if text[place] == b'.' {
-            return Some((&text[..place], &text[place + 1..]));
-        }
-    }
-    None
+    let place = text.iter().position(|byte| *byte == b'.')?;
+    Some((&text[..place], &text[place + 1..]))
 }
 
 /// The number from 0 to 255 that the text is, written without leading zeros.
-#[tactic(auto, using(crate::proofs::Digits::long_octet))]
+#[tactic(auto, using(crate::proofs::Fields::below_cut), unfolding(crate::specs::Rows::octet_of))]
 fn octet(text: &[u8]) -> Option<u8>
-    ensures { SomeIff result (IsOctet text.now) (digits_value 10 text.now) }
+    ensures { result ≡ octet_of text.now }
 {
     if has_leading_zero(text) {
         return None;
     }
-    match text {
-        [ones] => digit(*ones),
-        [tens, ones] => Some(digit(*tens)? * 10 + digit(*ones)?),
-        [hundreds, tens, ones] => {
-            let (hundreds, tens, ones) = (digit(*hundreds)?, digit(*tens)?, digit(*ones)?);
-            let value = u16::from(hundreds) * 100 + u16::from(tens * 10 + ones);
-            u8::try_from(value).ok()
-        }
-        _ => None,
-    }
+    u8::try_from(number(text)?).ok()
 }
 
 /// Whether a zero stands before another byte.
 fn has_leading_zero(text: &[u8]) -> bool
-    ensures { IsTrue result ↔ HasLeadingZero text.now }
+    ensures { result ≡ starts_with_zero text.now }
 {
     text.len() > 1 && text[0] == b'0'
 }
@@ -233,7 +227,7 @@ fn has_leading_zero(text: &[u8]) -> bool
 /// The value of a text of one or more decimal digits, and `MAX_MOMENT` where it is more than that. A text
 /// with any other byte has none.
 fn number(text: &[u8]) -> Option<u64>
-    ensures { SomeIff result (IsNumeral 10 text.now) (min (digits_value 10 text.now) (2 ^ 60)) }
+    ensures { result ≡ option_map (λ n. min n (2 ^ 60)) (numeral_of text.now) }
 {
     if text.is_empty() {
         return None;

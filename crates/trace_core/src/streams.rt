@@ -1,3 +1,4 @@
+//! What gives a trace and what takes a report: streams that tell whether they have failed.
 ghost use Rattle.std.specs.Prelude.{◌≡◌, ◌<◌, ℕ, ◌++◌, [], List, IfOk, OnErr, Option, false, length, take, true};
 ghost use Rattle.std.specs.Io.{ReadsAtMost, WritesAtMost};
 ghost use Rattle.std.specs.Io.KnownBytes.{Appends, ReadConsumes};

@@ -1,13 +1,15 @@
+//! The run of a trace: its steps are made as its rows are read, and the report is written.
 ghost use Rattle.std.specs.Prelude.{◌≡◌, ◌≢◌, ◌≤◌, ◌⊎◌, ℕ, List, Err, IfErr, IfOk, IfSome, OnErr, OnOk, length, take, true};
 ghost use Rattle.std.specs.Result.{IsOkUnless};
 ghost use Rattle.std.specs.Io.KnownBytes.{Appends, Keeps};
 ghost use Rattle.trace_core.specs.Report.{IsReportOf, RunsStep, RunsText};
 ghost use Rattle.trace_core.specs.Traces.{CsvFails, FailsAtRow, IsAtStart, IsFaultOf, ReadFails, StopsAtRow, steps_of};
-ghost use Rattle.trace_core.specs.declared.reader.TraceFault.{TraceFault};
-ghost use Rattle.trace_core.specs.declared.reader.TraceFaultKind.TheVariants as kind;
+ghost use Rattle.trace_core.specs.declared.faults.TraceFault.{TraceFault};
+ghost use Rattle.trace_core.specs.declared.faults.TraceFaultKind.TheVariants as kind;
 ghost use Rattle.trace_core.specs.declared.trace_run.RunFault.TheVariants.{Memory, Trace};
 
-use crate::reader::{MAX_BYTES, Next, TraceFault, TraceFaultKind, TraceRows, read_text};
+use crate::faults::{MAX_BYTES, TraceFault, TraceFaultKind};
+use crate::reader::{Next, TraceRows, read_text};
 use crate::report::Rows;
 use crate::streams::{Sink, Source, Watched};
 use packet_core::{Params, Seed};

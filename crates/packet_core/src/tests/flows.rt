@@ -1,3 +1,5 @@
+//! Flows by hash and by port.
+
 use crate::{Classify, FiveTuple, Ip, ParamFields, ParamName, Params, Seed, flow_of};
 
 /// The seed of zeros.

@@ -1,3 +1,5 @@
+//! Parameter words, their faults and their places.
+
 use crate::{Classify, EcnUse, ParamFault, ParamFields, Params, read_params};
 use std::alloc::AllocError;
 use std::process::Abort;

@@ -1,5 +1,5 @@
 use Rattle.std.proofs.Common.{ℕ, ◌<◌, length}
-use Rattle.codel_core.proofs.Turns.{Midway}
+use Rattle.codel_core.proofs.ServeLemmas.{Midway}
 use Rattle.codel_core.proofs.codel.serve_from.Given as goal
 
 abbrev pub invariant-loop-state : goal.invariant-loop-state

@@ -1,4 +1,4 @@
-use Rattle.codel_core.proofs.Quotients.{spacing_from_root}
+use Rattle.codel_core.proofs.SpacingLemmas.{spacing_from_root}
 use Rattle.codel_core.proofs.control_law.spacing.Goals as goal
 
 pub returns : goal.returns

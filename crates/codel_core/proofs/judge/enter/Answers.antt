@@ -1,5 +1,5 @@
 use Rattle.std.proofs.Common.{refl}
-use Rattle.codel_core.proofs.Spacings.{spacing_found}
+use Rattle.codel_core.proofs.SpacingLemmas.{spacing_found}
 use Rattle.codel_core.proofs.judge.enter.Goals as goal
 
 pub returns : goal.returns

@@ -1,5 +1,5 @@
 use Rattle.std.proofs.Common.{sym}
-use Rattle.codel_core.proofs.Spacings.{spacing_found, spacing_is}
+use Rattle.codel_core.proofs.SpacingLemmas.{spacing_found, spacing_is}
 use Rattle.codel_core.proofs.laws.one_spacing.Goals as goal
 
 pub returns-clause-exists : goal.returns-clause-exists

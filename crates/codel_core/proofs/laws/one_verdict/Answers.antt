@@ -1,4 +1,4 @@
-use Rattle.codel_core.proofs.VerdictLaws.{verdict_exists, verdict_unique, verdict_gives, verdict_honest}
+use Rattle.codel_core.proofs.VerdictLemmas.{verdict_exists, verdict_unique, verdict_gives, verdict_honest}
 use Rattle.codel_core.proofs.laws.one_verdict.Goals as goal
 
 pub returns-clause-exists : goal.returns-clause-exists

@@ -1,6 +1,6 @@
 use Rattle.std.proofs.Common.{◌*◌, ◌/◌, ◌^◌, ◌≤◌, arith}
 use Rattle.std.proofs.Math.Pow.{pow_mono}
-use Rattle.codel_core.proofs.Digits.{first_unit, first_unit_le, first_digit, digit_one, digit_zero}
+use Rattle.codel_core.proofs.RootLemmas.{first_unit, first_unit_le, first_digit, digit_one, digit_zero}
 use Rattle.codel_core.proofs.narrow.narrow_root.Goals as goal
 
 pub overflow_sub-rest : goal.overflow_sub-rest

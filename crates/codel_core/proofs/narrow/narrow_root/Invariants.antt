@@ -1,5 +1,5 @@
 use Rattle.std.proofs.Common.{◌^◌, ◌≤◌}
-use Rattle.codel_core.proofs.Digits.{IsPartialRoot}
+use Rattle.codel_core.proofs.RootLemmas.{IsPartialRoot}
 use Rattle.codel_core.proofs.narrow.narrow_root.Given as goal
 
 abbrev pub invariant-loop-unit : goal.invariant-loop-unit

@@ -10,7 +10,7 @@ use Rattle.fair_core.proofs.backlog.drop_batch.Goals.{in-Some, in_default}
 use Rattle.fair_core.proofs.backlog.drop_batch.Goals as goal
 
 pub loop-preserved : goal.loop-preserved
-loop-preserved c =
+loop-preserved g c =
     let q = queue_at c.args.flows.now.lists c.args.flow in
     let after = c.pop.new.self.comparisons in
     let flows : c.pop.new.self ≡ without_head c.args.flows.now c.args.flow (c.loop.counter + 1) after = c.pop.ensures.rest ∙ ap (λ f. without_head f c.args.flow 1 after) c.loop.invariant.0 ∙ head_leaves c.args.flows.now c.args.flow c.loop.counter c.loop.flows.comparisons after c.requires.flow in

@@ -8,7 +8,7 @@ use Rattle.fair_core.proofs.backlog.drop_batch.Given as goal
 
 -- so many packets are dropped, with few comparisons for each
 abbrev pub invariant-loop : goal.invariant-loop
-invariant-loop l =
+invariant-loop g l =
     (l.flows ≡ without_head l.initial.flows l.flow l.counter l.flows.comparisons)
     × CountsFew (length l.initial.flows.lists.queues) (length (take l.counter (queue_at l.initial.flows.lists l.flow))) l.initial.flows.comparisons l.flows.comparisons
     × (l.journal ≡ with_drops l.initial.journal l.moment cause.Overflow (take l.counter (queue_at l.initial.flows.lists l.flow)))

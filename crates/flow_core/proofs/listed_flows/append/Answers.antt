@@ -1,5 +1,5 @@
 use Rattle.std.proofs.Common.{◌<◌, length}
-use Rattle.flow_core.proofs.Linking.{appends_some}
+use Rattle.flow_core.proofs.LinkLemmas.{appends_some}
 use Rattle.flow_core.proofs.listed_flows.append.Goals as goal
 
 pub returns : goal.returns

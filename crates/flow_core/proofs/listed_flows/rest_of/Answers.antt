@@ -1,7 +1,7 @@
 use Rattle.std.proofs.Common.{◌≡◌, ⊎_elim}
 use Rattle.flow_core.specs.declared.listed_flows.Link.TheVariants.{Unlisted, Last, Next}
 use Rattle.flow_core.specs.Links.{link_of}
-use Rattle.flow_core.proofs.Linking.{rest_none}
+use Rattle.flow_core.proofs.LinkLemmas.{rest_none}
 use Rattle.flow_core.proofs.listed_flows.rest_of.Goals as goal
 
 pub returns-in-Last : goal.returns-in-Last

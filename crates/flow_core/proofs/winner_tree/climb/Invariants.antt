@@ -1,14 +1,12 @@
 use Rattle.std.proofs.Common.{◌≤◌, length}
 use Rattle.flow_core.specs.WinnerNodes.{beside, IsWinner}
-use Rattle.flow_core.proofs.Comparing.{ComparedTo}
-use Rattle.flow_core.proofs.Winning.{Climbs}
+use Rattle.flow_core.proofs.WinnerLemmas.{Climbs}
 use Rattle.flow_core.proofs.winner_tree.climb.Given as goal
 
--- the flow wins at the node, and the other one at the node beside it; each comparison was at a node that the flow hadn't won
+-- the flow wins at the node, and the other one at the node beside it
 abbrev pub invariant-loop-node : goal.invariant-loop-node
 invariant-loop-node l = record {
   climbs : Climbs l.bytes l.fn.winners l.winners l.flow l.node l.comparisons;
-  counted : ComparedTo l.fn.winners l.flow l.node l.comparisons;
   some : 2 ≤ l.node;
   own : IsWinner l.bytes (length l.fn.winners) l.node l.flow;
   other : IsWinner l.bytes (length l.fn.winners) (beside l.node) l.other;

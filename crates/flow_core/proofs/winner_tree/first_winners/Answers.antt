@@ -1,6 +1,6 @@
 use Rattle.std.proofs.Common.{◌≡◌, ◌+◌, ◌-◌, ◌<◌, [], length, arith}
 use Rattle.flow_core.specs.WinnerNodes.{AreWinnersFrom, IsPowerOfTwo}
-use Rattle.flow_core.proofs.Winning.{first_next, first_written}
+use Rattle.flow_core.proofs.WinnerLemmas.{first_next, first_written}
 use Rattle.flow_core.proofs.winner_tree.first_winners.Goals as goal
 
 pub loop-node-preserved : goal.loop-node-preserved

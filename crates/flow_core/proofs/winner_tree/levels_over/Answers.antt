@@ -1,5 +1,5 @@
 use Rattle.std.proofs.Common.{arith}
-use Rattle.flow_core.proofs.Climbing.{levels_least, levels_small}
+use Rattle.flow_core.proofs.NodeLemmas.{levels_least, levels_small}
 use Rattle.flow_core.proofs.winner_tree.levels_over.Goals as goal
 
 pub overflow_add-levels : goal.overflow_add-levels

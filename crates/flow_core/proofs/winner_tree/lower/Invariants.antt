@@ -1,15 +1,12 @@
 use Rattle.std.proofs.Common.{◌≡◌, ◌≤◌, get_or, length}
 use Rattle.flow_core.specs.WinnerNodes.{beside, IsWinner}
-use Rattle.flow_core.proofs.Comparing.{WonTo}
-use Rattle.flow_core.proofs.Winning.{Climbs}
+use Rattle.flow_core.proofs.WinnerLemmas.{Climbs}
 use Rattle.flow_core.proofs.winner_tree.lower.Given as goal
 
--- the winner at the node has its bytes beside it, and below the root the other one wins at the node beside that; each comparison was at a
--- node where the flow had won
+-- the winner at the node has its bytes beside it, and below the root the other one wins at the node beside that
 abbrev pub invariant-loop-node : goal.invariant-loop-node
 invariant-loop-node l = record {
   climbs : Climbs l.bytes l.fn.winners l.winners l.flow l.node l.comparisons;
-  counted : WonTo l.fn.winners l.flow l.node l.comparisons;
   some : 1 ≤ l.node;
   carried : l.own ≡ get_or l.bytes l.winner 0;
   own : IsWinner l.bytes (length l.fn.winners) l.node l.winner;

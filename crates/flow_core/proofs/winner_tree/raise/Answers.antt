@@ -1,6 +1,6 @@
-use Rattle.std.proofs.Common.{ℕ, ◌<◌, get_or, length, set, arith}
+use Rattle.std.proofs.Common.{get_or, length, arith}
 use Rattle.flow_core.specs.WinnerNodes.{WinsOver}
-use Rattle.flow_core.proofs.Winning.{apart_grown, climbs_next, few_levels, grew_from, root_beaten, root_grown, wins_above}
+use Rattle.flow_core.proofs.WinnerLemmas.{climbs_next, few_levels, grew, grew_by, root_beaten, root_grown, wins_above}
 use Rattle.flow_core.proofs.winner_tree.raise.Goals as goal
 
 pub overflow_add-result : goal.overflow_add-result
@@ -11,32 +11,16 @@ overflow_add-result c =
 
 pub loop-node-preserved : goal.loop-node-preserved
 loop-node-preserved c =
-    let w = c.args.winners.now in
-    let bytes = c.args.bytes.now in
-    let flow = c.args.flow in
-    let root = get_or w 1 0 in
-    let node = c.loop-node.node in
-    let old = set bytes flow c.requires.grown.before in
-    let were = c.requires.grown.right in
-    let grew = grew_from bytes w flow c.requires.grown c.requires.flow in
+    let one = grew c.requires.grown c.requires.flow c.requires.leaves in
     let climbs = c.loop-node.invariant.climbs in
     let more = c.wins_over.ensures.wins.0 c.if-not-wins_over.false in
-    let over : WinsOver bytes flow root = record {
+    let over : WinsOver c.args.bytes.now c.args.flow (get_or c.args.winners.now 1 0) = record {
       greatest = omega (arith, more, c.bytes_of-most.ensures);
       least = λ less. grind (arith, more, c.bytes_of-most.ensures, c.from-right.ensures);
     } in
-    let each : (other : ℕ) → other < length w → WinsOver bytes flow other =
-    λ other within. root_beaten old bytes w flow other c.requires.leaves.doubled grew were (omega arith) over within in
-    record {
-      climbs = climbs_next old bytes w c.loop-node.winners flow node flow 0 0 (apart_grown old bytes (length w) flow grew) were climbs c.loop-node-test.true
-          (wins_above bytes w c.loop-node.winners flow node 0 climbs (omega arith) each) (omega arith);
-      some = omega arith;
-    }
+    let each = root_beaten one (grew_by c.requires.grown c.requires.flow) (omega arith) over in
+    record { climbs = climbs_next one climbs c.args.flow 0 c.loop-node-test.true (wins_above climbs each) (omega arith); some = omega arith }
 
 pub returns-else-root-flow-clause-winners : goal.returns-else-root-flow-clause-winners
 returns-else-root-flow-clause-winners c =
-    let w = c.args.winners.now in
-    let bytes = c.args.bytes.now in
-    let flow = c.args.flow in
-    root_grown (set bytes flow c.requires.grown.before) bytes w flow c.requires.leaves.doubled (grew_from bytes w flow c.requires.grown c.requires.flow)
-    c.requires.grown.right (omega arith) c.if-root-flow.false
+    root_grown (grew c.requires.grown c.requires.flow c.requires.leaves) (grew_by c.requires.grown c.requires.flow) (omega arith) c.if-root-flow.false

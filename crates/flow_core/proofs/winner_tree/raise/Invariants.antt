@@ -1,5 +1,5 @@
 use Rattle.std.proofs.Common.{◌≤◌}
-use Rattle.flow_core.proofs.Winning.{Climbs}
+use Rattle.flow_core.proofs.WinnerLemmas.{Climbs}
 use Rattle.flow_core.proofs.winner_tree.raise.Given as goal
 
 -- each node of the climb has the flow for its winner

@@ -2,7 +2,7 @@ use Rattle.std.proofs.Common.{length, take, subst, ap, Some, min, ◌∙◌, ◌
 use Rattle.std.proofs.lemmas.Grind.{common_steps}
 use Rattle.std.proofs.lemmas.Int.Digits.{digits_more, digits_value_more}
 use Rattle.std.specs.Str.Parse.{AllDigits, digits_value}
-use Rattle.packet_core.proofs.Numbers.{a_number, all_digits-get, no_number, no_number_empty, saturated_step}
+use Rattle.packet_core.proofs.NumberLemmas.{a_number, all_digits-get, no_number, no_number_empty, saturated_step}
 use Rattle.packet_core.proofs.words.number.Goals as goal
 
 pub returns-then-is_empty : goal.returns-then-is_empty

@@ -1,6 +1,6 @@
 -- Each word by computing, and another word by its being none of them.
 use Rattle.std.proofs.Common.{refl, codes}
-use Rattle.packet_core.proofs.Texts.{differ}
+use Rattle.packet_core.proofs.TextLemmas.{differ}
 use Rattle.packet_core.specs.Words.{param_word_of}
 use Rattle.packet_core.proofs.words.param_word.Goals as goal
 

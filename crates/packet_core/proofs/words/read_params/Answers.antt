@@ -1,6 +1,6 @@
 -- Each turn of the loop is a step of the reading.
 use Rattle.std.proofs.Common.{◌≡◌, ◌+◌, ◌-◌, ◌∙◌, Some, length, refl, sym, ap, arith, rules}
-use Rattle.packet_core.proofs.Reading.{behind, ecn_at, fault_at, length-behind, missing_at, nothing_left, unknown_at, value_at}
+use Rattle.packet_core.proofs.WordLemmas.{behind, ecn_at, fault_at, length-behind, missing_at, nothing_left, unknown_at, value_at}
 use Rattle.packet_core.proofs.words.read_params.Goals as goal
 
 pub loop-rest-init : goal.loop-rest-init

@@ -1,6 +1,6 @@
 -- A way to find a flow, by computing.
 use Rattle.std.proofs.Common.{Ok, ap, codes, refl}
-use Rattle.packet_core.proofs.Texts.{differ}
+use Rattle.packet_core.proofs.TextLemmas.{differ}
 use Rattle.packet_core.specs.Words.{with_classify}
 use Rattle.packet_core.proofs.words.with_text.Goals as goal
 

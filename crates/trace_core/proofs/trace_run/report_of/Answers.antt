@@ -1,9 +1,11 @@
 use Rattle.std.proofs.Common.{◌≡◌, Err, length, rules}
 use Rattle.journal_core.specs.Runs.{journal_of}
 use Rattle.trace_core.proofs.Records.{not_large}
+use Rattle.trace_core.specs.Report.{Adds}
 use Rattle.trace_core.proofs.trace_run.report_of.Goals as goal
 
 pub returns-clause-report : goal.returns-clause-report
+unfolding Adds
 returns-clause-report c =
     let text = c.args.text.now in
     let run = c.in_ok-run_rows.ensures.run text (c.requires, c.new.ensures.start) in

@@ -3,9 +3,12 @@ use Rattle.csv.specs.Reading.{default_config, strip_bom}
 use Rattle.csv.specs.declared.parser.State.TheVariants as st
 use Rattle.trace_core.specs.declared.trace_run.RunFault.TheVariants.{Trace}
 use Rattle.trace_core.proofs.Records.{records_few, strip_shorter}
-use Rattle.trace_core.proofs.Rowing.{run_on, run_past}
+use Rattle.trace_core.proofs.RowLemmas.{run_none, run_on, run_past}
 use Rattle.trace_core.proofs.trace_run.run_rows.Goals as goal
 use Rattle.trace_core.proofs.trace_run.run_rows.Goals.{in-Blank, in-Row+in_ok-run_step-in-Row}
+
+pub loop-turn-init : goal.loop-turn-init
+loop-turn-init c = (c.requires, λ text start. run_none text c.args.rows.now c.args.sched.now c.args.report.now start.1)
 
 pub returns-in_err-next-clause-trace : goal.returns-in_err-next-clause-trace
 returns-in_err-next-clause-trace c =

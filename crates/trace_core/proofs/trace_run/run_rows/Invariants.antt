@@ -1,6 +1,6 @@
 use Rattle.std.proofs.Common.{◌≤◌, ℕ, List}
 use Rattle.trace_core.specs.Traces.{IsAtStart}
-use Rattle.trace_core.proofs.Rowing.{HasRun}
+use Rattle.trace_core.proofs.RowLemmas.{HasRun}
 use Rattle.trace_core.proofs.trace_run.run_rows.Given as goal
 
 -- the steps that were taken so far are made, and their rows are written

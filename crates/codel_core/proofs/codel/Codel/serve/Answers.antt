@@ -1,4 +1,4 @@
-use Rattle.codel_core.proofs.Ranges.{verdict_in_range}
+use Rattle.codel_core.proofs.StateRanges.{verdict_in_range}
 use Rattle.codel_core.proofs.codel.Codel.serve.Goals as goal
 
 pub returns-clause-range : goal.returns-clause-range

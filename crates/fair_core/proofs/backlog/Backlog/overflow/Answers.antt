@@ -6,7 +6,7 @@ use Rattle.fair_core.proofs.DroppedPackets.{drops_exceeding}
 use Rattle.fair_core.proofs.backlog.Backlog.overflow.Goals as goal
 
 pub returns : goal.returns
-returns c =
+returns g c =
     let many : c.args.limit < waiting_in c.self.inside.flows.lists = let t = c.if-total_len-from.false in let len = c.total_len.ensures.value in let from = c.from.ensures in omega arith in
     let size : c.clamp-batch.result ≡ batch_size (length (queue_at c.self.inside.flows.lists c.in-Some.flow)) = let len = c.len.ensures.value in let clamp = c.clamp-batch.ensures in omega arith in
     rw (← c.self.view_is)

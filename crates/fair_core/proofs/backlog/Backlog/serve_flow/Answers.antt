@@ -8,7 +8,7 @@ use Rattle.fair_core.proofs.AccountRanges.{flow_from_queue, held_serves}
 use Rattle.fair_core.proofs.backlog.Backlog.serve_flow.Goals as goal
 
 pub invariant_of-self : goal.invariant_of-self
-invariant_of-self c =
+invariant_of-self g c =
     let q = c.serve_queue.ensures in
     let lists = c.self.inside.flows.lists in
     let accounts = c.self.inside.accounts.items in
@@ -22,7 +22,7 @@ invariant_of-self c =
     (rw is range.low) (rw is range.high) (rw (← is) q.stays))
 
 pub invariant_of-self-2 : goal.invariant_of-self-2
-invariant_of-self-2 c =
+invariant_of-self-2 g c =
     let q = c.serve_queue.ensures in
     let lists = c.self.inside.flows.lists in
     let accounts = c.self.inside.accounts.items in
@@ -41,7 +41,7 @@ invariant_of-self-2 c =
     (omega (arith, ints)) (omega (arith, ints)) (rw (← is) q.stays))
 
 pub returns : goal.returns
-returns c =
+returns g c =
     let q = c.serve_queue.ensures in
     let accounts = c.self.inside.accounts.items in
     let h = c.self.invariant in

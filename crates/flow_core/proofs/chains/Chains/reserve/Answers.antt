@@ -1,24 +1,13 @@
 use Rattle.std.proofs.Common.{arith}
-use Rattle.flow_core.proofs.Chained.{grown}
+use Rattle.flow_core.proofs.ChainLemmas.{grown}
 use Rattle.flow_core.proofs.chains.Chains.reserve.Goals as goal
 
 pub invariant_of-self : goal.invariant_of-self
 invariant_of-self c =
     let kept = c.self.invariant in
-    rw c.reserve.ensures.rest_kept (record {
-      chains = grown c.self.inside.slots c.reserve.new.self.capacity c.self.inside.chains.items kept.chains;
-      flows = kept.flows;
-      few = kept.few;
-      room = omega (arith, kept.room, c.reserve.ensures.capacity);
-    })
+    rw c.reserve.ensures.rest_kept (grown c.self.inside kept c.reserve.new.self.capacity c.self.inside.room (omega (arith, kept.room, c.reserve.ensures.capacity)))
 
 pub invariant_of-self-then-self-pushes : goal.invariant_of-self-then-self-pushes
 invariant_of-self-then-self-pushes c =
-    let kept = c.self.invariant in
     let room = c.in_ok-reserve.ensures.room in
-    rw c.reserve.ensures.rest_kept (record {
-      chains = grown c.self.inside.slots c.reserve.new.self.capacity c.self.inside.chains.items kept.chains;
-      flows = kept.flows;
-      few = kept.few;
-      room = rw c.reserve.ensures.rest_kept at room;
-    })
+    rw c.reserve.ensures.rest_kept (grown c.self.inside c.self.invariant c.reserve.new.self.capacity c.args.pushes (rw c.reserve.ensures.rest_kept at room))

@@ -1,5 +1,5 @@
 use Rattle.std.proofs.Common.{◌≡◌, None, replicate, rules, arith}
-use Rattle.flow_core.proofs.Chained.{opened, opened_seen}
+use Rattle.flow_core.proofs.ChainLemmas.{opened, opened_seen}
 use Rattle.flow_core.proofs.chains.Chains.try_new.Goals as goal
 
 pub invariant_of-result : goal.invariant_of-result

@@ -2,7 +2,7 @@ use Rattle.std.proofs.Common.{ℕ, map}
 use Rattle.std.proofs.lemmas.Option.{IfSome_then}
 use Rattle.codel_core.specs.Queue.{bytes_of}
 use Rattle.flow_core.specs.Winners.{HasMostBytes}
-use Rattle.flow_core.proofs.Keeping.{fattest_seen, no_bytes, none_waits}
+use Rattle.flow_core.proofs.ByteLemmas.{fattest_seen, no_bytes, none_waits}
 use Rattle.flow_core.proofs.flows.Flows.fattest.Goals as goal
 
 pub returns-clause-none : goal.returns-clause-none

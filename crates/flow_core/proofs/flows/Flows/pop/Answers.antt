@@ -5,7 +5,7 @@ use Rattle.std.proofs.lemmas.List.Sums.{sum_by-set}
 use Rattle.packet_core.specs.Packets.{IsLengthInRange}
 use Rattle.packet_core.specs.declared.packet.Waiting.{Waiting}
 use Rattle.codel_core.specs.Queue.{bytes_of}
-use Rattle.flow_core.proofs.Keeping.{AreInRange, bytes_behind, bytes_seen, bytes_set, in_range_at}
+use Rattle.flow_core.proofs.ByteLemmas.{AreInRange, bytes_behind, bytes_seen, bytes_set, in_range_at}
 use Rattle.flow_core.proofs.flows.Flows.pop.Goals as goal
 
 pub invariant_of-self-2 : goal.invariant_of-self-2

@@ -5,14 +5,15 @@ use Rattle.std.proofs.lemmas.List.Sums.{sum_by-set, sum_by_push}
 use Rattle.packet_core.specs.Packets.{IsLengthInRange}
 use Rattle.packet_core.specs.declared.packet.Waiting.{Waiting}
 use Rattle.codel_core.specs.Queue.{bytes_of}
-use Rattle.flow_core.proofs.Keeping.{AreInRange, bytes_seen, bytes_set, few_at, few_bytes, in_range_at}
+use Rattle.flow_core.proofs.ByteLemmas.{AreInRange, bytes_seen, bytes_set, few_bytes, in_range_at}
+use Rattle.flow_core.proofs.ReadLemmas.{length-at}
 use Rattle.flow_core.proofs.flows.Flows.push.Goals as goal
 
 pub add-requires-clause-fits : goal.add-requires-clause-fits
 add-requires-clause-fits c =
     let kept = c.self.invariant in
     let queues = c.self.inside.chains.queues in
-    rw (kept.bytes, bytes_seen queues c.args.flow) (omega (arith, few_bytes queues c.args.flow kept.lengths, few_at queues c.args.flow, kept.few, c.from-bytes.ensures, c.len.ensures.value, c.len.ensures.range))
+    rw (kept.bytes, bytes_seen queues c.args.flow) (omega (arith, few_bytes queues c.args.flow kept.lengths, length-at queues c.args.flow, kept.few, c.from-bytes.ensures, c.len.ensures.value, c.len.ensures.range))
 
 pub invariant_of-self : goal.invariant_of-self
 invariant_of-self c =

@@ -5,8 +5,8 @@ use Rattle.std.proofs.lemmas.List.Folds.{sum_by-replicate}
 use Rattle.packet_core.specs.Packets.{IsLengthInRange}
 use Rattle.packet_core.specs.declared.packet.Waiting.{Waiting}
 use Rattle.codel_core.specs.Queue.{bytes_of}
-use Rattle.flow_core.proofs.Chained.{map-replicate}
-use Rattle.flow_core.proofs.Keeping.{AreInRange}
+use Rattle.flow_core.proofs.ReadLemmas.{map-replicate}
+use Rattle.flow_core.proofs.ByteLemmas.{AreInRange}
 use Rattle.flow_core.proofs.flows.Flows.try_new.Goals as goal
 
 pub invariant_of-result : goal.invariant_of-result

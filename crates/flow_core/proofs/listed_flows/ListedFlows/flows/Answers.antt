@@ -1,6 +1,6 @@
 use Rattle.std.proofs.Common.{◌++◌, arith, length-append}
 use Rattle.flow_core.specs.Links.{flows_of}
-use Rattle.flow_core.proofs.Listing.{length-le_flows}
+use Rattle.flow_core.proofs.FlowNumberLemmas.{length-le_flows}
 use Rattle.flow_core.proofs.listed_flows.ListedFlows.flows.Goals as goal
 
 pub returns-clause-few_listed : goal.returns-clause-few_listed

@@ -1,35 +1,18 @@
-use Rattle.std.proofs.Common.{Some, length}
-use Rattle.std.proofs.lemmas.List.{length-set}
+use Rattle.std.proofs.Common.{drop, length}
+use Rattle.std.specs.Vec.{with_item}
 use Rattle.flow_core.specs.declared.listed_flows.Link.TheVariants.{Unlisted}
-use Rattle.flow_core.specs.Links.{flows_of, AreChains, IsRest}
-use Rattle.flow_core.proofs.Linking.{chains_seen, leave_old_linked, lists_seen}
+use Rattle.flow_core.specs.Links.{flows_of}
+use Rattle.flow_core.proofs.LinkLemmas.{IsSeenAs, leave_old_seen}
+use Rattle.flow_core.proofs.listed_flows.ListedFlows.leave_old.Goals.{After-rest_of-self-inside}
 use Rattle.flow_core.proofs.listed_flows.ListedFlows.leave_old.Goals as goal
 
+left : (c : After-rest_of-self-inside) → let f = c.self.inside in
+    IsSeenAs (record { links = with_item f.links c.in-Some.ends.first Unlisted; new_flows = f.new_flows; old_flows = c.rest_of-self-inside.result }) (length f.links.items)
+    (flows_of f.links.items f.new_flows) (drop 1 (flows_of f.links.items f.old_flows))
+left c = leave_old_seen c.self.inside c.self.invariant c.in-Some.ends c.rest_of-self-inside.result c.in-Some.is (rw c.deref.ensures.value at c.rest_of-self-inside.ensures)
+
 pub invariant_of-self : goal.invariant_of-self
-invariant_of-self c =
-    let f = c.self.inside in
-    let links = f.links.items in
-    let list = c.in-Some.ends in
-    let new = flows_of links f.new_flows in
-    let old = flows_of links (Some list) in
-    let before : AreChains links f.new_flows (Some list) new old = rw c.in-Some.is at c.self.invariant.chains in
-    let left = c.rest_of-self-inside.result in
-    let is_rest : IsRest links list left = rw c.deref.ensures.value at c.rest_of-self-inside.ensures in
-    let chains = leave_old_linked links f.new_flows list new old left is_rest before in
-    record {
-      few = rw (length-set links list.first Unlisted) c.self.invariant.few;
-      chains = chains_seen _ _ _ _ _ chains;
-    }
+invariant_of-self c = (left (goal.at.invariant_of-self c).After-rest_of-self-inside).kept
 
 pub returns : goal.returns
-returns c =
-    let f = c.self.inside in
-    let links = f.links.items in
-    let list = c.in-Some.ends in
-    let new = flows_of links f.new_flows in
-    let old = flows_of links (Some list) in
-    let before : AreChains links f.new_flows (Some list) new old = rw c.in-Some.is at c.self.invariant.chains in
-    let left = c.rest_of-self-inside.result in
-    let is_rest : IsRest links list left = rw c.deref.ensures.value at c.rest_of-self-inside.ensures in
-    let chains = leave_old_linked links f.new_flows list new old left is_rest before in
-    rw (← c.self.view_is, c.in-Some.is) (lists_seen (length links) _ _ _ _ _ (length-set links list.first Unlisted) chains)
+returns c = rw (← c.self.view_is) (left (goal.at.returns c).After-rest_of-self-inside).seen

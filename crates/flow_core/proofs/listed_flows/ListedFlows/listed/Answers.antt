@@ -1,7 +1,7 @@
 use Rattle.std.proofs.Common.{◌≡◌, sym, ◌∙◌}
 use Rattle.flow_core.specs.declared.listed_flows.Link.TheVariants.{Unlisted}
 use Rattle.flow_core.specs.Links.{flows_of, link_of}
-use Rattle.flow_core.proofs.Linking.{listed_by_link, unlisted_by_link}
+use Rattle.flow_core.proofs.LinkLemmas.{listed_by_link, unlisted_by_link}
 use Rattle.flow_core.proofs.listed_flows.ListedFlows.listed.Goals as goal
 
 pub returns-clause-value : goal.returns-clause-value

@@ -1,7 +1,6 @@
 use Rattle.std.proofs.Common.{◌≡◌, ◌+◌, ◌<◌, get_or, length, arith, length-set}
 use Rattle.std.proofs.lemmas.List.{get_or_read}
-use Rattle.flow_core.proofs.Winning.{grown_to}
-use Rattle.flow_core.proofs.WinnersKeeping.{leaves_kept}
+use Rattle.flow_core.proofs.WinnerLemmas.{grown_to, leaves_kept}
 use Rattle.flow_core.proofs.winner_tree.WinnerTree.add.Goals as goal
 
 pub raise-made-requires-clause-leaves : goal.raise-made-requires-clause-leaves

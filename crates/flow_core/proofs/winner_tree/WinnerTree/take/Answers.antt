@@ -1,7 +1,6 @@
 use Rattle.std.proofs.Common.{◌≡◌, ◌-◌, ◌<◌, get_or, length, arith, length-set}
 use Rattle.std.proofs.lemmas.List.{get_or_read}
-use Rattle.flow_core.proofs.Winning.{fallen_to}
-use Rattle.flow_core.proofs.WinnersKeeping.{leaves_kept}
+use Rattle.flow_core.proofs.WinnerLemmas.{fallen_to, leaves_kept}
 use Rattle.flow_core.proofs.winner_tree.WinnerTree.take.Goals as goal
 
 pub lower-made-requires-clause-leaves : goal.lower-made-requires-clause-leaves

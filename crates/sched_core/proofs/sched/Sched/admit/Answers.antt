@@ -10,7 +10,7 @@ use Rattle.journal_core.proofs.RefusalLemmas.{enqueue_open}
 use Rattle.sched_core.proofs.sched.Sched.admit.Goals as goal
 
 pub invariant_of-self : goal.invariant_of-self
-invariant_of-self c =
+invariant_of-self g c =
     let s = c.self.inside in
     let fits = subst (λ (v : Scheduler). refusal_of v.standing.state (Enqueue c.args.moment c.args.lane c.args.packet) ≡ None) (sym c.self.view_is) c.requires.fits in
     let some : 0 < s.room = subst (λ (v : Scheduler). 0 < v.room) (sym c.self.view_is) c.requires.room in
@@ -27,7 +27,7 @@ invariant_of-self c =
     (kept_admits s.params s.seed s.backlog c.arrive.new.self c.overflow.new.self s.journal c.overflow.new.journal s.last_moment c.args.moment c.args.lane c.args.packet within listed (rw c.clear_comparisons.ensures at c.arrive.ensures.arrived) d fits' (s.room - 1) kept (rw c.clear_comparisons.ensures at c.arrive.ensures.room))
 
 pub returns-clause-made : goal.returns-clause-made
-returns-clause-made c =
+returns-clause-made g c =
     let s = c.self.inside in
     let fits = subst (λ (v : Scheduler). refusal_of v.standing.state (Enqueue c.args.moment c.args.lane c.args.packet) ≡ None) (sym c.self.view_is) c.requires.fits in
     let some : 0 < s.room = subst (λ (v : Scheduler). 0 < v.room) (sym c.self.view_is) c.requires.room in
@@ -44,7 +44,7 @@ returns-clause-made c =
     (is_admitted s.params s.seed s.backlog c.arrive.new.self c.overflow.new.self s.journal c.overflow.new.journal s.last_moment c.args.moment c.args.lane c.args.packet within listed (rw c.clear_comparisons.ensures at c.arrive.ensures.arrived) d fits' s.turns s.backlog.comparisons c.overflow.new.self.comparisons s.room (s.room - 1))
 
 pub returns-clause-few_comparisons : goal.returns-clause-few_comparisons
-returns-clause-few_comparisons c =
+returns-clause-few_comparisons g c =
     let s = c.self.inside in
     let fits = subst (λ (v : Scheduler). refusal_of v.standing.state (Enqueue c.args.moment c.args.lane c.args.packet) ≡ None) (sym c.self.view_is) c.requires.fits in
     let some : 0 < s.room = subst (λ (v : Scheduler). 0 < v.room) (sym c.self.view_is) c.requires.room in
@@ -61,7 +61,7 @@ returns-clause-few_comparisons c =
     (few_admitted s.params s.seed s.backlog c.arrive.new.self c.overflow.new.self s.journal c.overflow.new.journal s.last_moment c.args.moment c.args.lane c.args.packet within listed (rw c.clear_comparisons.ensures at c.arrive.ensures.arrived) d kept.flows (rw c.clear_comparisons.ensures at c.arrive.ensures.few_comparisons) s.turns s.backlog.comparisons s.room (s.room - 1))
 
 pub returns-clause-compares : goal.returns-clause-compares
-returns-clause-compares c =
+returns-clause-compares g c =
     let flows = c.self.invariant.flows in
     let mid = rw c.clear_comparisons.ensures at c.arrive.ensures.compares in
     let lost = c.overflow.ensures.few_comparisons.none_lost in

@@ -8,7 +8,7 @@ use Rattle.sched_core.proofs.KeptScheduler.{few_served, is_served, kept_counted,
 use Rattle.sched_core.proofs.sched.Sched.dequeue.Goals as goal
 
 pub invariant_of-self : goal.invariant_of-self
-invariant_of-self c =
+invariant_of-self g c =
     let s = c.self.inside in
     let fits : refusal_of (state_of s.backlog s.last_moment s.is_closed) (Dequeue c.args.moment) ≡ None = ap (option_map Moment) c.in_ok-test_moment.ensures in
     let cleared : Held = record s.backlog { comparisons = 0 } in
@@ -20,7 +20,7 @@ invariant_of-self c =
     kept_serves s.params s.seed cleared c.serve-serving.new.self s.journal c.serve-serving.new.journal s.last_moment c.args.moment c.serve-serving.result.turns s.room s.is_closed None chain arrived room fits kept
 
 pub returns-in_default-clause-made : goal.returns-in_default-clause-made
-returns-in_default-clause-made c =
+returns-in_default-clause-made g c =
     let s = c.self.inside in
     let fits : refusal_of (state_of s.backlog s.last_moment s.is_closed) (Dequeue c.args.moment) ≡ None = ap (option_map Moment) c.in_ok-test_moment.ensures in
     let cleared : Held = record s.backlog { comparisons = 0 } in
@@ -33,7 +33,7 @@ returns-in_default-clause-made c =
     (is_served s.params s.seed cleared c.serve-serving.new.self s.journal c.serve-serving.new.journal s.last_moment c.args.moment s.turns c.serve-serving.result.turns s.backlog.comparisons c.serve-serving.new.self.comparisons s.room s.is_closed None chain arrived sound c.serve-serving.ensures.quantum fits)
 
 pub send-requires : goal.send-requires
-send-requires c =
+send-requires g c =
     let s = c.self.inside in
     let cleared : Held = record s.backlog { comparisons = 0 } in
     let kept = kept_counted s.params s.seed s.backlog s.journal s.last_moment s.room 0 s.is_closed c.self.invariant in
@@ -44,7 +44,7 @@ send-requires c =
     room_for_sent s.params s.seed cleared c.serve-serving.new.self s.journal c.serve-serving.new.journal s.last_moment c.args.moment c.serve-serving.result.turns s.room s.is_closed c.in-Some.served chain kept
 
 pub invariant_of-self-2 : goal.invariant_of-self-2
-invariant_of-self-2 c =
+invariant_of-self-2 g c =
     let s = c.self.inside in
     let fits : refusal_of (state_of s.backlog s.last_moment s.is_closed) (Dequeue c.args.moment) ≡ None = ap (option_map Moment) c.in_ok-test_moment.ensures in
     let cleared : Held = record s.backlog { comparisons = 0 } in
@@ -57,7 +57,7 @@ invariant_of-self-2 c =
     (kept_serves s.params s.seed cleared c.serve-serving.new.self s.journal c.serve-serving.new.journal s.last_moment c.args.moment c.serve-serving.result.turns s.room s.is_closed (Some c.in-Some.served) chain arrived room fits kept)
 
 pub returns-clause-made : goal.returns-clause-made
-returns-clause-made c =
+returns-clause-made g c =
     let s = c.self.inside in
     let fits : refusal_of (state_of s.backlog s.last_moment s.is_closed) (Dequeue c.args.moment) ≡ None = ap (option_map Moment) c.in_ok-test_moment.ensures in
     let cleared : Held = record s.backlog { comparisons = 0 } in
@@ -70,7 +70,7 @@ returns-clause-made c =
     (is_served s.params s.seed cleared c.serve-serving.new.self s.journal c.serve-serving.new.journal s.last_moment c.args.moment s.turns c.serve-serving.result.turns s.backlog.comparisons c.serve-serving.new.self.comparisons s.room s.is_closed (Some c.in-Some.served) chain arrived sound c.serve-serving.ensures.quantum fits)
 
 pub returns-in_default-clause-few_comparisons : goal.returns-in_default-clause-few_comparisons
-returns-in_default-clause-few_comparisons c =
+returns-in_default-clause-few_comparisons g c =
     let s = c.self.inside in
     let cleared : Held = record s.backlog { comparisons = 0 } in
     let chain = rw (c.clear_comparisons.ensures, c.in_default.is) at c.serve-serving.ensures.chain in
@@ -78,7 +78,7 @@ returns-in_default-clause-few_comparisons c =
     (few_served s.params s.seed cleared c.serve-serving.new.self s.journal c.serve-serving.new.journal s.last_moment c.args.moment s.turns c.serve-serving.result.turns s.backlog.comparisons s.room s.is_closed None chain c.self.invariant.flows refl)
 
 pub returns-clause-few_comparisons : goal.returns-clause-few_comparisons
-returns-clause-few_comparisons c =
+returns-clause-few_comparisons g c =
     let s = c.self.inside in
     let cleared : Held = record s.backlog { comparisons = 0 } in
     let chain = rw (c.clear_comparisons.ensures, c.in-Some.is) at c.serve-serving.ensures.chain in

@@ -4,7 +4,7 @@ use Rattle.sched_core.proofs.sched.Sched.enqueue.Goals.{then-self-eq0+in_ok-rese
 use Rattle.sched_core.proofs.sched.Sched.enqueue.Goals as goal
 
 pub returns-clause-room : goal.returns-clause-room
-returns-clause-room c =
+returns-clause-room g c =
     let admitted = c.admit.ensures.room in
     let seen = ap (λ (v : Scheduler). v.room) c.self.view_is in
     elim c.if-self-eq0.branch [

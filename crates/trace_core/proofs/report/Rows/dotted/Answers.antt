@@ -2,7 +2,7 @@ use Rattle.std.proofs.Common.{◌≡◌, [], ◌∷◌, arith}
 use Rattle.std.specs.Prelude.{string_bytes}
 use Rattle.trace_core.specs.Report.{IsPlain, dotted}
 use Rattle.trace_core.proofs.Lines.{dotted_plain}
-use Rattle.trace_core.proofs.Reporting.{if_ok}
+use Rattle.trace_core.proofs.ReportLemmas.{if_ok}
 use Rattle.trace_core.proofs.report.Rows.dotted.Goals as goal
 
 pub returns-clause-plain : goal.returns-clause-plain

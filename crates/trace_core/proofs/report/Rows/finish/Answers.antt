@@ -2,11 +2,12 @@ use Rattle.std.proofs.Common.{◌≡◌, ◌++◌, ℕ, List, map}
 use Rattle.journal_core.specs.Statistics.{statistics}
 use Rattle.journal_core.specs.TupleRows.{tuple_rows}
 use Rattle.trace_core.specs.Report as Report
-use Rattle.trace_core.specs.Report.{HasText}
-use Rattle.trace_core.proofs.Reporting.{if_ok}
+use Rattle.trace_core.specs.Report.{Adds, HasText}
+use Rattle.trace_core.proofs.ReportLemmas.{if_ok}
 use Rattle.trace_core.proofs.report.Rows.finish.Goals as goal
 
 pub returns : goal.returns
+unfolding Adds
 returns c =
     let events = c.args.sched.now.standing.events in
     let rows = c.in_ok-tuple_rows.ensures.rows in

@@ -1,11 +1,13 @@
 use Rattle.std.proofs.Common.{◌≡◌, ◌≢◌, ◌++◌, ◌∙◌, Bor, List, ℕ, Some, ap, map}
 use Rattle.csv.specs.Writing.{writer_setup}
+use Rattle.trace_core.specs.Report.{Adds}
 use Rattle.csv.specs.declared.writer.QuoteStyle.TheVariants as style
 use Rattle.trace_core.proofs.Lines.{row_plain}
 use Rattle.trace_core.proofs.report.Rows.row.Goals.{in-Ok, in-Err}
 use Rattle.trace_core.proofs.report.Rows.row.Goals as goal
 
 pub returns : goal.returns
+unfolding Adds
 returns c = elim c.match-write_fields.branch [
   | in-Ok w ↦ rw w.result-is (λ text h.
       let plain : (writer_setup c.args.self.now.writer).style ≢ style.NonNumeric = rw h.setup (λ e. cc e) in

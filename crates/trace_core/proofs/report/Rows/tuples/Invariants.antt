@@ -1,7 +1,7 @@
-use Rattle.std.proofs.Common.{◌++◌, ℕ, List, map, take}
-use Rattle.trace_core.specs.Report.{HasText, lines_of, tuple_row}
+use Rattle.std.proofs.Common.{map, take}
+use Rattle.trace_core.specs.Report.{Adds, lines_of, tuple_row}
 use Rattle.trace_core.proofs.report.Rows.tuples.Given as goal
 
 -- the rows of the five-tuples so far
 abbrev pub invariant-loop-row : goal.invariant-loop-row
-invariant-loop-row l = (text : List ℕ) → HasText l.initial.self text → HasText l.self (text ++ lines_of (map tuple_row (take l.row-index l.tuples)))
+invariant-loop-row l = Adds l.initial.self l.self (lines_of (map tuple_row (take l.row-index l.tuples)))
