@@ -1,29 +1,23 @@
 -- Square roots: found digit by digit, in base two, the highest digit first, and found from that of a quarter.
-use Rattle.std.proofs.Common.{◌≡◌, ℕ, zero, suc, ◌+◌, ◌-◌, ◌*◌, ◌/◌, ◌%◌, ◌^◌, ◌<◌, ◌≤◌, refl, ap, sym, ◌∙◌, subst, inl, inr, arith, pow-add}
-use Rattle.std.proofs.Math.Nat.{pow-suc, one-le-pow, mul-le-mul}
+use Rattle.std.proofs.Common.{◌≡◌, ℕ, zero, suc, ◌+◌, ◌-◌, ◌*◌, ◌/◌, ◌%◌, ◌^◌, ◌<◌, ◌≤◌, refl, ap, ◌∙◌, subst, inl, inr, arith, pow-add}
+use Rattle.std.proofs.Math.Nat.{mul-le-mul}
 use Rattle.std.proofs.lemmas.Bool.{cases_lt}
 use Rattle.std.proofs.lemmas.Nat.{one_shl}
 use Rattle.std.proofs.Math.Pow.{pow_mono}
 use Rattle.codel_core.specs.Root.{IsRoot}
 
--- Of the root of v the digits down to one place are found: unit is that place's square, root is the digits times unit, and rest is
--- what v is above the square of the digits times unit. The digits are right: one more in the last place would be too many
+-- Of the root of v the digits down to one place are found: unit is that place's square, root is the digits times unit,
+-- and rest is what v is above the square of the digits times unit. The digits are right: one more in the last place
+-- would be too many.
 pub record IsPartialRoot (v unit root rest : ℕ) : Type 0 where
   -- how many digits are still to be found
   pub places : ℕ
   -- the digits found, as a number
   pub found : ℕ
-  pub unit_is : unit ≡ 4 ^ places
+  pub unit_is : unit ≡ 2 ^ (places * 2)
   pub root_is : root ≡ found * unit
   pub rest_is : rest + found * found * unit ≡ v
   pub below : v < (found + 1) * (found + 1) * unit
-
--- every second power of two is a power of four
-four_pow : (k : ℕ) → 2 ^ (k * 2) ≡ 4 ^ k
-four_pow zero = refl
-four_pow (suc k) =
-    let e : suc k * 2 ≡ k * 2 + 2 = omega arith in
-    ap (λ n. 2 ^ n) e ∙ pow-add 2 (k * 2) 2 ∙ ap (λ n. n * 4) (four_pow k) ∙ sym (pow-suc 4 k)
 
 -- the first unit, as the code shifts it into a word of w bits
 pub first_unit : (w n : ℕ) → n < w → 1 * 2 ^ (n / 2 * 2) % 2 ^ w ≡ 2 ^ (n / 2 * 2)
@@ -39,60 +33,33 @@ first_digit v n lower upper =
     let least : 2 ^ n ≤ 2 ^ (n / 2 * 2 + 1) = pow_mono (omega arith) in
     let twice : 2 ^ (n / 2 * 2 + 1) ≡ 2 ^ (n / 2 * 2) * 2 = pow-add 2 (n / 2 * 2) 1 in
     let within = first_unit_le v n lower in
-    record {
-      places = n / 2;
-      found = 1;
-      unit_is = four_pow (n / 2);
-      root_is = omega arith;
-      rest_is = omega arith;
-      below = omega arith;
-    }
+    record { places = n / 2; found = 1; unit_is = refl; root_is = omega arith; rest_is = omega arith; below = omega arith }
 
 -- where a place is left, its square is a quarter of the unit
-next_unit : (unit places : ℕ) → unit ≡ 4 ^ places → 1 < unit → (n : ℕ) × (unit / 4 ≡ 4 ^ n) × (unit ≡ 4 * (unit / 4))
+next_unit : (unit places : ℕ) → unit ≡ 2 ^ (places * 2) → 1 < unit → (n : ℕ) × (unit / 4 ≡ 2 ^ (n * 2)) × (unit ≡ 4 * (unit / 4))
 next_unit unit zero e some = absurd (omega arith)
-next_unit unit (suc n) e some = (n, omega (arith, pow-suc 4 n), omega (arith, pow-suc 4 n))
+next_unit unit (suc n) e some =
+    let more : suc n * 2 ≡ n * 2 + 2 = omega arith in
+    let whole : unit ≡ 2 ^ (n * 2) * 4 = e ∙ ap (λ k. 2 ^ k) more ∙ pow-add 2 (n * 2) 2 in
+    (n, omega arith, omega arith)
 
--- the facts of a partial root by a quarter of the unit
-root_by : (v unit root rest q : ℕ) → (h : IsPartialRoot v unit root rest) → unit ≡ 4 * q → root ≡ 4 * (h.found * q)
-root_by v unit root rest q h e = omega (arith, h.root_is ∙ ap (λ n. h.found * n) e)
-
-rest_by : (v unit root rest q : ℕ) → (h : IsPartialRoot v unit root rest) → unit ≡ 4 * q → rest + h.found * h.found * (4 * q) ≡ v
-rest_by v unit root rest q h e = subst (λ (n : ℕ). rest + h.found * h.found * n ≡ v) e h.rest_is
-
-below_by : (v unit root rest q : ℕ) → (h : IsPartialRoot v unit root rest) → unit ≡ 4 * q → v < (h.found + 1) * (h.found + 1) * (4 * q)
-below_by v unit root rest q h e = subst (λ (n : ℕ). v < (h.found + 1) * (h.found + 1) * n) e h.below
+-- the same partial root, by a quarter of the unit
+by_quarter : {v unit root rest : ℕ} (q : ℕ) → IsPartialRoot v unit root rest → unit ≡ 4 * q → IsPartialRoot v (4 * q) root rest
+by_quarter {v} {root = root} {rest = rest} q h e = subst (λ (n : ℕ). IsPartialRoot v n root rest) e h
 
 -- the next digit is a one
 pub digit_one : (v unit root rest : ℕ) → IsPartialRoot v unit root rest → 1 < unit → root + unit / 4 ≤ rest → IsPartialRoot v (unit / 4) (root / 2 + unit / 4) (rest - (root + unit / 4))
 digit_one v unit root rest h some fits =
     let next = next_unit unit h.places h.unit_is some in
-    let root_is = root_by v unit root rest (unit / 4) h next.2 in
-    let rest_is = rest_by v unit root rest (unit / 4) h next.2 in
-    let below = below_by v unit root rest (unit / 4) h next.2 in
-    record {
-      places = next.0;
-      found = 2 * h.found + 1;
-      unit_is = next.1;
-      root_is = omega arith;
-      rest_is = omega arith;
-      below = omega arith;
-    }
+    let q = by_quarter (unit / 4) h next.2 in
+    record { places = next.0; found = 2 * q.found + 1; unit_is = next.1; root_is = omega arith; rest_is = omega arith; below = omega arith }
 
 -- the next digit is a zero
 pub digit_zero : (v unit root rest : ℕ) → IsPartialRoot v unit root rest → 1 < unit → rest < root + unit / 4 → IsPartialRoot v (unit / 4) (root / 2) rest
 digit_zero v unit root rest h some low =
     let next = next_unit unit h.places h.unit_is some in
-    let root_is = root_by v unit root rest (unit / 4) h next.2 in
-    let rest_is = rest_by v unit root rest (unit / 4) h next.2 in
-    record {
-      places = next.0;
-      found = 2 * h.found;
-      unit_is = next.1;
-      root_is = omega arith;
-      rest_is = omega arith;
-      below = omega arith;
-    }
+    let q = by_quarter (unit / 4) h next.2 in
+    record { places = next.0; found = 2 * q.found; unit_is = next.1; root_is = omega arith; rest_is = omega arith; below = omega arith }
 
 -- one more than twice the root of a quarter of v has a square that fits 128 bits
 pub next_square_fits : (v r : ℕ) → v < 2 ^ 128 → IsRoot (v / 4) r → (r * 2 + 1) * (r * 2 + 1) < 2 ^ 128

@@ -17,7 +17,12 @@ abbrev pub drop_moment : ℕ → CodelState → ℕ → ℕ
 drop_moment interval s zero = s.drop_next
 drop_moment interval s (suc j) = drop_moment interval s j + spacing_of interval (s.count + j + 1)
 
--- The count that dropping begins with. It goes on from what the count grew by when the queue dropped last, where that was short ago.
+-- the state of a queue that drops, behind so many drops of the schedule
+abbrev pub after_drops : ℕ → CodelState → ℕ → CodelState
+after_drops interval s k = record s { count = s.count + k; drop_next = drop_moment interval s k }
+
+-- The count that dropping begins with. It goes on from what the count grew by when the queue dropped last, where that
+-- was short ago.
 abbrev pub resumed_count : ParamFields → ℕ → CodelState → ℕ
 resumed_count p now s =
     if nat_lt 1 (s.count - s.lastcount) && nat_lt now (s.drop_next + 16 * p.interval) then s.count - s.lastcount else 1
@@ -38,10 +43,11 @@ pub record IsStateInRange (s : CodelState) : Type 0 where
   pub count : s.count ≤ 2 ^ 61
   pub lastcount : s.lastcount ≤ 2 ^ 61
 
--- How the numbers of a state go on from one serve to the next, so that a caller can keep them in range. `waiting` and `waiting'` are
--- the lengths of the line before the serve and behind it. drop_next goes at most an interval past now, the count grows by at most the
--- number of packets that leave the line, and lastcount stays or follows the count.
-pub record StaysInRange (p : ParamFields) (now : ℕ) (old : CodelState) (waiting : ℕ) (new : CodelState) (waiting' : ℕ) : Type 0 where
+-- How the numbers of a state go on from one serve to the next, so that a caller can keep them in range. `waiting` and
+-- `waiting'` are the lengths of the line before the serve and behind it. drop_next goes at most an interval past now,
+-- the count grows by at most the number of packets that leave the line, and lastcount stays or follows the count.
+pub record StaysInRange (p : ParamFields) (now : ℕ) (old : CodelState) (waiting : ℕ) (new : CodelState) (waiting' : ℕ)
+    : Type 0 where
   pub interval : IsIntervalInRange p.interval
   pub drop_next : new.drop_next ≤ max old.drop_next (now + p.interval)
   pub count : new.count + waiting' ≤ old.count + waiting

@@ -6,7 +6,8 @@ use Rattle.std.proofs.lemmas.List.{drop-drop, get_or-set_same, set-set, set-get_
 use Rattle.packet_core.specs.declared.packet.Waiting.{Waiting}
 
 -- the ids of one packet more
-pub ids_more : (a b c : List ℕ) (ws : List Waiting) (w : Waiting) → b ≡ a ++ map (λ x. x.id) ws → c ≡ b ++ map (λ x. x.id) (w ∷ []) → c ≡ a ++ map (λ x. x.id) (ws ++ w ∷ [])
+pub ids_more : (a b c : List ℕ) (ws : List Waiting) (w : Waiting)
+    → b ≡ a ++ map (λ x. x.id) ws → c ≡ b ++ map (λ x. x.id) (w ∷ []) → c ≡ a ++ map (λ x. x.id) (ws ++ w ∷ [])
 ids_more a b c ws w first then' =
     then' ∙ ap (λ (l : List ℕ). l ++ map (λ (x : Waiting). x.id) (w ∷ [])) first
     ∙ append_assoc a (map (λ (x : Waiting). x.id) ws) (map (λ (x : Waiting). x.id) (w ∷ []))
@@ -17,7 +18,8 @@ abbrev pub line_at : List (List Waiting) → ℕ → List Waiting
 line_at lines i = get_or lines i []
 
 -- that many pulls from that line: it is shorter, and the others are as they were
-pub record PullsOne (i : ℕ) (old : MutBor (List (List Waiting))) (n i' : ℕ) (new : MutBor (List (List Waiting))) : Type 0 where
+pub record PullsOne (i : ℕ) (old : MutBor (List (List Waiting))) (n i' : ℕ) (new : MutBor (List (List Waiting)))
+    : Type 0 where
   pub same_line : i' ≡ i
   pub same_reference : new.ghost_name ≡ old.ghost_name
   pub rest : new.now ≡ set old.now i (drop n (line_at old.now i))
@@ -25,7 +27,8 @@ pub record PullsOne (i : ℕ) (old : MutBor (List (List Waiting))) (n i' : ℕ) 
 pub one_none : (i : ℕ) (a : MutBor (List (List Waiting))) → PullsOne i a 0 i a
 one_none i a = record { same_line = refl; same_reference = refl; rest = sym (set-get_or a.now i []) }
 
-pub one_more : (i : ℕ) (a : MutBor (List (List Waiting))) (i' : ℕ) (b : MutBor (List (List Waiting))) (i'' : ℕ) (c : MutBor (List (List Waiting))) (n : ℕ)
+pub one_more : (i : ℕ) (a : MutBor (List (List Waiting))) (i' : ℕ) (b : MutBor (List (List Waiting)))
+    (i'' : ℕ) (c : MutBor (List (List Waiting))) (n : ℕ)
     → i < length a.now → PullsOne i a n i' b → PullsOne i' b 1 i'' c → PullsOne i a (n + 1) i'' c
 one_more i a i' b i'' c n within first then' =
     let left = drop n (line_at a.now i) in

@@ -1,4 +1,4 @@
-use Rattle.std.specs.Prelude.{◌≡◌, ℕ, ◌+◌, ◌-◌, ◌<◌, ◌≤◌, List, drop, take, slice_get, Option, Some, None, option_map, true, false}
+use Rattle.std.specs.Prelude.{◌≡◌, ℕ, ◌+◌, ◌-◌, ◌<◌, ◌≤◌, List, drop, take, slice_get, Option, Some, None, option_map, unwrap_or, true, false}
 use Rattle.packet_core.specs.declared.packet.Waiting.{Waiting}
 use Rattle.packet_core.specs.declared.packet.Ecn.{Ecn}
 use Rattle.packet_core.specs.declared.packet.Ecn.TheVariants.{Ce}
@@ -8,13 +8,13 @@ use Rattle.codel_core.specs.declared.served.Mark.TheVariants.{NoMark, CodelMark}
 use Rattle.codel_core.specs.declared.served.Served.{Served}
 use Rattle.codel_core.specs.declared.state.CodelState.{CodelState}
 use Rattle.codel_core.specs.Queue.{IsDroppable, IsLate, IsMarkableAt}
-use Rattle.codel_core.specs.Schedule.{drop_moment, entered}
+use Rattle.codel_core.specs.Schedule.{after_drops, drop_moment, entered}
 
--- What becomes of first_above: it is given up where the packet isn't late, stays where it was set, and else is set an interval ahead.
-pub data FirstAbove (late : Type 0) (interval now : ℕ) (old new : Option ℕ) : Type 0 where
-  given_up : ¬ late → new ≡ None → FirstAbove late interval now old new
-  stays : late → (t : ℕ) → old ≡ Some t → new ≡ old → FirstAbove late interval now old new
-  set : late → old ≡ None → new ≡ Some (now + interval) → FirstAbove late interval now old new
+-- What becomes of first_above: it is given up where the packet isn't late. Where it is, it stays, or is set an interval
+-- ahead if it wasn't set.
+pub data FirstAbove (late : Type 0) (interval now : ℕ) (old : Option ℕ) : Option ℕ → Type 0 where
+  given_up : ¬ late → FirstAbove late interval now old None
+  stays : late → FirstAbove late interval now old (Some (unwrap_or old (now + interval)))
 
 -- while the queue drops, the packet at place j is dropped
 pub record IsDropped (p : ParamFields) (now : ℕ) (q : List Waiting) (old : CodelState) (j : ℕ) : Type 0 where
@@ -22,39 +22,38 @@ pub record IsDropped (p : ParamFields) (now : ℕ) (q : List Waiting) (old : Cod
   pub due : drop_moment p.interval old j ≤ now
   pub unmarkable : ¬ IsMarkableAt p q j
 
--- How a queue that drops stops, behind k drops. The first of these that applies: the packet at place k isn't droppable; it isn't due
--- yet; it is marked.
-pub data Stops (p : ParamFields) (now : ℕ) (q : List Waiting) (old : CodelState) (k : ℕ) (mark : Mark) (new : CodelState) : Type 0 where
-  leaves : ¬ IsDroppable p now q old.first_above k → mark ≡ NoMark
-      → new ≡ record old { first_above = new.first_above; dropping = false; count = old.count + k; drop_next = drop_moment p.interval old (k - 1) }
-      → Stops p now q old k mark new
-  waits : IsDroppable p now q old.first_above k → now < drop_moment p.interval old k → mark ≡ NoMark
-      → new ≡ record old { first_above = new.first_above; count = old.count + k; drop_next = drop_moment p.interval old k }
-      → Stops p now q old k mark new
-  marks : IsDroppable p now q old.first_above k → drop_moment p.interval old k ≤ now → IsMarkableAt p q k → mark ≡ CodelMark
-      → new ≡ record old { first_above = new.first_above; count = old.count + k + 1; drop_next = drop_moment p.interval old (k + 1) }
-      → Stops p now q old k mark new
+-- How a queue that drops stops, behind k drops: the mark of the packet at place k and the new state, apart from
+-- first_above. That packet isn't droppable, or it isn't due yet, or it is marked.
+pub data Stops (p : ParamFields) (now : ℕ) (q : List Waiting) (old : CodelState) (k : ℕ)
+    : Mark → CodelState → Type 0 where
+  leaves : ¬ IsDroppable p now q old.first_above k
+      → Stops p now q old k NoMark
+          (record (after_drops p.interval old k) { dropping = false; drop_next = drop_moment p.interval old (k - 1) })
+  waits : IsDroppable p now q old.first_above k → now < drop_moment p.interval old k
+      → Stops p now q old k NoMark (after_drops p.interval old k)
+  marks : IsDroppable p now q old.first_above k → drop_moment p.interval old k ≤ now → IsMarkableAt p q k
+      → Stops p now q old k CodelMark (after_drops p.interval old (k + 1))
 
--- CoDel's verdict (RFC 8289, section 5, with the marks of RFC 8290, section 4): k packets are dropped from the head of the queue, the
--- next one is given with that mark, and that is the new state, apart from first_above.
-pub data Verdict (p : ParamFields) (now : ℕ) (q : List Waiting) (old : CodelState) (k : ℕ) (mark : Mark) (new : CodelState) : Type 0 where
-  nothing : ¬ IsDroppable p now q old.first_above 0 → k ≡ 0 → mark ≡ NoMark
-      → new ≡ record old { first_above = new.first_above; dropping = false }
-      → Verdict p now q old k mark new
-  first_mark : IsDroppable p now q old.first_above 0 → old.dropping ≡ false → IsMarkableAt p q 0 → k ≡ 0 → mark ≡ CodelMark
-      → new ≡ record (entered p now old) { first_above = new.first_above }
-      → Verdict p now q old k mark new
-  first_drop : IsDroppable p now q old.first_above 0 → old.dropping ≡ false → ¬ IsMarkableAt p q 0 → k ≡ 1 → mark ≡ NoMark
-      → new ≡ record (entered p now old) { first_above = new.first_above }
-      → Verdict p now q old k mark new
-  drops : IsDroppable p now q old.first_above 0 → old.dropping ≡ true → ((j : ℕ) → j < k → IsDropped p now q old j)
+-- CoDel's verdict (RFC 8289, section 5, with the marks of RFC 8290, section 4): how many packets are dropped from the
+-- head of the queue, the mark of the next one, which is given, and the new state, apart from first_above.
+pub data Verdict (p : ParamFields) (now : ℕ) (q : List Waiting) (old : CodelState)
+    : ℕ → Mark → CodelState → Type 0 where
+  nothing : ¬ IsDroppable p now q old.first_above 0
+      → Verdict p now q old 0 NoMark (record old { dropping = false })
+  first_mark : IsDroppable p now q old.first_above 0 → old.dropping ≡ false → IsMarkableAt p q 0
+      → Verdict p now q old 0 CodelMark (entered p now old)
+  first_drop : IsDroppable p now q old.first_above 0 → old.dropping ≡ false → ¬ IsMarkableAt p q 0
+      → Verdict p now q old 1 NoMark (entered p now old)
+  drops : {k : ℕ} {mark : Mark} {new : CodelState}
+      → IsDroppable p now q old.first_above 0 → old.dropping ≡ true → ((j : ℕ) → j < k → IsDropped p now q old j)
       → Stops p now q old k mark new
       → Verdict p now q old k mark new
 
--- The verdict with the whole new state: k packets are dropped from the head of the queue, the one at place k is given with that mark
--- (none where the queue is empty), and that is the state behind it.
-pub record Decides (p : ParamFields) (now : ℕ) (q : List Waiting) (old : CodelState) (k : ℕ) (mark : Mark) (new : CodelState) : Type 0 where
-  pub verdict : Verdict p now q old k mark new
+-- The verdict with the whole new state: k packets are dropped from the head of the queue, the one at place k is given
+-- with that mark (none where the queue is empty), and that is the state behind it.
+pub record Decides (p : ParamFields) (now : ℕ) (q : List Waiting) (old : CodelState) (k : ℕ) (mark : Mark)
+    (new : CodelState) : Type 0 where
+  pub verdict : Verdict p now q old k mark (record new { first_above = old.first_above })
   pub first_above : FirstAbove (IsLate p now q k) p.interval now old.first_above new.first_above
 
 -- the ECN field that a packet is sent with: a mark is CE (RFC 3168, section 5)
@@ -64,26 +63,28 @@ sent_ecn CodelMark field = Ce
 
 -- a packet as it is given
 abbrev pub served : Mark → Waiting → Served
-served mark w = record { waiting = record w { packet = record w.packet { ecn = sent_ecn mark w.packet.ecn } }; mark = mark }
+served mark w =
+    record { waiting = record w { packet = record w.packet { ecn = sent_ecn mark w.packet.ecn } }; mark = mark }
 
--- What a verdict of k drops leaves of the line and of the sink: k pulls and one more, one after another, make the new line, and the
--- packets dropped, taken in order, make the new sink.
-pub record Leaves {A B : Type 0} (items : A → List Waiting) (pulled : A → ℕ → A → Type 0) (taken : B → List Waiting → B → Type 0)
-    (k : ℕ) (line : A) (sink : B) (line' : A) (sink' : B) : Type 0 where
+-- What a verdict of k drops makes of the line and of the sink: k pulls and one more, one after another, make the new
+-- line, and the packets dropped, taken in order, make the new sink.
+pub record PassesDrops {A B : Type 0} (items : A → List Waiting) (pulled : A → ℕ → A → Type 0)
+    (taken : B → List Waiting → B → Type 0) (k : ℕ) (line : A) (sink : B) (line' : A) (sink' : B) : Type 0 where
   pub pulls : pulled line (k + 1) line'
   pub rest : items line' ≡ drop (k + 1) (items line)
   pub takes : taken sink (take k (items line)) sink'
 
 -- What a serve does with a state, a line and a sink.
-pub record Serves {A B : Type 0} (items : A → List Waiting) (pulled : A → ℕ → A → Type 0) (taken : B → List Waiting → B → Type 0)
-    (p : ParamFields) (now : ℕ) (old : CodelState) (line : A) (sink : B) (answer : Option Served) (new : CodelState) (line' : A) (sink' : B) : Type 0 where
+pub record ServesLine {A B : Type 0} (items : A → List Waiting) (pulled : A → ℕ → A → Type 0)
+    (taken : B → List Waiting → B → Type 0) (p : ParamFields) (now : ℕ) (old : CodelState) (line : A) (sink : B)
+    (answer : Option Served) (new : CodelState) (line' : A) (sink' : B) : Type 0 where
   -- how many packets are dropped
   pub drops : ℕ
   -- the mark of the packet that is given
   pub mark : Mark
   pub decides : Decides p now (items line) old drops mark new
   pub given : answer ≡ option_map (served mark) (slice_get (items line) drops)
-  pub left : Leaves items pulled taken drops line sink line' sink'
+  pub left : PassesDrops items pulled taken drops line sink line' sink'
 
 -- the state of a queue that nothing was taken from
 abbrev pub opening : CodelState

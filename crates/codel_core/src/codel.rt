@@ -3,10 +3,10 @@
 ghost use Rattle.std.specs.Prelude.{◌≡◌, ◌^◌, ◌<◌, ◌≤◌, ◌↔◌, [], drop, length, slice_get, IsNone, None, Some, false};
 ghost use Rattle.packet_core.specs.Params.{IsIntervalInRange};
 ghost use Rattle.codel_core.specs.Schedule.{IsStateInRange, StaysInRange};
-ghost use Rattle.codel_core.specs.Verdict.{Serves};
+ghost use Rattle.codel_core.specs.Verdict.{ServesLine};
 
 use crate::control_law::spacing;
-use crate::judge::{enter, judge, may_mark};
+use crate::judge::{enter, may_mark, should_drop};
 use crate::line::{DropSink, Pull};
 use crate::served::Served;
 use crate::state::CodelState;
@@ -75,8 +75,10 @@ impl Codel {
         requires moment { now < 2 ^ 60 }
         requires numbers { IsStateInRange self.old }
         ensures none { IsNone result ↔ (L.items line.old ≡ []) }
-        ensures served { Serves L.items L.pulled S.taken params.now now self.old line.old sink.old result self.new line.new sink.new }
-        ensures range { StaysInRange params.now now self.old (length (L.items line.old)) self.new (length (L.items line.new)) }
+        ensures served { ServesLine L.items L.pulled S.taken params.now now
+            self.old line.old sink.old result self.new line.new sink.new }
+        ensures range { StaysInRange params.now now
+            self.old (length (L.items line.old)) self.new (length (L.items line.new)) }
     {
         serve_from(&mut self.state, line, now, params, sink)
     }
@@ -108,7 +110,8 @@ fn serve_from<L: Pull, S: DropSink>(
     requires moment { now < 2 ^ 60 }
     requires numbers { IsStateInRange state.old }
     ensures none { IsNone result ↔ (L.items line.old ≡ []) }
-    ensures served { Serves L.items L.pulled S.taken params.now now state.old line.old sink.old result state.new line.new sink.new }
+    ensures served { ServesLine L.items L.pulled S.taken params.now now
+        state.old line.old sink.old result state.new line.new sink.new }
     ensures interval { IsIntervalInRange params.now.interval }
 {
     let interval = params.interval();
@@ -117,7 +120,7 @@ fn serve_from<L: Pull, S: DropSink>(
         state.dropping = false;
         return None;
     };
-    if !judge(state, &first, line, now, params) {
+    if !should_drop(state, &first, line, now, params) {
         state.dropping = false;
         return Some(Served::unmarked(first));
     }
@@ -128,7 +131,8 @@ fn serve_from<L: Pull, S: DropSink>(
         }
         sink.take(first);
         let second = pull_waiting(line);
-        judge(state, &second, line, now, params);
+        // It is sent, late or not: the next drop is due a spacing from now. The judgement keeps `first_above` right.
+        should_drop(state, &second, line, now, params);
         enter(state, now, params);
         return Some(Served::unmarked(second));
     }
@@ -141,7 +145,7 @@ fn serve_from<L: Pull, S: DropSink>(
         }
         sink.take(head);
         head = pull_waiting(line);
-        if !judge(state, &head, line, now, params) {
+        if !should_drop(state, &head, line, now, params) {
             // No further drop is due, so `drop_next` stays at the moment at which the last one was: should dropping
             // begin again, `first_count` takes the time since then for the time since that drop.
             state.dropping = false;

@@ -27,7 +27,7 @@ fn is_late<L: Pull>(head: &Waiting, line: &L, now: u64, params: &Params) -> bool
 
 /// Whether a packet that was just pulled is droppable (RFC 8289, section 5.6, `dodequeue`). It keeps
 /// `first_above`.
-pub(crate) fn judge<L: Pull>(
+pub(crate) fn should_drop<L: Pull>(
     state: &mut CodelState,
     head: &Waiting,
     line: &L,
@@ -36,9 +36,11 @@ pub(crate) fn judge<L: Pull>(
 ) -> bool
     requires size { length (L.items line.now) ≤ 2 ^ 40 }
     requires moment { now < 2 ^ 60 }
-    ensures droppable { IsTrue result ↔ (IsLateBefore params.now now head.now (L.items line.now) × HasCome state.old.first_above now) }
-    ensures first_above { FirstAbove (IsLateBefore params.now now head.now (L.items line.now)) params.now.interval now state.old.first_above state.new.first_above }
-    ensures rest { state.new ≡ record state.old { first_above = state.new.first_above } }
+    ensures droppable { IsTrue result
+        ↔ (IsLateBefore params.now now head.now (L.items line.now) × HasCome state.old.first_above now) }
+    ensures first_above { FirstAbove (IsLateBefore params.now now head.now (L.items line.now)) params.now.interval now
+        state.old.first_above state.new.first_above }
+    ensures rest { record state.new { first_above = state.old.first_above } ≡ state.old }
 {
     if !is_late(head, line, now, params) {
         state.first_above = None;

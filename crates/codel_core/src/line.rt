@@ -46,5 +46,6 @@ pub trait DropSink {
 
     ghost taken_none: { (a : Self) → taken a [] a };
 
-    ghost taken_more: { (a b c : Self) (ws : List Waiting) (w : Waiting) → taken a ws b → taken b (w ∷ []) c → taken a (ws ++ w ∷ []) c };
+    ghost taken_more: { (a b c : Self) (ws : List Waiting) (w : Waiting)
+        → taken a ws b → taken b (w ∷ []) c → taken a (ws ++ w ∷ []) c };
 }

@@ -132,7 +132,8 @@ impl Pull for OneOf<'_, '_> {
 
     ghost pulled_none = { λ a. one_none a.chosen a.lines };
 
-    ghost pulled_more = { λ a b c n first then'. one_more a.chosen a.lines b.chosen b.lines c.chosen c.lines n a.within first then' };
+    ghost pulled_more = { λ a b c n first then'.
+        one_more a.chosen a.lines b.chosen b.lines c.chosen c.lines n a.within first then' };
 
     fn pull(&mut self) -> Option<Waiting> {
         pull_at(self.lines, self.chosen)

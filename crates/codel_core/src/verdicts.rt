@@ -3,7 +3,7 @@
 ghost use Rattle.std.specs.Prelude.{◌≡◌, ℕ, ◌+◌, ◌-◌, ◌^◌, ◌<◌, ◌≤◌, ◌↔◌, ◌++◌, [], length, drop, take, map, set, vec_len, vec_capacity, IsNone};
 ghost use Rattle.codel_core.specs.SeveralLines.{line_at};
 ghost use Rattle.codel_core.specs.Schedule.{IsStateInRange};
-ghost use Rattle.codel_core.specs.Verdict.{Serves};
+ghost use Rattle.codel_core.specs.Verdict.{ServesLine};
 
 use crate::codel::Codel;
 use crate::line::{DropSink, Pull};
@@ -28,7 +28,8 @@ fn serve<L: Pull, S: DropSink>(
     requires moment { now < 2 ^ 60 }
     requires numbers { IsStateInRange codel.old }
     ensures none { IsNone result ↔ (L.items line.old ≡ []) }
-    ensures served { Serves L.items L.pulled S.taken params.now now codel.old line.old sink.old result codel.new line.new sink.new }
+    ensures served { ServesLine L.items L.pulled S.taken params.now now
+        codel.old line.old sink.old result codel.new line.new sink.new }
 {
     codel.serve(line, now, params, sink)
 }
@@ -70,7 +71,8 @@ fn serve_one_of(
     requires size { length (line_at lines.old chosen) ≤ 2 ^ 40 }
     requires moment { now < 2 ^ 60 }
     requires numbers { IsStateInRange codel.old }
-    ensures { (k : ℕ) × (lines.new ≡ set lines.old chosen (drop (k + 1) (line_at lines.old chosen))) × (ids.new.ids.items ≡ ids.old.ids.items ++ map (λ w. w.id) (take k (line_at lines.old chosen))) }
+    ensures { (k : ℕ) × (lines.new ≡ set lines.old chosen (drop (k + 1) (line_at lines.old chosen)))
+        × (ids.new.ids.items ≡ ids.old.ids.items ++ map (λ w. w.id) (take k (line_at lines.old chosen))) }
 {
     let mut line = OneOf { lines, chosen };
     codel.serve(&mut line, now, params, ids)
