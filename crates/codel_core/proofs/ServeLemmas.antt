@@ -8,14 +8,14 @@ use Rattle.std.proofs.lemmas.Bool.{both_ways}
 use Rattle.packet_core.specs.declared.packet.Waiting.{Waiting}
 use Rattle.packet_core.specs.declared.params.ParamFields.{ParamFields}
 use Rattle.codel_core.specs.declared.served.Mark.{Mark}
-use Rattle.codel_core.specs.declared.served.Mark.TheVariants.{NoMark, CodelMark}
+use Rattle.codel_core.specs.declared.served.Mark.TheVariants.{NoMark}
 use Rattle.codel_core.specs.declared.served.Served.{Served}
 use Rattle.codel_core.specs.declared.state.CodelState.{CodelState}
 use Rattle.codel_core.specs.Queue.{IsLateBefore, IsLate, HasCome, IsDroppable, IsMarkableAt, is_markable}
 use Rattle.codel_core.specs.Schedule.{spacing_of, drop_moment, after_drops, entered}
 use Rattle.codel_core.specs.Spacing.{IsSpacing}
 use Rattle.codel_core.proofs.SpacingLemmas.{one_spacing_is}
-use Rattle.codel_core.specs.Verdict.{FirstAbove, given_up, stays, IsDropped, leaves, waits, marks, Verdict, nothing, drops, served, PassesDrops, ServesLine}
+use Rattle.codel_core.specs.Verdict.{FirstAbove, given_up, stays, IsDropped, leaves, Verdict, nothing, drops, served, PassesDrops, ServesLine}
 
 -- QUEUES AND STATES
 

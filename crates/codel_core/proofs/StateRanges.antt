@@ -1,5 +1,5 @@
 -- The numbers of a state stay in range from one serve to the next.
-use Rattle.std.proofs.Common.{◌≡◌, ℕ, zero, suc, ◌+◌, ◌-◌, ◌*◌, ◌<◌, ◌≤◌, List, length, drop, ap, arith, ◌∙◌, below_more, subst, sym}
+use Rattle.std.proofs.Common.{◌≡◌, ℕ, zero, suc, ◌+◌, ◌-◌, ◌<◌, ◌≤◌, List, length, drop, ap, arith, ◌∙◌, below_more, subst, sym}
 use Rattle.std.specs.Prelude.{max}
 use Rattle.std.proofs.lemmas.Bool.Decides.{nat_tests}
 use Rattle.std.proofs.lemmas.List.{length-drop}
@@ -8,7 +8,7 @@ use Rattle.packet_core.specs.declared.packet.Waiting.{Waiting}
 use Rattle.packet_core.specs.declared.params.ParamFields.{ParamFields}
 use Rattle.codel_core.specs.declared.served.Mark.{Mark}
 use Rattle.codel_core.specs.declared.state.CodelState.{CodelState}
-use Rattle.codel_core.specs.Schedule.{spacing_of, drop_moment, resumed_count, entered, StaysInRange}
+use Rattle.codel_core.specs.Schedule.{drop_moment, resumed_count, entered, StaysInRange}
 use Rattle.codel_core.specs.Verdict.{Stops, leaves, waits, marks, Verdict, nothing, first_mark, first_drop, drops}
 use Rattle.codel_core.proofs.SpacingLemmas.{spacing_le}
 use Rattle.codel_core.proofs.VerdictLemmas.{one_behind, within}

@@ -9,10 +9,9 @@ use Rattle.packet_core.specs.declared.packet.Waiting.{Waiting}
 use Rattle.packet_core.specs.declared.params.EcnUse.{EcnUse}
 use Rattle.packet_core.specs.declared.params.EcnUse.TheVariants as ecn
 use Rattle.packet_core.specs.declared.params.ParamFields.{ParamFields}
-use Rattle.codel_core.specs.Queue.{IsMarkableAt, is_markable}
-use Rattle.codel_core.specs.Verdict.{Decides, Stops, Verdict}
-use Rattle.codel_core.specs.Verdict.Stops.{leaves as stop_leaves, waits as stop_waits, marks as stop_marks}
-use Rattle.codel_core.specs.Verdict.Verdict.{nothing as verdict_nothing, first_mark as verdict_first_mark, first_drop as verdict_first_drop, drops as verdict_drops}
+use Rattle.codel_core.specs.Queue.{is_markable}
+use Rattle.codel_core.specs.Verdict.{Decides}
+use Rattle.codel_core.proofs.VerdictLemmas.{marked_at}
 use Rattle.codel_core.specs.declared.served.Mark.{Mark}
 use Rattle.codel_core.specs.declared.served.Mark.TheVariants.{NoMark, CodelMark}
 use Rattle.codel_core.specs.declared.state.CodelState.{CodelState}
@@ -67,24 +66,10 @@ markable ecn.Mark fields.Ect0 may e = cc
 markable ecn.Mark fields.Ce may e = cc
 
 module _ (p : ParamFields) where
-  marks_only : (now : ℕ) (queue : List Waiting) (codel : CodelState) (drops : ℕ) (mark : Mark) (codel' : CodelState) → Decides p now queue codel drops mark codel' → mark ≡ CodelMark → IsMarkableAt p queue drops
-  marks_only now queue codel k mark codel' d is = go d.verdict
-    where
-      stops : Stops p now queue codel k mark codel' → IsMarkableAt p queue k
-      stops (stop_leaves undroppable none e) = absurd (let m : CodelMark ≡ NoMark = sym is ∙ none in cc)
-      stops (stop_waits droppable early none e) = absurd (let m : CodelMark ≡ NoMark = sym is ∙ none in cc)
-      stops (stop_marks droppable due may one e) = may
-
-      go : Verdict p now queue codel k mark codel' → IsMarkableAt p queue k
-      go (verdict_nothing undroppable zero_is none e) = absurd (let m : CodelMark ≡ NoMark = sym is ∙ none in cc)
-      go (verdict_first_mark droppable calm may zero_is one e) = rw zero_is may
-      go (verdict_first_drop droppable calm may one_is none e) = absurd (let m : CodelMark ≡ NoMark = sym is ∙ none in cc)
-      go (verdict_drops droppable dropping before at) = stops at
-
   honest_mark : (now : ℕ) (queue : List Waiting) (codel : CodelState) (drops : ℕ) (mark : Mark) (codel' : CodelState) → Decides p now queue codel drops mark codel' → (w : Waiting) → slice_get queue drops ≡ Some w → MayHave mark w.packet.ecn
   honest_mark now queue codel drops NoMark codel' d w found = tt
   honest_mark now queue codel drops CodelMark codel' d w found =
-      let at = subst (λ o. IsSomeAnd o (λ w. IsTrue (is_markable p.ecn w.packet.ecn))) found (marks_only now queue codel drops CodelMark codel' d refl) in
+      let at = subst (λ o. IsSomeAnd o (λ w. IsTrue (is_markable p.ecn w.packet.ecn))) found (marked_at p now queue codel d.verdict) in
       markable p.ecn w.packet.ecn at
 
   pub policy_drops : DropsFromHeads (fq_codel_policy p)

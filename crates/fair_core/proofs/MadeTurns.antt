@@ -26,9 +26,9 @@ use Rattle.fair_core.proofs.AccountRanges.{some_from_map}
 
 -- nothing is dropped of an empty queue
 nothing_dropped : (p : ParamFields) (now : ℕ) (old : CodelState) (k : ℕ) (mark : Mark) (new : CodelState) → Verdict p now [] old k mark new → k ≡ 0
-nothing_dropped p now old k mark new (verdict_nothing undroppable none unmarked e) = none
-nothing_dropped p now old k mark new (verdict_first_mark droppable calm may none marked e) = none
-nothing_dropped p now old k mark new (verdict_first_drop droppable calm may one unmarked e) = absurd droppable.0
+nothing_dropped p now old k mark new (verdict_nothing undroppable) = refl
+nothing_dropped p now old k mark new (verdict_first_mark droppable calm may) = refl
+nothing_dropped p now old k mark new (verdict_first_drop droppable calm may) = absurd droppable.0
 nothing_dropped p now old k mark new (verdict_drops droppable dropping before stops) = absurd droppable.0
 
 module _ (p : ParamFields) (now : ℕ) (old : Held) (shown : ShownHead) (at : option_map shown_head (head_of old.queues) ≡ Some shown) where
@@ -61,7 +61,7 @@ module _ (p : ParamFields) (now : ℕ) (old : Held) (shown : ShownHead) (at : op
       let flow : shown.flow ≡ found.0.flow = ap (λ (h : ShownHead). h.flow) found.2 in
       let empty : queue_at old.queues.lists shown.flow ≡ [] = s.none.0 none in
       let decides = rw empty at s.decides in
-      let zero_drops : s.drops ≡ 0 = nothing_dropped p now ((account_at old.queues shown.flow).codel) s.drops s.mark s.codel decides.verdict in
+      let zero_drops : s.drops ≡ 0 = nothing_dropped p now ((account_at old.queues shown.flow).codel) s.drops s.mark (record s.codel { first_above = (account_at old.queues shown.flow).codel.first_above }) decides.verdict in
       let none_left : min (s.drops + 1) (length (queue_at old.queues.lists shown.flow)) ≡ 0 = omega (arith, ap length empty) in
       let queues_stay : set old.queues.lists.queues shown.flow [] ≡ old.queues.lists.queues = ap (set old.queues.lists.queues shown.flow) (sym empty) ∙ set-get_or old.queues.lists.queues shown.flow [] in
       let rest = rw (empty, zero_drops) at s.rest in

@@ -7,7 +7,7 @@ use Rattle.packet_core.specs.declared.params.ParamFields.{ParamFields}
 use Rattle.codel_core.specs.Queue.{bytes_of, is_markable, HasCome, IsDroppable, IsLate, IsLateBefore}
 use Rattle.codel_core.specs.Schedule.{drop_moment, resumed_count, spacing_of}
 use Rattle.codel_core.specs.Verdict.{Decides, FirstAbove, IsDropped, Stops}
-use Rattle.codel_core.specs.Verdict.FirstAbove.{given_up, stays, set as set_ahead}
+use Rattle.codel_core.specs.Verdict.FirstAbove.{given_up, stays}
 use Rattle.codel_core.specs.Verdict.Stops.{leaves, waits, marks}
 use Rattle.codel_core.specs.Verdict.Verdict.{nothing, first_mark, first_drop, drops}
 use Rattle.codel_core.specs.declared.served.Mark.{Mark}
@@ -89,7 +89,7 @@ module _ (p : ParamFields) (spacing : ℕ → ℕ) (now : ℕ) where
   judged_stop q s k true false true = record {
     drops = k;
     mark = CodelMark;
-    codel = record s { first_above = first_above_behind (is_late q k) s.first_above; count = s.count + k + 1; drop_next = moment_at s (k + 1) };
+    codel = record s { first_above = first_above_behind (is_late q k) s.first_above; count = s.count + (k + 1); drop_next = moment_at s (k + 1) };
     good = true;
   }
   judged_stop q s k true false false = record { drops = k; mark = NoMark; codel = s; good = false }
@@ -156,9 +156,9 @@ module _ (p : ParamFields) (spacing : ℕ → ℕ) (now : ℕ) where
   first_above_is q j old = go (is_late q j) refl old
     where
       go : (b : Bool) → is_late q j ≡ b → (old : Option ℕ) → FirstAbove (IsLate p now q j) p.interval now old (first_above_behind b old)
-      go false e old = given_up (not_late_before (slice_get q j) (drop (j + 1) q) e) refl
-      go true e (Some t) = stays (late_before (slice_get q j) (drop (j + 1) q) e) t refl refl
-      go true e None = set_ahead (late_before (slice_get q j) (drop (j + 1) q) e) refl refl
+      go false e old = given_up (not_late_before (slice_get q j) (drop (j + 1) q) e)
+      go true e (Some t) = stays (late_before (slice_get q j) (drop (j + 1) q) e)
+      go true e None = stays (late_before (slice_get q j) (drop (j + 1) q) e)
 
   -- THE VERDICT IS RIGHT
 
@@ -190,24 +190,24 @@ module _ (p : ParamFields) (spacing : ℕ → ℕ) (now : ℕ) where
     entry_is : (q : List Waiting) (s : CodelState) → is_droppable q s.first_above 0 ≡ true → s.dropping ≡ false → (b : Bool) → may_be_marked (slice_get q 0) ≡ b
         → Decides p now q s (judged_entry q s b).drops (judged_entry q s b).mark (judged_entry q s b).codel
     entry_is q s due not_yet true m = record {
-      verdict = first_mark (droppable q s.first_above 0 due) not_yet (markable (slice_get q 0) m) refl refl (rw (right (resumed_count p now s)) refl);
+      verdict = rw (right (resumed_count p now s)) (first_mark (droppable q s.first_above 0 due) not_yet (markable (slice_get q 0) m));
       first_above = first_above_is q 0 s.first_above;
     }
     entry_is q s due not_yet false m = record {
-      verdict = first_drop (droppable q s.first_above 0 due) not_yet (unmarkable (slice_get q 0) m) refl refl (rw (right (resumed_count p now s)) refl);
+      verdict = rw (right (resumed_count p now s)) (first_drop (droppable q s.first_above 0 due) not_yet (unmarkable (slice_get q 0) m));
       first_above = first_above_is q 1 s.first_above;
     }
 
     stop_is : (q : List Waiting) (s : CodelState) (k : ℕ) (d early m : Bool) → is_droppable q s.first_above k ≡ d → nat_lt now (moment_at s k) ≡ early → may_be_marked (slice_get q k) ≡ m
         → (judged_stop q s k d early m).good ≡ true
-        → (judged_stop q s k d early m).drops ≡ k × Stops p now q s k (judged_stop q s k d early m).mark (judged_stop q s k d early m).codel
+        → (judged_stop q s k d early m).drops ≡ k × Stops p now q s k (judged_stop q s k d early m).mark (record (judged_stop q s k d early m).codel { first_above = s.first_above })
         × FirstAbove (IsLate p now q k) p.interval now s.first_above (judged_stop q s k d early m).codel.first_above
-    stop_is q s k false early m d e m' good = (refl, leaves (not_droppable q s.first_above k d) refl (rw (moment_is s (k - 1)) refl), first_above_is q k s.first_above)
+    stop_is q s k false early m d e m' good = (refl, rw (moment_is s (k - 1)) (leaves (not_droppable q s.first_above k d)), first_above_is q k s.first_above)
     stop_is q s k true true m d e m' good =
-        (refl, waits (droppable q s.first_above k d) (subst (λ (t : ℕ). now < t) (moment_is s k) (ltb-true now (moment_at s k) e)) refl (rw (moment_is s k) refl), first_above_is q k s.first_above)
+        (refl, rw (moment_is s k) (waits (droppable q s.first_above k d) (subst (λ (t : ℕ). now < t) (moment_is s k) (ltb-true now (moment_at s k) e))), first_above_is q k s.first_above)
     stop_is q s k true false true d e m' good = (
       refl,
-      marks (droppable q s.first_above k d) (subst (λ (t : ℕ). t ≤ now) (moment_is s k) (ltb-false now (moment_at s k) e)) (markable (slice_get q k) m') refl (rw (moment_is s (k + 1)) refl),
+      rw (moment_is s (k + 1)) (marks (droppable q s.first_above k d) (subst (λ (t : ℕ). t ≤ now) (moment_is s k) (ltb-false now (moment_at s k) e)) (markable (slice_get q k) m')),
       first_above_is q k s.first_above,
     )
     stop_is q s k true false false d e m' good = absurd cc
@@ -215,7 +215,7 @@ module _ (p : ParamFields) (spacing : ℕ → ℕ) (now : ℕ) where
     by_is : (q : List Waiting) (s : CodelState) (d dropping : Bool) → is_droppable q s.first_above 0 ≡ d → s.dropping ≡ dropping → (judged_by q s d dropping).good ≡ true
         → Decides p now q s (judged_by q s d dropping).drops (judged_by q s d dropping).mark (judged_by q s d dropping).codel
     by_is q s false dropping d is good = record {
-      verdict = nothing (not_droppable q s.first_above 0 d) refl refl refl;
+      verdict = nothing (not_droppable q s.first_above 0 d);
       first_above = first_above_is q 0 s.first_above;
     }
     by_is q s true false d is good = entry_is q s d is (may_be_marked (slice_get q 0)) refl

@@ -1,4 +1,4 @@
-use Rattle.std.proofs.Common.{◌≡◌, ◌+◌, true, false, refl, sym, ap, ◌∙◌, arith}
+use Rattle.std.proofs.Common.{◌≡◌, ◌+◌, false, refl, sym, ap, ◌∙◌, arith}
 use Rattle.codel_core.specs.declared.state.CodelState.{CodelState}
 use Rattle.codel_core.specs.Verdict.{nothing, first_mark, first_drop, drops, waits, marks}
 use Rattle.codel_core.proofs.ServeLemmas.{InHand, in_hand, next_in_hand, kept, entered_from, goes_on, undroppable, unmarkable_at, begins, gives, gives_none, gives_undroppable, one_less, one_drop_more}
