@@ -1,4 +1,3 @@
-mod HashedBytes
-pub mod NumberLemmas
+pub mod NumeralLemmas
 pub mod TextLemmas
 pub mod WordLemmas

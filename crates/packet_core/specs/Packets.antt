@@ -25,4 +25,5 @@ same_ip (V4 a) (V4 b) = bytes_eq a b
 
 -- whether two five-tuples are the same, part by part
 abbrev pub same_tuple : FiveTuple → FiveTuple → Bool
-same_tuple a b = (a.proto == b.proto) && same_ip a.src b.src && same_ip a.dst b.dst && (a.sport == b.sport) && (a.dport == b.dport)
+same_tuple a b =
+    (a.proto == b.proto) && same_ip a.src b.src && same_ip a.dst b.dst && (a.sport == b.sport) && (a.dport == b.dport)

@@ -75,8 +75,8 @@ pub record AreInRange (p : ParamFields) : Type 0 where
 -- of those parameters, that one is the first that is out of its range
 abbrev pub IsFirstOutOf : List ParamName → ParamName → ParamFields → Type 0
 IsFirstOutOf [] name p = ⊥
-IsFirstOutOf (next ∷ names) name p =
-    ((name ≡ next) × ¬ IsValueOf next (value_of next p)) ⊎ (IsValueOf next (value_of next p) × IsFirstOutOf names name p)
+IsFirstOutOf (one ∷ names) name p =
+    ((name ≡ one) × ¬ IsValueOf one (value_of one p)) ⊎ (IsValueOf one (value_of one p) × IsFirstOutOf names name p)
 
 -- that parameter is the first one that is out of its range
 abbrev pub IsFirstOutOfRange : ParamName → ParamFields → Type 0

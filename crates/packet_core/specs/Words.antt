@@ -1,9 +1,9 @@
 -- How parameter words are read (the words are those of tc-fq_codel(8)).
-use Rattle.std.specs.Prelude.{ℕ, ◌+◌, ◌*◌, Bool, List, [], ◌∷◌, Option, Some, None, Result, Ok, Err, length, take, drop, codes, nat_le, ◌&&◌, ◌||◌, if◌then◌else◌}
+use Rattle.std.specs.Prelude.{ℕ, ◌+◌, ◌-◌, ◌*◌, Bool, List, [], ◌∷◌, Option, Some, None, Result, Ok, Err, length, take, drop, codes, nat_le, ◌&&◌, ◌||◌, if◌then◌else◌}
 use Rattle.std.specs.Char.{is_ascii_digit}
 use Rattle.std.specs.List.{take_while}
-use Rattle.std.specs.Str.{all_ascii_digits, bytes_eq}
-use Rattle.std.specs.Str.Parse.{digits_value}
+use Rattle.std.specs.Str.{bytes_eq}
+use Rattle.packet_core.specs.Numerals.{numeral_of}
 use Rattle.packet_core.specs.Params.{range_of, standard_fields}
 use Rattle.packet_core.specs.declared.params.Classify.TheVariants.{Dport, Hash}
 use Rattle.packet_core.specs.declared.params.EcnUse.TheVariants as ecn_use
@@ -17,14 +17,10 @@ use Rattle.packet_core.specs.declared.words.ParamWord.TheVariants.{Ecn, Valued}
 use Rattle.packet_core.specs.declared.words.ParamFault.{ParamFault}
 use Rattle.packet_core.specs.declared.words.ParamFault.TheVariants.{UnknownWord, MissingValue, NotANumber, OutOfRange}
 
--- a text of one or more decimal digits, of whatever value
-unfoldable pub number_of : List ℕ → Option ℕ
-number_of [] = None
-number_of (byte ∷ text) = if all_ascii_digits (byte ∷ text) then Some (digits_value 10 (byte ∷ text)) else None
-
 -- the names of the microsecond; nothing behind the digits means microseconds, too
 abbrev pub is_microseconds : List ℕ → Bool
-is_microseconds text = bytes_eq text [] || bytes_eq text (codes "us") || bytes_eq text (codes "usec") || bytes_eq text (codes "usecs")
+is_microseconds text =
+    bytes_eq text [] || bytes_eq text (codes "us") || bytes_eq text (codes "usec") || bytes_eq text (codes "usecs")
 
 -- the names of the millisecond
 abbrev pub is_milliseconds : List ℕ → Bool
@@ -54,14 +50,14 @@ product_of None other = None
 
 -- a time in microseconds: digits, and then a unit
 unfoldable pub time_of : List ℕ → Option ℕ
-time_of text = product_of (number_of (take (digits_in_front text) text)) (unit_of (drop (digits_in_front text) text))
+time_of text = product_of (numeral_of (take (digits_in_front text) text)) (unit_of (drop (digits_in_front text) text))
 
 -- the value of a parameter, from its text: a whole number or a time
 abbrev pub amount_of : ParamName → List ℕ → Option ℕ
-amount_of Limit text = number_of text
-amount_of Flows text = number_of text
-amount_of Quantum text = number_of text
-amount_of Mtu text = number_of text
+amount_of Limit text = numeral_of text
+amount_of Flows text = numeral_of text
+amount_of Quantum text = numeral_of text
+amount_of Mtu text = numeral_of text
 amount_of Target text = time_of text
 amount_of Interval text = time_of text
 
@@ -110,27 +106,23 @@ param_word_of word =
     else None
 
 -- The parameters that words say, read from left to right, the first word of them at this place, where the words
--- before said these parameters. The word behind a parameter that has a value is its value, whatever it is. The
--- first fault is answered.
-unfoldable pub read_from : ℕ → ParamFields → List (List ℕ) → Result ParamFields ParamFault
-read_from place p [] = Ok p
-read_from place p (word ∷ []) =
+-- before said these parameters and may have ended with one whose value is awaited. The word behind a parameter that has
+-- a value is its value, whatever it is. The first fault is answered.
+unfoldable pub read_from : ℕ → Option Parameter → ParamFields → List (List ℕ) → Result ParamFields ParamFault
+read_from place None p [] = Ok p
+read_from place (Some awaited) p [] = Err (MissingValue (place - 1))
+read_from place None p (word ∷ words) =
     elim (param_word_of word) [
       | None ↦ Err (UnknownWord place)
-      | Some (Ecn ecn) ↦ Ok (record p { ecn = ecn })
-      | Some (Valued parameter) ↦ Err (MissingValue place)
+      | Some (Ecn ecn) ↦ read_from (place + 1) None (record p { ecn = ecn }) words
+      | Some (Valued parameter) ↦ read_from (place + 1) (Some parameter) p words
     ]
-read_from place p (word ∷ next ∷ rest) =
-    elim (param_word_of word) [
-      | None ↦ Err (UnknownWord place)
-      | Some (Ecn ecn) ↦ read_from (place + 1) (record p { ecn = ecn }) (next ∷ rest)
-      | Some (Valued parameter) ↦
-          elim (with_text (place + 1) parameter next p) [
-            | Ok changed ↦ read_from (place + 2) changed rest
-            | Err fault ↦ Err fault
-          ]
+read_from place (Some awaited) p (value ∷ words) =
+    elim (with_text place awaited value p) [
+      | Ok changed ↦ read_from (place + 1) None changed words
+      | Err fault ↦ Err fault
     ]
 
 -- the parameters that words say, or the first fault with its place, from 1; what isn't said has its standard value
 abbrev pub params_of_words : List (List ℕ) → Result ParamFields ParamFault
-params_of_words words = read_from 1 standard_fields words
+params_of_words words = read_from 1 None standard_fields words

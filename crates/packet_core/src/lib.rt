@@ -3,6 +3,7 @@
 #![tactic(auto)]
 
 mod flow;
+mod numerals;
 mod packet;
 mod params;
 #[cfg(test)]
@@ -10,6 +11,7 @@ mod tests;
 mod words;
 
 pub use flow::{Seed, flow_of};
+pub use numerals::read_numeral;
 pub use packet::{Ecn, FiveTuple, Ip, LengthOutOfRange, MAX_LENGTH, Packet, Waiting};
 pub use params::{Classify, EcnUse, ParamFields, ParamName, Params};
 pub use words::{ParamFault, read_params};

@@ -1,10 +1,9 @@
 //! Parameter words, and the reading of them.
 
-ghost use Rattle.std.specs.Prelude.{◌≡◌, ◌-◌, ◌^◌, ◌<◌, map, min, option_map};
-ghost use Rattle.std.specs.Char.{digit_value};
-ghost use Rattle.std.specs.Option.{SomeIff};
-ghost use Rattle.packet_core.specs.Words.{amount_of, digits_in_front, is_microseconds, is_milliseconds, is_seconds, number_of, param_word_of, params_of_words, time_of, unit_of, with_text};
+ghost use Rattle.std.specs.Prelude.{◌≡◌, ◌-◌, ◌^◌, map, min, option_map};
+ghost use Rattle.packet_core.specs.Words.{amount_of, digits_in_front, is_microseconds, is_milliseconds, is_seconds, param_word_of, params_of_words, time_of, unit_of, with_text};
 
+use crate::numerals::read_numeral;
 use crate::params::{Classify, EcnUse, ParamName, Params};
 use thiserror::Error;
 
@@ -76,6 +75,7 @@ pub fn read_params(words: &[&str]) -> Result<Params, ParamFault>
 }
 
 /// What a word asks for, if it is a parameter's.
+#[tactic(auto, using(crate::proofs::TextLemmas::differ), unfolding(crate::specs::Words::param_word_of))]
 fn param_word(word: &str) -> Option<ParamWord>
     ensures { result ≡ param_word_of word.now }
 {
@@ -94,6 +94,7 @@ fn param_word(word: &str) -> Option<ParamWord>
 }
 
 /// The parameters with this one at the value that the text at this place says.
+#[tactic(auto, using(crate::proofs::TextLemmas::differ), unfolding(crate::specs::Words::with_classify))]
 fn with_text(
     params: Params,
     parameter: Parameter,
@@ -122,7 +123,9 @@ fn amount(name: ParamName, text: &[u8]) -> Option<u64>
     ensures { result ≡ option_map (λ n. min n (2 ^ 64 - 1)) (amount_of name text.now) }
 {
     match name {
-        ParamName::Limit | ParamName::Flows | ParamName::Quantum | ParamName::Mtu => number(text),
+        ParamName::Limit | ParamName::Flows | ParamName::Quantum | ParamName::Mtu => read_numeral(
+            text,
+        ),
         ParamName::Target | ParamName::Interval => time(text),
     }
 }
@@ -132,7 +135,7 @@ fn time(text: &[u8]) -> Option<u64>
     ensures { result ≡ option_map (λ n. min n (2 ^ 64 - 1)) (time_of text.now) }
 {
     let digits = digits_in_front(text);
-    let count = number(&text[..digits])?;
+    let count = read_numeral(&text[..digits])?;
     Some(count.saturating_mul(unit(&text[digits..])?))
 }
 
@@ -177,29 +180,4 @@ fn is_seconds(text: &[u8]) -> bool
     ensures { result ≡ is_seconds text.now }
 {
     matches!(text, b"s" | b"sec" | b"secs")
-}
-
-/// The value of a text of one or more decimal digits, and 2^64 - 1 where it is more than that.
-fn number(text: &[u8]) -> Option<u64>
-    ensures { result ≡ option_map (λ n. min n (2 ^ 64 - 1)) (number_of text.now) }
-{
-    if text.is_empty() {
-        return None;
-    }
-    let mut value = 0u64;
-    for byte in text {
-        let digit = digit(*byte)?;
-        value = value.saturating_mul(10).saturating_add(u64::from(digit));
-    }
-    Some(value)
-}
-
-/// The value of a decimal digit.
-fn digit(byte: u8) -> Option<u8>
-    ensures { SomeIff result (digit_value byte < 10) (digit_value byte) }
-{
-    match byte {
-        b'0'..=b'9' => Some(byte - b'0'),
-        _ => None,
-    }
 }

@@ -7,3 +7,4 @@ pub mod OverflowExamples
 pub mod ExamplesSpacing
 pub mod CodelExamples
 pub mod GiantExamples
+pub mod HashExamples

@@ -1,6 +1,6 @@
 use Rattle.std.proofs.Common.{◌≡◌, ◌-◌, ◌^◌, min, take}
 use Rattle.std.specs.Str.Parse.{AllDigits, digits_value}
-use Rattle.packet_core.proofs.words.number.Given as goal
+use Rattle.packet_core.proofs.numerals.read_numeral.Given as goal
 
 abbrev pub invariant-loop-byte : goal.invariant-loop-byte
 invariant-loop-byte l = record {
