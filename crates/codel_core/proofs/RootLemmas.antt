@@ -1,8 +1,7 @@
 -- Square roots: found digit by digit, in base two, the highest digit first, and found from that of a quarter.
-use Rattle.std.proofs.Common.{◌≡◌, ℕ, zero, suc, ◌+◌, ◌-◌, ◌*◌, ◌/◌, ◌%◌, ◌^◌, ◌<◌, ◌≤◌, refl, ap, ◌∙◌, subst, inl, inr, arith, pow-add}
+use Rattle.std.proofs.Common.{◌≡◌, ℕ, zero, suc, ◌+◌, ◌-◌, ◌*◌, ◌/◌, ◌^◌, ◌<◌, ◌≤◌, refl, ap, ◌∙◌, subst, inl, inr, arith, pow-add}
 use Rattle.std.proofs.Math.Nat.{mul-le-mul}
 use Rattle.std.proofs.lemmas.Bool.{cases_lt}
-use Rattle.std.proofs.lemmas.Nat.{one_shl}
 use Rattle.std.proofs.Math.Pow.{pow_mono}
 use Rattle.codel_core.specs.Root.{IsRoot}
 
@@ -18,10 +17,6 @@ pub record IsPartialRoot (v unit root rest : ℕ) : Type 0 where
   pub root_is : root ≡ found * unit
   pub rest_is : rest + found * found * unit ≡ v
   pub below : v < (found + 1) * (found + 1) * unit
-
--- the first unit, as the code shifts it into a word of w bits
-pub first_unit : (w n : ℕ) → n < w → 1 * 2 ^ (n / 2 * 2) % 2 ^ w ≡ 2 ^ (n / 2 * 2)
-first_unit w n h = one_shl (n / 2 * 2) w (omega arith)
 
 -- a number whose highest bit is bit n is at least the first unit
 pub first_unit_le : (v n : ℕ) → 2 ^ n ≤ v → 2 ^ (n / 2 * 2) ≤ v

@@ -1,5 +1,5 @@
 -- What each step of a serve makes of the state, the line and the sink, over plain variables.
-use Rattle.std.proofs.Common.{◌≡◌, ℕ, zero, suc, ◌+◌, ◌-◌, ◌<◌, ◌≤◌, ◌↔◌, Bool, true, false, List, [], ◌∷◌, ◌++◌, length, take, drop, Option, Some, None, refl, sym, ap, subst, ◌∙◌, arith, add-one, below_more}
+use Rattle.std.proofs.Common.{◌≡◌, ℕ, zero, suc, ◌+◌, ◌<◌, ◌≤◌, ◌↔◌, Bool, true, false, List, [], ◌∷◌, ◌++◌, length, take, drop, Option, Some, None, refl, sym, ap, subst, ◌∙◌, arith, add-one, below_more}
 use Rattle.std.specs.Prelude.{slice_get, option_map, IsTrue}
 use Rattle.std.proofs.Math.Seq.{take-suc}
 use Rattle.std.proofs.lemmas.List.{drop-drop, length-drop}
@@ -8,14 +8,13 @@ use Rattle.std.proofs.lemmas.Bool.{both_ways}
 use Rattle.packet_core.specs.declared.packet.Waiting.{Waiting}
 use Rattle.packet_core.specs.declared.params.ParamFields.{ParamFields}
 use Rattle.codel_core.specs.declared.served.Mark.{Mark}
-use Rattle.codel_core.specs.declared.served.Mark.TheVariants.{NoMark}
 use Rattle.codel_core.specs.declared.served.Served.{Served}
 use Rattle.codel_core.specs.declared.state.CodelState.{CodelState}
 use Rattle.codel_core.specs.Queue.{IsLateBefore, IsLate, HasCome, IsDroppable, IsMarkableAt, is_markable}
 use Rattle.codel_core.specs.Schedule.{spacing_of, drop_moment, after_drops, entered}
 use Rattle.codel_core.specs.Spacing.{IsSpacing}
 use Rattle.codel_core.proofs.SpacingLemmas.{one_spacing_is}
-use Rattle.codel_core.specs.Verdict.{FirstAbove, given_up, stays, IsDropped, leaves, Verdict, nothing, drops, served, PassesDrops, ServesLine}
+use Rattle.codel_core.specs.Verdict.{FirstAbove, given_up, stays, IsDropped, Verdict, served, PassesDrops, ServesLine}
 
 -- QUEUES AND STATES
 
@@ -67,16 +66,16 @@ one_drop_more interval i k r old state is same spaced =
 
 -- Behind k drops the packet at place k is in hand and was judged, and that is what became of first_above.
 pub record InHand {A B : Type 0} (items : A → List Waiting) (pulled : A → ℕ → A → Type 0) (taken : B → List Waiting → B → Type 0)
-    (p : ParamFields) (now : ℕ) (old : CodelState) (line : A) (sink : B) (k : ℕ) (head : Waiting) (droppable : Bool) (first_above : Option ℕ) (line' : A) (sink' : B) : Type 0 where
+    (p : ParamFields) (now : ℕ) (old : CodelState) (line : A) (sink : B) (k : ℕ) (head : Waiting) (first_above : Option ℕ) (line' : A) (sink' : B) : Type 0 where
   pub left : PassesDrops items pulled taken k line sink line' sink'
   pub head_is : Some head ≡ slice_get (items line) k
-  pub judged : IsTrue droppable ↔ IsDroppable p now (items line) old.first_above k
   pub fate : FirstAbove (IsLate p now (items line) k) p.interval now old.first_above first_above
 
 -- While the queue drops: k packets were dropped, and the one at place k is in hand and droppable.
 pub record Midway {A B : Type 0} (items : A → List Waiting) (pulled : A → ℕ → A → Type 0) (taken : B → List Waiting → B → Type 0)
     (p : ParamFields) (now : ℕ) (old : CodelState) (line : A) (sink : B) (k : ℕ) (head : Waiting) (state : CodelState) (line' : A) (sink' : B) : Type 0 where
-  pub hand : InHand items pulled taken p now old line sink k head true state.first_above line' sink'
+  pub hand : InHand items pulled taken p now old line sink k head state.first_above line' sink'
+  pub droppable : IsDroppable p now (items line) old.first_above k
   pub dropped : (j : ℕ) → j < k → IsDropped p now (items line) old j
   pub first : IsDroppable p now (items line) old.first_above 0
   pub dropping : old.dropping ≡ true
@@ -84,45 +83,31 @@ pub record Midway {A B : Type 0} (items : A → List Waiting) (pulled : A → �
 
 module _ {A B : Type 0} {items : A → List Waiting} {pulled : A → ℕ → A → Type 0} {taken : B → List Waiting → B → Type 0}
     {p : ParamFields} {now : ℕ} {old : CodelState} {line : A} {sink : B} where
-  -- what is left behind a pull and its judgement
-  pub in_hand : {k : ℕ} {head : Waiting} {droppable : Bool} {before first_above : Option ℕ} {line' : A} {sink' : B}
-      → PassesDrops items pulled taken k line sink line' sink'
-      → Some head ≡ slice_get (items line) k
-      → before ≡ old.first_above
-      → (IsTrue droppable ↔ (IsLateBefore p now head (items line') × HasCome before now))
-      → FirstAbove (IsLateBefore p now head (items line')) p.interval now before first_above
-      → InHand items pulled taken p now old line sink k head droppable first_above line' sink'
-  in_hand l is same judged fate =
-      record { left = l; head_is = is; judged = rw (← is, ← l.rest, ← same) judged; fate = rw (← is, ← l.rest, ← same) fate }
-
   -- what is left behind a drop, a pull and its judgement
-  pub next_in_hand : {k : ℕ} {head next : Waiting} {droppable : Bool} {before first_above : Option ℕ} {line' line'' : A} {sink' sink'' : B}
+  pub next_in_hand : {k : ℕ} {head next : Waiting} {droppable : Bool} {held before first_above : Option ℕ} {line' line'' : A} {sink' sink'' : B}
       → ((a b c : A) (n : ℕ) → pulled a n b → pulled b 1 c → pulled a (n + 1) c)
       → ((a b c : B) (ws : List Waiting) (w : Waiting) → taken a ws b → taken b (w ∷ []) c → taken a (ws ++ w ∷ []) c)
-      → PassesDrops items pulled taken k line sink line' sink'
-      → Some head ≡ slice_get (items line) k
+      → InHand items pulled taken p now old line sink k head held line' sink'
       → taken sink' (head ∷ []) sink'' → pulled line' 1 line'' → items line'' ≡ drop 1 (items line') → Some next ≡ slice_get (items line') 0
       → before ≡ old.first_above
       → (IsTrue droppable ↔ (IsLateBefore p now next (items line'') × HasCome before now))
       → FirstAbove (IsLateBefore p now next (items line'')) p.interval now before first_above
-      → InHand items pulled taken p now old line sink (k + 1) next droppable first_above line'' sink''
-  next_in_hand {k = k} {head = head} {line' = line'} {line'' = line''} {sink' = sink'} {sink'' = sink''} pulled_more taken_more l is take' pull rest next_is same judged fate =
-      in_hand (
-      record {
-        pulls = pulled_more line line' line'' (k + 1) l.pulls pull;
-        rest = rest ∙ ap (λ (q : List Waiting). drop 1 q) l.rest ∙ drop-drop 1 (k + 1) (items line);
-        takes = rw (next_taken (items line) k head is) (taken_more sink sink' sink'' (take k (items line)) head l.takes take');
-      }
-      ) (next_is ∙ ap (λ (q : List Waiting). slice_get q 0) l.rest ∙ at_head (items line) (k + 1)) same judged fate
-
-  -- the judgement says that the packet in hand isn't droppable
-  pub undroppable : {k : ℕ} {head : Waiting} {droppable : Bool} {first_above : Option ℕ} {line' : A} {sink' : B}
-      → InHand items pulled taken p now old line sink k head droppable first_above line' sink' → droppable ≡ false → ¬ IsDroppable p now (items line) old.first_above k
-  undroppable {droppable = droppable} h fails d = both_ways droppable fails (h.judged.1 d)
+      → InHand items pulled taken p now old line sink (k + 1) next first_above line'' sink'' × (IsTrue droppable ↔ IsDroppable p now (items line) old.first_above (k + 1))
+  next_in_hand {k = k} {head = head} {line' = line'} {line'' = line''} {sink' = sink'} {sink'' = sink''} pulled_more taken_more h take' pull rest next_is same judged fate =
+      let left = rest ∙ ap (λ (q : List Waiting). drop 1 q) h.left.rest ∙ drop-drop 1 (k + 1) (items line) in
+      let is = next_is ∙ ap (λ (q : List Waiting). slice_get q 0) h.left.rest ∙ at_head (items line) (k + 1) in
+      let takes = taken_more sink sink' sink'' (take k (items line)) head h.left.takes take' in (
+        record {
+          left = record { pulls = pulled_more line line' line'' (k + 1) h.left.pulls pull; rest = left; takes = rw (next_taken (items line) k head h.head_is) takes };
+          head_is = is;
+          fate = rw (← is, ← left, ← same) fate;
+        },
+        rw (← is, ← left, ← same) judged,
+      )
 
   -- the packet in hand is given
-  pub gives : {k : ℕ} {head : Waiting} {droppable : Bool} {first_above : Option ℕ} {line' : A} {sink' : B} {mark : Mark} {judged new : CodelState} {answer : Served}
-      → InHand items pulled taken p now old line sink k head droppable first_above line' sink'
+  pub gives : {k : ℕ} {head : Waiting} {first_above : Option ℕ} {line' : A} {sink' : B} {mark : Mark} {judged new : CodelState} {answer : Served}
+      → InHand items pulled taken p now old line sink k head first_above line' sink'
       → Verdict p now (items line) old k mark judged → judged ≡ record new { first_above = old.first_above } → new.first_above ≡ first_above → answer ≡ served mark head
       → ServesLine items pulled taken p now old line sink (Some answer) new line' sink'
   gives {k = k} {mark = mark} h verdict state_is same told =
@@ -134,80 +119,11 @@ module _ {A B : Type 0} {items : A → List Waiting} {pulled : A → ℕ → A �
         left = h.left;
       }
 
-  -- no packet waits
-  pub gives_none : {line' : A}
-      → None ≡ slice_get (items line) 0 → PassesDrops items pulled taken 0 line sink line' sink
-      → ServesLine items pulled taken p now old line sink None (record old { first_above = None; dropping = false }) line' sink
-  gives_none none left =
-      record {
-        drops = 0;
-        mark = NoMark;
-        decides = record { verdict = nothing (rw (← none) (λ d. d.0)); first_above = given_up (rw (← none) (λ late. late)) };
-        given = rw (← none) refl;
-        left = left;
-      }
-
-  -- a queue that drops goes on with a droppable packet
-  pub begins : {head : Waiting} {state : CodelState} {droppable : Bool} {line' : A}
-      → InHand items pulled taken p now old line sink 0 head droppable state.first_above line' sink
-      → droppable ≡ true → record state { first_above = old.first_above } ≡ old → state.dropping ≡ true
-      → Midway items pulled taken p now old line sink 0 head state line' sink
-  begins {head = head} {state = state} {line' = line'} h holds rest dropping =
-      let d = h.judged.0 holds in
-      let same = kept h.fate d.0 d.1 in
-      let none : old.count ≡ old.count + 0 = omega arith in
-      record {
-        hand = subst (λ (b : Bool). InHand items pulled taken p now old line sink 0 head b state.first_above line' sink) holds h;
-        dropped = λ j below. absurd (omega arith);
-        first = d;
-        dropping = sym (ap (λ (s : CodelState). s.dropping) rest) ∙ dropping;
-        state_is = (λ x. record state { first_above = same x }) ∙ rest ∙ (λ x. record old { count = none x });
-      }
-
   -- the packet in hand is one to drop
-  is_dropped : {k : ℕ} {head : Waiting} {state : CodelState} {line' : A} {sink' : B}
-      → Midway items pulled taken p now old line sink k head state line' sink'
-      → state.drop_next ≤ now → is_markable p.ecn head.packet.ecn ≡ false
+  pub is_dropped : {k : ℕ} {head : Waiting} {state : CodelState} {line' : A} {sink' : B}
+      → Midway items pulled taken p now old line sink k head state line' sink' → state.drop_next ≤ now → is_markable p.ecn head.packet.ecn ≡ false
       → (j : ℕ) → j < k + 1 → IsDropped p now (items line) old j
-  is_dropped {k = k} {head = head} {state = state} m due cannot =
-      let moment : state.drop_next ≡ drop_moment p.interval old k = ap (λ (s : CodelState). s.drop_next) m.state_is in
+  is_dropped {k = k} {head = head} m due cannot =
+      let moment = ap (λ (s : CodelState). s.drop_next) m.state_is in
       below_more (λ j. IsDropped p now (items line) old j) k m.dropped
-      (record { droppable = m.hand.judged.0 refl; due = omega arith; unmarkable = unmarkable_at p (items line) k head m.hand.head_is cannot })
-
-  -- the packet in hand is dropped, and the next one is droppable
-  pub goes_on : {k : ℕ} {head next : Waiting} {state state' : CodelState} {droppable : Bool} {line' line'' : A} {sink' sink'' : B} {i : ℕ} (r : ℕ)
-      → Midway items pulled taken p now old line sink k head state line' sink'
-      → state.drop_next ≤ now → is_markable p.ecn head.packet.ecn ≡ false
-      → InHand items pulled taken p now old line sink (k + 1) next droppable state'.first_above line'' sink''
-      → droppable ≡ true
-      → record state' { first_above = state.first_above } ≡ record state { count = state.count + 1 }
-      → i ≡ p.interval → IsSpacing i state'.count r
-      → Midway items pulled taken p now old line sink (k + 1) next (record state' { drop_next = state'.drop_next + r }) line'' sink''
-  goes_on {k = k} {next = next} {state = state} {state' = state'} {line'' = line''} {sink'' = sink''} {i = i} r m due cannot n holds rest interval_is spaced =
-      let d = n.judged.0 holds in
-      let same : state'.first_above ≡ state.first_above = kept n.fate d.0 d.1 ∙ sym (ap (λ (s : CodelState). s.first_above) m.state_is) in
-      let counted : state' ≡ record state { count = state.count + 1 } = (λ x. record state' { first_above = same x }) ∙ rest in
-      record {
-        hand = subst (λ (b : Bool). InHand items pulled taken p now old line sink (k + 1) next b state'.first_above line'' sink'') holds n;
-        dropped = is_dropped m due cannot;
-        first = m.first;
-        dropping = m.dropping;
-        state_is = ap (λ (s : CodelState). record s { drop_next = s.drop_next + r }) counted
-            ∙ one_drop_more p.interval i k r old state m.state_is interval_is (subst (λ (n : ℕ). IsSpacing i n r) (ap (λ (s : CodelState). s.count) counted) spaced);
-      }
-
-  -- the packet in hand is dropped, and the next one isn't droppable
-  pub gives_undroppable : {k : ℕ} {head next : Waiting} {state state' : CodelState} {droppable : Bool} {line' line'' : A} {sink' sink'' : B} {answer : Served}
-      → Midway items pulled taken p now old line sink k head state line' sink'
-      → state.drop_next ≤ now → is_markable p.ecn head.packet.ecn ≡ false
-      → InHand items pulled taken p now old line sink (k + 1) next droppable state'.first_above line'' sink''
-      → droppable ≡ false → record state' { first_above = state.first_above } ≡ record state { count = state.count + 1 }
-      → answer ≡ served NoMark next
-      → ServesLine items pulled taken p now old line sink (Some answer) (record state' { dropping = false }) line'' sink''
-  gives_undroppable {k = k} {state' = state'} m due cannot n fails rest told =
-      let counts : old.count + (k + 1) ≡ old.count + k + 1 = omega arith in
-      let place : k + 1 - 1 ≡ k = omega arith in
-      gives n (drops m.first m.dropping (is_dropped m due cannot) (leaves (undroppable n fails)))
-      ((λ x. record old { dropping = false; count = counts x; drop_next = drop_moment p.interval old (place x) })
-      ∙ sym ((λ x. record (rest x) { first_above = old.first_above; dropping = false }) ∙ (λ x. record (m.state_is x) { first_above = old.first_above; dropping = false; count = (m.state_is x).count + 1 })))
-      refl told
+      (record { droppable = m.droppable; due = omega (arith, moment); unmarkable = unmarkable_at p (items line) k head m.hand.head_is cannot })

@@ -214,22 +214,16 @@ module _ (p : ParamFields) (now : ℕ) (q : List Waiting) (old : CodelState) whe
   -- WHAT HOLDS OF EACH
 
   -- a queue that isn't empty gives a packet
-  gives_from : {k : ℕ} {mark : Mark} {new : CodelState} → Verdict p now q old k mark new → ((q ≡ []) × (k ≡ 0)) ⊎ (k < length q)
-  gives_from (nothing n) = elim (cases_lt 0 (length q)) [ inl some ↦ inr some | inr none ↦ inl (nil_from_length q (omega arith), refl) ]
-  gives_from (first_mark d idle can) = inr (omega (arith, one_behind 0 d.0))
-  gives_from (first_drop d idle cannot) = inr (omega (arith, one_behind 0 d.0))
-  gives_from (drops {k} d dropping before stop) = inr (within k d before)
-
-  pub verdict_gives : (k : ℕ) (mark : Mark) (new : CodelState) → Decides p now q old k mark new → ((q ≡ []) × (k ≡ 0)) ⊎ (k < length q)
-  verdict_gives k mark new v = gives_from v.verdict
+  pub verdict_gives : {k : ℕ} {mark : Mark} {new : CodelState} → Verdict p now q old k mark new → ((q ≡ []) × (k ≡ 0)) ⊎ (k < length q)
+  verdict_gives (nothing n) = elim (cases_lt 0 (length q)) [ inl some ↦ inr some | inr none ↦ inl (nil_from_length q (omega arith), refl) ]
+  verdict_gives (first_mark d idle can) = inr (omega (arith, one_behind 0 d.0))
+  verdict_gives (first_drop d idle cannot) = inr (omega (arith, one_behind 0 d.0))
+  verdict_gives (drops {k} d dropping before stop) = inr (within k d before)
 
   -- a packet with a mark may be marked
-  stop_marked : {k : ℕ} {new : CodelState} → Stops p now q old k CodelMark new → IsMarkableAt p q k
-  stop_marked (marks d due can) = can
-
   pub marked_at : {k : ℕ} {new : CodelState} → Verdict p now q old k CodelMark new → IsMarkableAt p q k
   marked_at (first_mark d idle can) = can
-  marked_at (drops d dropping before stop) = stop_marked stop
+  marked_at (drops d dropping before (marks d' due can)) = can
 
   -- its sender takes part, and marks are made
   pub verdict_honest : (k : ℕ) (mark : Mark) (new : CodelState)

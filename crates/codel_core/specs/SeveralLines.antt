@@ -24,13 +24,13 @@ pub record PullsOne (i : ℕ) (old : MutBor (List (List Waiting))) (n i' : ℕ) 
   pub same_reference : new.ghost_name ≡ old.ghost_name
   pub rest : new.now ≡ set old.now i (drop n (line_at old.now i))
 
-pub one_none : (i : ℕ) (a : MutBor (List (List Waiting))) → PullsOne i a 0 i a
-one_none i a = record { same_line = refl; same_reference = refl; rest = sym (set-get_or a.now i []) }
+pub pulls_one_none : (i : ℕ) (a : MutBor (List (List Waiting))) → PullsOne i a 0 i a
+pulls_one_none i a = record { same_line = refl; same_reference = refl; rest = sym (set-get_or a.now i []) }
 
-pub one_more : (i : ℕ) (a : MutBor (List (List Waiting))) (i' : ℕ) (b : MutBor (List (List Waiting)))
+pub pulls_one_more : (i : ℕ) (a : MutBor (List (List Waiting))) (i' : ℕ) (b : MutBor (List (List Waiting)))
     (i'' : ℕ) (c : MutBor (List (List Waiting))) (n : ℕ)
     → i < length a.now → PullsOne i a n i' b → PullsOne i' b 1 i'' c → PullsOne i a (n + 1) i'' c
-one_more i a i' b i'' c n within first then' =
+pulls_one_more i a i' b i'' c n within first then' =
     let left = drop n (line_at a.now i) in
     record {
       same_line = then'.same_line ∙ first.same_line;

@@ -28,7 +28,7 @@ pub data Stops (p : ParamFields) (now : ℕ) (q : List Waiting) (old : CodelStat
     : Mark → CodelState → Type 0 where
   leaves : ¬ IsDroppable p now q old.first_above k
       → Stops p now q old k NoMark
-          (record (after_drops p.interval old k) { dropping = false; drop_next = drop_moment p.interval old (k - 1) })
+      (record (after_drops p.interval old k) { dropping = false; drop_next = drop_moment p.interval old (k - 1) })
   waits : IsDroppable p now q old.first_above k → now < drop_moment p.interval old k
       → Stops p now q old k NoMark (after_drops p.interval old k)
   marks : IsDroppable p now q old.first_above k → drop_moment p.interval old k ≤ now → IsMarkableAt p q k

@@ -116,6 +116,7 @@ fn serve_from<L: Pull, S: DropSink>(
 {
     let interval = params.interval();
     let Some(first) = line.pull() else {
+        // An empty line is no standing queue: the next packet that is late begins the interval anew.
         state.first_above = None;
         state.dropping = false;
         return None;
@@ -140,6 +141,7 @@ fn serve_from<L: Pull, S: DropSink>(
     while state.drop_next <= now {
         state.count += 1;
         if may_mark(params, &head) {
+            // The mark tells the sender as a drop would. So it counts as one, and nothing has to leave in its place.
             state.drop_next += spacing(interval, state.count);
             return Some(Served::marked(head));
         }

@@ -19,17 +19,17 @@ pub fn one_verdict()
     ensures exists { (p : ParamFields) (now : ℕ) (q : List Waiting) (old : CodelState)
         → (k : ℕ) × (mark : Mark) × (new : CodelState) × Decides p now q old k mark new }
     ensures unique { (p : ParamFields) (now : ℕ) (q : List Waiting) (old : CodelState)
-            (k k' : ℕ) (mark mark' : Mark) (new new' : CodelState)
+        (k k' : ℕ) (mark mark' : Mark) (new new' : CodelState)
         → Decides p now q old k mark new → Decides p now q old k' mark' new'
         → (k ≡ k') × (mark ≡ mark') × (new ≡ new') }
 
     // k is a place of the queue, unless the queue is empty
     ensures gives { (p : ParamFields) (now : ℕ) (q : List Waiting) (old : CodelState)
-            (k : ℕ) (mark : Mark) (new : CodelState)
+        (k : ℕ) (mark : Mark) (new : CodelState)
         → Decides p now q old k mark new
         → ((q ≡ []) × (k ≡ 0)) ⊎ (k < length q) }
     ensures honest { (p : ParamFields) (now : ℕ) (q : List Waiting) (old : CodelState)
-            (k : ℕ) (mark : Mark) (new : CodelState)
+        (k : ℕ) (mark : Mark) (new : CodelState)
         → Decides p now q old k mark new → mark ≡ CodelMark
         → IsSomeAnd (slice_get q k) (λ w. (p.ecn ≡ ecn.Mark) × (w.packet.ecn ≢ field.NotEct)) }
 {}

@@ -124,16 +124,16 @@ pub(crate) struct OneOf<'a, 'b> {
 }
 
 impl Pull for OneOf<'_, '_> {
-    ghost use Rattle.codel_core.specs.SeveralLines.{line_at, PullsOne, one_none, one_more};
+    ghost use Rattle.codel_core.specs.SeveralLines.{line_at, PullsOne, pulls_one_none, pulls_one_more};
 
     ghost items = { λ l. line_at l.lines.now l.chosen };
 
     ghost pulled = { λ a n b. PullsOne a.chosen a.lines n b.chosen b.lines };
 
-    ghost pulled_none = { λ a. one_none a.chosen a.lines };
+    ghost pulled_none = { λ a. pulls_one_none a.chosen a.lines };
 
     ghost pulled_more = { λ a b c n first then'.
-        one_more a.chosen a.lines b.chosen b.lines c.chosen c.lines n a.within first then' };
+        pulls_one_more a.chosen a.lines b.chosen b.lines c.chosen c.lines n a.within first then' };
 
     fn pull(&mut self) -> Option<Waiting> {
         pull_at(self.lines, self.chosen)
