@@ -1,8 +1,7 @@
 -- The numbers of a state stay in range from one serve to the next.
-use Rattle.std.proofs.Common.{◌≡◌, ℕ, zero, suc, ◌+◌, ◌-◌, ◌<◌, ◌≤◌, List, length, drop, ap, arith, ◌∙◌, below_more, subst, sym}
+use Rattle.std.proofs.Common.{ℕ, zero, suc, ◌+◌, ◌-◌, ◌<◌, ◌≤◌, List, length, arith, below_more}
 use Rattle.std.specs.Prelude.{max}
 use Rattle.std.proofs.lemmas.Bool.Decides.{nat_tests}
-use Rattle.std.proofs.lemmas.List.{length-drop}
 use Rattle.packet_core.specs.Params.{IsIntervalInRange}
 use Rattle.packet_core.specs.declared.packet.Waiting.{Waiting}
 use Rattle.packet_core.specs.declared.params.ParamFields.{ParamFields}
@@ -23,8 +22,8 @@ moment_le interval now s zero due = omega arith
 moment_le interval now s (suc j) due = omega (arith, due j (omega arith), spacing_le interval (s.count + j + 1) (omega arith))
 
 module _ (p : ParamFields) (now : ℕ) (q : List Waiting) (old : CodelState) (interval : IsIntervalInRange p.interval) where
-  -- what a caller keeps behind k drops
-  abbrev Keeps : ℕ → CodelState → Type 0
+  -- what a caller keeps behind k drops and one packet more
+  abbrev pub Keeps : ℕ → CodelState → Type 0
   Keeps k new = StaysInRange p now old (length q) new (length q - (k + 1))
 
   entered_keeps : (k : ℕ) → k < length q → Keeps k (entered p now old)
@@ -42,13 +41,8 @@ module _ (p : ParamFields) (now : ℕ) (q : List Waiting) (old : CodelState) (in
       let next = moment_le p.interval now old (k + 1) (below_more (λ j. drop_moment p.interval old j ≤ now) k due at) in
       record { interval = interval; drop_next = next; count = omega arith; lastcount = omega arith }
 
-  verdict_keeps : {k : ℕ} {mark : Mark} {new : CodelState} → Verdict p now q old k mark new → Keeps k new
+  pub verdict_keeps : {k : ℕ} {mark : Mark} {new : CodelState} → Verdict p now q old k mark new → Keeps k new
   verdict_keeps (nothing n) = record { interval = interval; drop_next = omega arith; count = omega arith; lastcount = omega arith }
   verdict_keeps (first_mark d idle can) = entered_keeps 0 (omega (arith, one_behind p now q old 0 d.0))
   verdict_keeps (first_drop d idle cannot) = entered_keeps 1 (omega (arith, one_behind p now q old 0 d.0))
   verdict_keeps (drops {k} d dropping before stop) = stop_keeps (within p now q old k d before) (λ j h. (before j h).due) stop
-
-  -- the same, by the line that is left
-  pub verdict_in_range : (k : ℕ) (mark : Mark) (new : CodelState) (left : List Waiting) → Verdict p now q old k mark new → left ≡ drop (k + 1) q → StaysInRange p now old (length q) new (length left)
-  verdict_in_range k mark new left verdict rest =
-      subst (λ (n : ℕ). StaysInRange p now old (length q) new n) (sym (ap (λ (l : List Waiting). length l) rest ∙ length-drop (k + 1) q)) (verdict_keeps verdict)

@@ -1,4 +1,4 @@
-use Rattle.std.specs.Prelude.{ℕ, zero, suc, ◌+◌, ◌-◌, ◌*◌, ◌^◌, ◌≤◌, max, if◌then◌else◌, nat_lt, nat_le, ◌&&◌, true}
+use Rattle.std.specs.Prelude.{ℕ, zero, suc, ◌+◌, ◌-◌, ◌*◌, ◌^◌, ◌≤◌, max, if◌then◌else◌, nat_lt, nat_le, ◌&&◌, true, false}
 use Rattle.packet_core.specs.Params.{IsIntervalInRange}
 use Rattle.packet_core.specs.declared.params.ParamFields.{ParamFields}
 use Rattle.codel_core.specs.declared.state.CodelState.{CodelState}
@@ -20,6 +20,11 @@ drop_moment interval s (suc j) = drop_moment interval s j + spacing_of interval 
 -- the state of a queue that drops, behind so many drops of the schedule
 abbrev pub after_drops : ℕ → CodelState → ℕ → CodelState
 after_drops interval s k = record s { count = s.count + k; drop_next = drop_moment interval s k }
+
+-- the same where it stops to drop: drop_next stays at the moment at which the last of them was due
+abbrev pub stopped_after : ℕ → CodelState → ℕ → CodelState
+stopped_after interval s k =
+    record (after_drops interval s k) { dropping = false; drop_next = drop_moment interval s (k - 1) }
 
 -- The count that dropping begins with. It goes on from what the count grew by when the queue dropped last, where that
 -- was short ago.

@@ -1,4 +1,4 @@
-use Rattle.std.specs.Prelude.{◌≡◌, ℕ, ◌+◌, ◌-◌, ◌<◌, ◌≤◌, List, drop, take, slice_get, Option, Some, None, option_map, unwrap_or, true, false}
+use Rattle.std.specs.Prelude.{◌≡◌, ℕ, ◌+◌, ◌<◌, ◌≤◌, List, drop, take, slice_get, Option, Some, None, option_map, unwrap_or, true, false}
 use Rattle.packet_core.specs.declared.packet.Waiting.{Waiting}
 use Rattle.packet_core.specs.declared.packet.Ecn.{Ecn}
 use Rattle.packet_core.specs.declared.packet.Ecn.TheVariants.{Ce}
@@ -8,7 +8,7 @@ use Rattle.codel_core.specs.declared.served.Mark.TheVariants.{NoMark, CodelMark}
 use Rattle.codel_core.specs.declared.served.Served.{Served}
 use Rattle.codel_core.specs.declared.state.CodelState.{CodelState}
 use Rattle.codel_core.specs.Queue.{IsDroppable, IsLate, IsMarkableAt}
-use Rattle.codel_core.specs.Schedule.{after_drops, drop_moment, entered}
+use Rattle.codel_core.specs.Schedule.{after_drops, drop_moment, entered, stopped_after}
 
 -- What becomes of first_above: it is given up where the packet isn't late. Where it is, it stays, or is set an interval
 -- ahead if it wasn't set.
@@ -23,12 +23,11 @@ pub record IsDropped (p : ParamFields) (now : ℕ) (q : List Waiting) (old : Cod
   pub unmarkable : ¬ IsMarkableAt p q j
 
 -- How a queue that drops stops, behind k drops: the mark of the packet at place k and the new state, apart from
--- first_above. That packet isn't droppable, or it isn't due yet, or it is marked.
+-- first_above. The first of these that applies: that packet isn't droppable; it isn't due yet; it is marked.
 pub data Stops (p : ParamFields) (now : ℕ) (q : List Waiting) (old : CodelState) (k : ℕ)
     : Mark → CodelState → Type 0 where
   leaves : ¬ IsDroppable p now q old.first_above k
-      → Stops p now q old k NoMark
-      (record (after_drops p.interval old k) { dropping = false; drop_next = drop_moment p.interval old (k - 1) })
+      → Stops p now q old k NoMark (stopped_after p.interval old k)
   waits : IsDroppable p now q old.first_above k → now < drop_moment p.interval old k
       → Stops p now q old k NoMark (after_drops p.interval old k)
   marks : IsDroppable p now q old.first_above k → drop_moment p.interval old k ≤ now → IsMarkableAt p q k

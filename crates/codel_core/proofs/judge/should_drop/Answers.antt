@@ -1,4 +1,3 @@
-use Rattle.std.proofs.Common.{◌≡◌, true}
 use Rattle.std.proofs.lemmas.Bool.{both_ways}
 use Rattle.codel_core.specs.Verdict.{given_up, stays}
 use Rattle.codel_core.proofs.judge.should_drop.Goals as goal
@@ -9,10 +8,7 @@ returns-then-not-is_late-clause-first_above g c =
 
 pub returns-in-None-clause-first_above : goal.returns-in-None-clause-first_above
 returns-in-None-clause-first_above g c =
-    let late : c.is_late.result ≡ true = cc in
-    rw (c.in-None.is, ← c.interval.ensures.value) (stays (c.is_late.ensures.0 late))
+    rw (c.in-None.is, ← c.interval.ensures.value) (stays (c.is_late.ensures.0 (cc)))
 
 pub returns-in-Some-clause-first_above : goal.returns-in-Some-clause-first_above
-returns-in-Some-clause-first_above g c =
-    let late : c.is_late.result ≡ true = cc in
-    rw c.in-Some.is (stays (c.is_late.ensures.0 late))
+returns-in-Some-clause-first_above g c = rw c.in-Some.is (stays (c.is_late.ensures.0 (cc)))
