@@ -53,7 +53,8 @@ last_key placed (next ∷ rest) = last_key next rest
 -- the ends of a flow that has these packets
 abbrev pub ends_of : List Placed → Option Chain
 ends_of [] = None
-ends_of (placed ∷ rest) = Some (record { first = placed.key; last = last_key placed rest; len = length (placed ∷ rest) })
+ends_of (placed ∷ rest) =
+    Some (record { first = placed.key; last = last_key placed rest; len = length (placed ∷ rest) })
 
 -- each one's slot has it, with the key of the one behind it
 abbrev pub AreLinked : Slab Link → List Placed → Type 0
@@ -71,13 +72,15 @@ abbrev pub AreApart : List Placed → Type 0
 AreApart [] = Unit {0}
 AreApart (placed ∷ rest) = (¬ HasKey rest placed.key) × AreApart rest
 
--- The packets of each flow stand in slots of their own, linked from the first to the last, and nothing else stands in the slab.
+-- The packets of each flow stand in slots of their own, linked from the first to the last, and nothing else stands in
+-- the slab.
 pub record AreChainsOf (slots : Slab Link) (chains : List (Option Chain)) : Type 0 where
   pub placed : List (List Placed)
   pub ends : chains ≡ map ends_of placed
   pub linked : All (AreLinked slots) placed
   pub once : All AreApart placed
-  pub apart : (flow other key : ℕ) → HasKey (get_or placed flow []) key → HasKey (get_or placed other []) key → flow ≡ other
+  pub apart :
+      (flow other key : ℕ) → HasKey (get_or placed flow []) key → HasKey (get_or placed other []) key → flow ≡ other
   pub counted : slab_len slots ≡ sum_by length placed
 
 -- The same with few enough flows and packets, and with memory for the next pushes.

@@ -8,7 +8,8 @@ use Rattle.flow_core.specs.Listed.{AreMarked, NewAndOld}
 abbrev pub lists_of : Inside → NewAndOld
 lists_of f = record { flows = length f.marks.items; new_flows = f.new_flows.items; old_flows = f.old_flows.items }
 
--- The flows of both lists are those with a mark, the flows have numbers of 32 bits, and each list has room for all of them.
+-- The flows of both lists are those with a mark, the flows have numbers of 32 bits, and each list has room for all of
+-- them.
 pub record HasLists (f : Inside) : Type 0 where
   pub few : length f.marks.items < 2 ^ 32
   pub marked : AreMarked f.marks.items (f.new_flows.items ++ f.old_flows.items)

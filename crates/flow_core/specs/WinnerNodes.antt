@@ -1,5 +1,5 @@
--- The nodes of a tree over the flows. Node 1 is the root, and a node stands over the node of twice its number and the one
--- after. In a tree of so many leaves the leaf of a flow is the node of that number and the flow's added.
+-- The nodes of a tree over the flows. Node 1 is the root, and a node stands over the node of twice its number and the
+-- one after. In a tree of so many leaves the leaf of a flow is the node of that number and the flow's added.
 use Rattle.std.specs.Prelude.{◌≡◌, ◌≢◌, ℕ, zero, suc, ◌+◌, ◌-◌, ◌*◌, ◌/◌, ◌%◌, ◌<◌, ◌≤◌, List, length, get_or, min}
 use Rattle.flow_core.specs.declared.limits.TheConstants.{MAX_FLOWS}
 
@@ -49,8 +49,10 @@ pub record HasChanged (bytes winners : List ℕ) (flow : ℕ) : Type 0 where
 
 -- It grew.
 abbrev pub HasGrown : List ℕ → List ℕ → ℕ → Type 0
-HasGrown bytes winners flow = (changed : HasChanged bytes winners flow) × (get_or changed.before flow 0 ≤ get_or bytes flow 0)
+HasGrown bytes winners flow =
+    (changed : HasChanged bytes winners flow) × (get_or changed.before flow 0 ≤ get_or bytes flow 0)
 
 -- It fell.
 abbrev pub HasFallen : List ℕ → List ℕ → ℕ → Type 0
-HasFallen bytes winners flow = (changed : HasChanged bytes winners flow) × (get_or bytes flow 0 ≤ get_or changed.before flow 0)
+HasFallen bytes winners flow =
+    (changed : HasChanged bytes winners flow) × (get_or bytes flow 0 ≤ get_or changed.before flow 0)

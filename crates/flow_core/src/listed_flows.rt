@@ -90,7 +90,10 @@ impl ListedFlows {
     /// The first of the new flows becomes the last of the old ones (RFC 8290, section 4.2).
     pub(crate) fn new_to_old(&mut self)
         requires { 0 < length self.old.new_flows }
-        ensures { self.new ≡ record self.old { new_flows = drop 1 self.old.new_flows; old_flows = self.old.old_flows ++ take 1 self.old.new_flows } }
+        ensures { self.new ≡ record self.old {
+          new_flows = drop 1 self.old.new_flows;
+          old_flows = self.old.old_flows ++ take 1 self.old.new_flows;
+        } }
     {
         if let Some(flow) = self.new_flows.pop_front() {
             self.old_flows.push_back_reserved(flow);
