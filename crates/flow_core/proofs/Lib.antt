@@ -1,7 +1,6 @@
 pub mod ByteLemmas
 pub mod ChainLemmas
 pub mod FlowNumberLemmas
-pub mod LinkLemmas
 pub mod NodeLemmas
 pub mod PlacedLemmas
 pub mod ReadLemmas

@@ -1,5 +1,5 @@
 -- How one slab and the ends of each flow's chain give the queues, and what they keep.
-use Rattle.std.specs.Prelude.{◌≡◌, ◌⊎◌, ℕ, zero, suc, ◌≤◌, List, [], ◌∷◌, ◌++◌, All, Option, Some, None, get_or, length, map, sum_by, vec_len}
+use Rattle.std.specs.Prelude.{◌≡◌, ◌⊎◌, ℕ, zero, suc, ◌≤◌, List, [], ◌∷◌, ◌++◌, Option, Some, None, get_or, length, map, sum_by, vec_len}
 use Rattle.slab.specs.Slab.{Slab, HasRoomFor, get, slab_len}
 use Rattle.packet_core.specs.declared.packet.Waiting.{Waiting}
 use Rattle.flow_core.specs.declared.chains.Chain.{Chain}
@@ -53,7 +53,8 @@ last_key placed (next ∷ rest) = last_key next rest
 -- the ends of a flow that has these packets
 abbrev pub ends_of : List Placed → Option Chain
 ends_of [] = None
-ends_of (placed ∷ rest) = Some (record { first = placed.key; last = last_key placed rest; len = length (placed ∷ rest) })
+ends_of (placed ∷ rest) =
+    Some (record { first = placed.key; last = last_key placed rest; len = length (placed ∷ rest) })
 
 -- each one's slot has it, with the key of the one behind it
 abbrev pub AreLinked : Slab Link → List Placed → Type 0
@@ -71,18 +72,20 @@ abbrev pub AreApart : List Placed → Type 0
 AreApart [] = Unit {0}
 AreApart (placed ∷ rest) = (¬ HasKey rest placed.key) × AreApart rest
 
--- The packets of each flow stand in slots of their own, linked from the first to the last, and nothing else stands in the slab.
-pub record AreChainsOf (slots : Slab Link) (chains : List (Option Chain)) : Type 0 where
-  pub placed : List (List Placed)
-  pub ends : chains ≡ map ends_of placed
-  pub linked : All (AreLinked slots) placed
-  pub once : All AreApart placed
-  pub apart : (flow other key : ℕ) → HasKey (get_or placed flow []) key → HasKey (get_or placed other []) key → flow ≡ other
-  pub counted : slab_len slots ≡ sum_by length placed
+-- The ends are those of packets that stand in slots of their own, linked from the first to the last.
+pub record IsChain (slots : Slab Link) (ends : Option Chain) : Type 0 where
+  pub placed : List Placed
+  pub is : ends ≡ ends_of placed
+  pub linked : AreLinked slots placed
+  pub once : AreApart placed
 
--- The same with few enough flows and packets, and with memory for the next pushes.
+-- Each flow has a chain, no two of them share a slot, and nothing else stands in the slab. There are few enough flows
+-- and packets, and there is memory for the next pushes.
 pub record AreChained (c : Inside) : Type 0 where
-  pub chains : AreChainsOf c.slots c.chains.items
+  pub each : (flow : ℕ) → IsChain c.slots (get_or c.chains.items flow None)
+  pub apart :
+      (flow other key : ℕ) → HasKey (each flow).placed key → HasKey (each other).placed key → flow ≡ other
+  pub counted : slab_len c.slots ≡ sum_by length (queues_of c).queues
   pub flows : vec_len c.chains ≤ MAX_FLOWS
   pub few : slab_len c.slots ≤ MAX_WAITING
   pub room : HasRoomFor c.slots c.room

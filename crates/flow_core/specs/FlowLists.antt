@@ -1,15 +1,15 @@
 use Rattle.std.specs.Prelude.{◌≢◌, ℕ, ◌<◌, List, [], ◌∷◌, ◌++◌, All, length, get_or, set, replicate, sum_by}
 use Rattle.packet_core.specs.declared.packet.Waiting.{Waiting}
 
--- The queues of all flows, that of flow 0 first, and the two lists of flow numbers that a device looks at: the new flows and the old
--- ones (RFC 8290, section 4).
+-- The queues of all flows, that of flow 0 first, and the two lists of flow numbers that a device looks at: the new
+-- flows and the old ones (RFC 8290, section 4).
 pub record FlowLists : Type 0 where
   pub queues : List (List Waiting)
   pub new_flows : List ℕ
   pub old_flows : List ℕ
 
--- the same as callers see it, with the number of pushes that take no memory, and how often two flows' bytes were compared since the last
--- clear
+-- the same as callers see it, with the number of pushes that take no memory, and how often two flows' bytes were
+-- compared since the last clear
 pub record Holding : Type 0 where
   pub lists : FlowLists
   pub room : ℕ

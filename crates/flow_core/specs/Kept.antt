@@ -18,7 +18,8 @@ holding_of f = record {
   comparisons = f.winners.comparisons;
 }
 
--- The chains, the lists and the tree are of the same flows, the tree has the bytes of each queue, and each packet has a length in range.
+-- The chains, the lists and the tree are of the same flows, the tree has the bytes of each queue, and each packet has a
+-- length in range.
 pub record IsKept (f : Inside) : Type 0 where
   pub least : 1 ≤ length f.chains.queues
   pub most : length f.chains.queues ≤ MAX_FLOWS

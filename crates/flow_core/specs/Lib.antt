@@ -2,10 +2,8 @@ pub mod Chains
 pub mod Fattest
 pub mod FlowLists
 pub mod Kept
-pub mod Links
 pub mod Listed
 pub mod ListedFlows
-pub mod NewAndOld
 pub mod Pulling
 pub mod Queues
 pub mod WinnerNodes

@@ -1,18 +1,17 @@
--- How the links give what callers see, and what they keep.
-use Rattle.std.specs.Prelude.{◌^◌, ◌<◌, length}
+-- How the marks and the queues of flow numbers give what callers see, and what they keep.
+use Rattle.std.specs.Prelude.{◌^◌, ◌<◌, ◌≤◌, ◌++◌, length}
+use Rattle.std.specs.VecDeque.{deque_capacity}
 use Rattle.flow_core.specs.declared.listed_flows.ListedFlows.TheInside.{Inside}
-use Rattle.flow_core.specs.Links.{flows_of, AreChains}
-use Rattle.flow_core.specs.NewAndOld.{NewAndOld}
+use Rattle.flow_core.specs.Listed.{AreMarked, NewAndOld}
 
 -- both lists as callers see them
 abbrev pub lists_of : Inside → NewAndOld
-lists_of f = record {
-  flows = length f.links.items;
-  new_flows = flows_of f.links.items f.new_flows;
-  old_flows = flows_of f.links.items f.old_flows;
-}
+lists_of f = record { flows = length f.marks.items; new_flows = f.new_flows.items; old_flows = f.old_flows.items }
 
--- Both lists are chains of the links, and the flows have numbers of 32 bits.
-pub record IsLinked (f : Inside) : Type 0 where
-  pub few : length f.links.items < 2 ^ 32
-  pub chains : AreChains f.links.items f.new_flows f.old_flows (flows_of f.links.items f.new_flows) (flows_of f.links.items f.old_flows)
+-- The flows of both lists are those with a mark, the flows have numbers of 32 bits, and each list has room for all of
+-- them.
+pub record HasLists (f : Inside) : Type 0 where
+  pub few : length f.marks.items < 2 ^ 32
+  pub marked : AreMarked f.marks.items (f.new_flows.items ++ f.old_flows.items)
+  pub new_room : length f.marks.items ≤ deque_capacity f.new_flows
+  pub old_room : length f.marks.items ≤ deque_capacity f.old_flows

@@ -1,25 +1,19 @@
--- The nodes of a tree over the flows. Node 1 is the root, and a node stands over the node of twice its number and the one after. In a
--- tree of so many leaves the leaf of a flow is the node of that number and the flow's added.
-use Rattle.std.specs.Prelude.{◌≡◌, ℕ, zero, suc, ◌+◌, ◌-◌, ◌*◌, ◌/◌, ◌%◌, ◌^◌, ◌<◌, ◌≤◌, List, length, get_or, set}
+-- The nodes of a tree over the flows. Node 1 is the root, and a node stands over the node of twice its number and the
+-- one after. In a tree of so many leaves the leaf of a flow is the node of that number and the flow's added.
+use Rattle.std.specs.Prelude.{◌≡◌, ◌≢◌, ℕ, zero, suc, ◌+◌, ◌-◌, ◌*◌, ◌/◌, ◌%◌, ◌<◌, ◌≤◌, List, length, get_or, min}
 use Rattle.flow_core.specs.declared.limits.TheConstants.{MAX_FLOWS}
 
 -- the node so many levels above a node
 abbrev pub node_above : ℕ → ℕ → ℕ
 node_above zero node = node
-node_above (suc levels) node = node_above levels node / 2
+node_above (suc levels) node = node_above levels (node / 2)
 
--- the other node below the same one, or the flow whose leaf stands there
+-- the other node below the same one
 abbrev pub beside : ℕ → ℕ
 beside node = node + 1 - 2 * (node % 2)
 
--- The number is a power of two.
-pub record IsPowerOfTwo (n : ℕ) : Type 0 where
-  pub exponent : ℕ
-  pub power : n ≡ 2 ^ exponent
-
 -- A tree of so many leaves has one for each of so many flows.
 pub record HasLeaves (flows leaves : ℕ) : Type 0 where
-  pub doubled : IsPowerOfTwo leaves
   pub enough : flows ≤ leaves
   pub most : leaves ≤ MAX_FLOWS
 
@@ -30,9 +24,8 @@ pub record IsBelow (leaves node flow : ℕ) : Type 0 where
   pub meets : node_above levels (leaves + flow) ≡ node
 
 -- The first flow has more bytes than the other one, or as many and no greater number.
-pub record WinsOver (bytes : List ℕ) (winner other : ℕ) : Type 0 where
-  pub greatest : get_or bytes other 0 ≤ get_or bytes winner 0
-  pub least : other < winner → get_or bytes other 0 < get_or bytes winner 0
+abbrev pub WinsOver : List ℕ → ℕ → ℕ → Type 0
+WinsOver bytes winner other = get_or bytes other 0 + min 1 (winner - other) ≤ get_or bytes winner 0
 
 -- The flow wins among those below the node.
 pub record IsWinner (bytes : List ℕ) (leaves node winner : ℕ) : Type 0 where
@@ -48,14 +41,18 @@ AreWinnersFrom first bytes winners =
 abbrev pub AreWinners : List ℕ → List ℕ → Type 0
 AreWinners bytes winners = AreWinnersFrom 1 bytes winners
 
--- The winners are those of before the flow's count grew.
-pub record HasGrown (bytes winners : List ℕ) (flow : ℕ) : Type 0 where
-  pub before : ℕ
-  pub less : before ≤ get_or bytes flow 0
-  pub right : AreWinners (set bytes flow before) winners
+-- One flow's count has changed since the winners were right.
+pub record HasChanged (bytes winners : List ℕ) (flow : ℕ) : Type 0 where
+  pub before : List ℕ
+  pub others : (other : ℕ) → other ≢ flow → get_or bytes other 0 ≡ get_or before other 0
+  pub were : AreWinners before winners
 
--- The winners are those of before the flow's count fell.
-pub record HasFallen (bytes winners : List ℕ) (flow : ℕ) : Type 0 where
-  pub before : ℕ
-  pub more : get_or bytes flow 0 ≤ before
-  pub right : AreWinners (set bytes flow before) winners
+-- It grew.
+abbrev pub HasGrown : List ℕ → List ℕ → ℕ → Type 0
+HasGrown bytes winners flow =
+    (changed : HasChanged bytes winners flow) × (get_or changed.before flow 0 ≤ get_or bytes flow 0)
+
+-- It fell.
+abbrev pub HasFallen : List ℕ → List ℕ → ℕ → Type 0
+HasFallen bytes winners flow =
+    (changed : HasChanged bytes winners flow) × (get_or bytes flow 0 ≤ get_or changed.before flow 0)

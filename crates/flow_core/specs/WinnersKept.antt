@@ -10,7 +10,7 @@ abbrev pub counts_of : Inside → ByteCounts
 counts_of t = record { bytes = t.bytes.items; comparisons = t.comparisons }
 
 -- Each flow has a leaf and a count below 2^63, and each inner node holds the winner among the flows below it.
-pub record IsKept (t : Inside) : Type 0 where
+pub record HasWinners (t : Inside) : Type 0 where
   pub least : 1 ≤ vec_len t.bytes
   pub most : vec_len t.bytes ≤ MAX_FLOWS
   pub levels : IsLevels (vec_len t.bytes) t.levels

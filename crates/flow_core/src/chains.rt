@@ -137,7 +137,9 @@ impl Chains {
     pub(crate) fn pop(&mut self, flow: u32) -> Option<Waiting>
         requires { flow < length self.old.queues }
         ensures head { result ≡ slice_get (get_or self.old.queues flow []) 0 }
-        ensures rest { self.new ≡ record self.old { queues = set self.old.queues flow (drop 1 (get_or self.old.queues flow [])) } }
+        ensures rest { self.new ≡ record self.old {
+          queues = set self.old.queues flow (drop 1 (get_or self.old.queues flow []));
+        } }
     {
         let chain = self.chains[flow as usize]?;
         let first = self.slots.remove(chain.first);

@@ -76,7 +76,8 @@ impl Flows {
         ensures lists { self.new.lists ≡ with_queue self.old.lists flow (queue_at self.old.lists flow ++ waiting ∷ []) }
         ensures room { self.new.room + 1 ≡ self.old.room }
         ensures few_comparisons { CountsFew (length self.old.lists.queues) 1 self.old.comparisons self.new.comparisons }
-        ensures compares { 2 ≤ length self.old.lists.queues → min (self.old.comparisons + 1) u64.MAX ≤ self.new.comparisons }
+        ensures compares { 2 ≤ length self.old.lists.queues
+            → min (self.old.comparisons + 1) u64.MAX ≤ self.new.comparisons }
     {
         let bytes = u64::from(waiting.packet.len());
         self.chains.push(flow, waiting);
@@ -88,7 +89,10 @@ impl Flows {
     pub fn pop(&mut self, flow: u32) -> Option<Waiting>
         requires { flow < length self.old.lists.queues }
         ensures head { result ≡ slice_get (queue_at self.old.lists flow) 0 }
-        ensures rest { self.new ≡ record self.old { lists = with_queue self.old.lists flow (drop 1 (queue_at self.old.lists flow)); comparisons = self.new.comparisons } }
+        ensures rest { self.new ≡ record self.old {
+          lists = with_queue self.old.lists flow (drop 1 (queue_at self.old.lists flow));
+          comparisons = self.new.comparisons;
+        } }
         ensures few_comparisons { CountsFew (length self.old.lists.queues) 1 self.old.comparisons self.new.comparisons }
         ensures none_compares { IsNone result → self.new.comparisons ≡ self.old.comparisons }
     {
@@ -199,7 +203,9 @@ impl Flows {
     pub fn add_new(&mut self, flow: u32)
         requires flow { flow < length self.old.lists.queues }
         requires absent { ¬ Contains (self.old.lists.new_flows ++ self.old.lists.old_flows) flow }
-        ensures { self.new ≡ record self.old { lists = record self.old.lists { new_flows = self.old.lists.new_flows ++ flow ∷ [] } } }
+        ensures { self.new ≡ record self.old {
+          lists = record self.old.lists { new_flows = self.old.lists.new_flows ++ flow ∷ [] };
+        } }
     {
         self.listed.add_new(flow);
     }
@@ -207,7 +213,12 @@ impl Flows {
     /// The first of the new flows becomes the last of the old ones (RFC 8290, section 4.2). It takes no memory.
     pub fn new_to_old(&mut self)
         requires { 0 < length self.old.lists.new_flows }
-        ensures { self.new ≡ record self.old { lists = record self.old.lists { new_flows = drop 1 self.old.lists.new_flows; old_flows = self.old.lists.old_flows ++ take 1 self.old.lists.new_flows } } }
+        ensures { self.new ≡ record self.old {
+          lists = record self.old.lists {
+            new_flows = drop 1 self.old.lists.new_flows;
+            old_flows = self.old.lists.old_flows ++ take 1 self.old.lists.new_flows;
+          };
+        } }
     {
         self.listed.new_to_old();
     }
@@ -215,7 +226,11 @@ impl Flows {
     /// The first of the old flows becomes the last of them (RFC 8290, section 4.2). It takes no memory.
     pub fn rotate_old(&mut self)
         requires { 0 < length self.old.lists.old_flows }
-        ensures { self.new ≡ record self.old { lists = record self.old.lists { old_flows = drop 1 self.old.lists.old_flows ++ take 1 self.old.lists.old_flows } } }
+        ensures { self.new ≡ record self.old {
+          lists = record self.old.lists {
+            old_flows = drop 1 self.old.lists.old_flows ++ take 1 self.old.lists.old_flows;
+          };
+        } }
     {
         self.listed.rotate_old();
     }
@@ -223,7 +238,9 @@ impl Flows {
     /// The first of the old flows leaves the list (RFC 8290, section 4.2). It takes no memory.
     pub fn leave_old(&mut self)
         requires { 0 < length self.old.lists.old_flows }
-        ensures { self.new ≡ record self.old { lists = record self.old.lists { old_flows = drop 1 self.old.lists.old_flows } } }
+        ensures { self.new ≡ record self.old {
+          lists = record self.old.lists { old_flows = drop 1 self.old.lists.old_flows };
+        } }
     {
         self.listed.leave_old();
     }
@@ -263,7 +280,8 @@ impl Pull for Line<'_> {
 
     ghost pulled_none = { λ a. pulls_none a.flow a.flows };
 
-    ghost pulled_more = { λ a b c n first then'. pulls_more a.flow a.flows b.flow b.flows c.flow c.flows n a.within first then' };
+    ghost pulled_more = { λ a b c n first then'.
+        pulls_more a.flow a.flows b.flow b.flows c.flow c.flows n a.within first then' };
 
     fn pull(&mut self) -> Option<Waiting> {
         self.flows.pop(self.flow)

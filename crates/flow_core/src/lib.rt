@@ -1,9 +1,9 @@
 //! The queues of all flows, the list of new flows and the list of old flows (RFC 8290, sections 4 and 5).
 //!
-//! All packets that wait stand in one slab, chained flow by flow (`chains`). Both lists are chains through one
-//! table with a link for each flow (`listed_flows`). A tree of winners over the flows' byte counts has the fattest
-//! flow at its root (`winner_tree`). So a call costs the same whatever waits, and a packet that comes or goes costs
-//! one path of that tree besides.
+//! All packets that wait stand in one slab, chained flow by flow (`chains`). Both lists are ring buffers with room for
+//! all flows, and a mark says whether a flow is in one of them (`listed_flows`). A tree of winners over the flows' byte
+//! counts has the fattest flow at its root (`winner_tree`). So a call costs the same whatever waits, and a packet that
+//! comes or goes costs one path of that tree besides.
 #![tactic(auto)]
 
 #[cfg(test)]

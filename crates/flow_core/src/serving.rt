@@ -24,7 +24,14 @@ pub(crate) fn serve_flow<S: DropSink>(
     requires moment { now < 2 ^ 60 }
     requires numbers { IsStateInRange codel.old }
     ensures none { IsNone result ↔ (queue_at flows.old.lists flow ≡ []) }
-    ensures left { (k : ℕ) × (flows.new ≡ record flows.old { lists = with_queue flows.old.lists flow (drop (k + 1) (queue_at flows.old.lists flow)); comparisons = flows.new.comparisons }) × CountsFew (length flows.old.lists.queues) (min (k + 1) (length (queue_at flows.old.lists flow))) flows.old.comparisons flows.new.comparisons × S.taken sink.old (take k (queue_at flows.old.lists flow)) sink.new }
+    ensures left { (k : ℕ)
+        × (flows.new ≡ record flows.old {
+          lists = with_queue flows.old.lists flow (drop (k + 1) (queue_at flows.old.lists flow));
+          comparisons = flows.new.comparisons;
+        })
+        × CountsFew (length flows.old.lists.queues) (min (k + 1) (length (queue_at flows.old.lists flow)))
+        flows.old.comparisons flows.new.comparisons
+        × S.taken sink.old (take k (queue_at flows.old.lists flow)) sink.new }
 {
     codel.serve(&mut flows.line(flow), now, params, sink)
 }

@@ -303,7 +303,9 @@ impl DropSink for Dropped {
 
     ghost taken_none = { λ a. sym (add-zero a.count) };
 
-    ghost taken_more = { λ a b c ws w first then'. then' ∙ ap (λ n. n + 1) first ∙ add_assoc a.count (length ws) 1 ∙ ap (λ n. a.count + n) (sym (length-append ws (w ∷ []))) };
+    ghost taken_more = { λ a b c ws w first then'.
+        then' ∙ ap (λ n. n + 1) first ∙ add_assoc a.count (length ws) 1
+        ∙ ap (λ n. a.count + n) (sym (length-append ws (w ∷ []))) };
 
     fn take(&mut self, _dropped: Waiting) {
         self.room -= 1;

@@ -1,8 +1,9 @@
 //! The bytes that wait in each flow, and the flow that has the most, in a tree of winners. A change of one flow's
 //! bytes is at most one walk between its leaf and the root, and the winner of all flows is read at the root.
+
 ghost use Rattle.std.specs.Prelude.{◌≡◌, ◌≢◌, ℕ, [], ◌+◌, ◌-◌, ◌*◌, ◌^◌, ◌<◌, ◌≤◌, ◌↔◌, All, IfOk, IfSome, IsNone, IsTrue, length, min, replicate, slice_index, slice_set, vec_len};
 ghost use Rattle.flow_core.specs.Winners.{CountsFew, HasMostBytes, IsLevels};
-ghost use Rattle.flow_core.specs.WinnerNodes.{AreWinners, beside, HasFallen, HasGrown, HasLeaves, IsPowerOfTwo, WinsOver};
+ghost use Rattle.flow_core.specs.WinnerNodes.{AreWinners, beside, HasFallen, HasGrown, HasLeaves, WinsOver};
 
 use crate::limits::{MAX_FLOWS, Memory};
 use std::alloc::Global;
@@ -26,11 +27,11 @@ impl Model for WinnerTree {
 
     ghost Value = { ByteCounts };
 
-    ghost use Rattle.flow_core.specs.WinnersKept.{counts_of, IsKept};
+    ghost use Rattle.flow_core.specs.WinnersKept.{counts_of, HasWinners};
 
     ghost view = { counts_of };
 
-    ghost invariant = { IsKept };
+    ghost invariant = { HasWinners };
 }
 
 impl WinnerTree {
@@ -146,8 +147,7 @@ fn levels_over(flows: u32) -> u32
 
 // The winners in a tree of so many leaves, where no flow has bytes.
 fn first_winners(alloc: Global, leaves: usize) -> Result<Vec<u32>, Memory>
-    requires doubled { IsPowerOfTwo leaves }
-    requires most { leaves ≤ MAX_FLOWS }
+    requires { leaves ≤ MAX_FLOWS }
     ensures leaves { IfOk result (λ w. vec_len w ≡ leaves) }
     ensures winners { IfOk result (λ w. AreWinners [] w.items) }
 {
@@ -155,23 +155,24 @@ fn first_winners(alloc: Global, leaves: usize) -> Result<Vec<u32>, Memory>
     let mut node = leaves;
     while node > 1 {
         node -= 1;
-        winners[node] = left_winner(&winners, node);
+        let left = winner_at(&winners, 2 * node);
+        let right = winner_at(&winners, 2 * node + 1);
+        winners[node] = left.min(right);
     }
     Ok(winners)
 }
 
-// The winner at the left one of the nodes below an inner node.
-fn left_winner(winners: &[u32], node: usize) -> u32
-    requires node { node < length winners.now }
+// The winner at a node, which at a leaf is the leaf's flow.
+fn winner_at(winners: &[u32], node: usize) -> u32
+    requires node { node < 2 * length winners.now }
     requires most { length winners.now ≤ MAX_FLOWS }
-    ensures inner { 2 * node < length winners.now → result ≡ slice_index winners.now (2 * node) }
-    ensures leaf { length winners.now ≤ 2 * node → result + length winners.now ≡ 2 * node }
+    ensures inner { node < length winners.now → result ≡ slice_index winners.now node }
+    ensures leaf { length winners.now ≤ node → result + length winners.now ≡ node }
 {
-    let left = 2 * node;
-    if left < winners.len() {
-        winners[left]
+    if node < winners.len() {
+        winners[node]
     } else {
-        (left - winners.len()) as u32
+        (node - winners.len()) as u32
     }
 }
 
@@ -189,32 +190,23 @@ fn count(comparisons: &mut u64, made: u64)
     *comparisons = comparisons.saturating_add(made);
 }
 
-// Whether a count wins over another one. `right` is 1 where the other one stands to the left, and so wins a tie, and
-// else 0: one sum, which was faster than two conditions. Each comparison of two counts is made here, and counted.
-fn wins_over(comparisons: &mut u64, bytes: u64, other: u64, right: u64) -> bool
+// Whether a flow's count wins over that of another one, which wins a tie where its number is less: one sum, which was
+// faster than two conditions. Each comparison of two counts is made here, and counted.
+fn wins_over(comparisons: &mut u64, flow: u32, bytes: u64, other: u32, other_bytes: u64) -> bool
     requires few { comparisons.old < 2 ^ 32 }
-    requires other { other < 2 ^ 63 }
-    requires right { right ≤ 1 }
-    ensures wins { IsTrue result ↔ (other + right ≤ bytes) }
+    requires other { other_bytes < 2 ^ 63 }
+    ensures wins { IsTrue result ↔ (other_bytes + min 1 (flow - other) ≤ bytes) }
     ensures counted { comparisons.new ≡ comparisons.old + 1 }
 {
     *comparisons += 1;
-    other + right <= bytes
+    other_bytes + u64::from(other < flow) <= bytes
 }
 
-// The other flow below the same node of the lowest level.
-fn flow_beside(flow: u32) -> u32
-    ensures { result ≡ beside flow }
+// The node beside one, below the same node.
+fn node_beside(node: usize) -> usize
+    ensures { result ≡ beside node }
 {
-    flow ^ 1
-}
-
-// The winner at the node beside one, below the same node.
-fn winner_beside(winners: &[u32], node: usize) -> u32
-    requires within { beside node < length winners.now }
-    ensures { result ≡ slice_index winners.now (beside node) }
-{
-    winners[node ^ 1]
+    node ^ 1
 }
 
 // A flow's count grew: it wins at each node above its leaf, up to the first where another flow still does. The result
@@ -236,10 +228,8 @@ fn raise(bytes: &[u64], winners: &mut [u32], flow: u32) -> u64
     let mut comparisons = 0;
     let own = bytes[flow as usize];
     let root = winners[1];
-    let most = bytes_of(bytes, root);
-    let right = u64::from(root < flow);
-    if !wins_over(&mut comparisons, own, most, right) {
-        return comparisons + climb(bytes, winners, flow);
+    if !wins_over(&mut comparisons, flow, own, root, bytes_of(bytes, root)) {
+        return climb(bytes, winners, flow);
     }
     // It wins over the winner of all flows, and so over each one. Where it is that winner, no node changes.
     if root != flow {
@@ -251,7 +241,7 @@ fn raise(bytes: &[u64], winners: &mut [u32], flow: u32) -> u64
     comparisons
 }
 
-// The same where another flow still wins at the root, which isn't compared again.
+// The same where another flow still wins at the root, which isn't compared again: that one comparison is in the result.
 fn climb(bytes: &[u64], winners: &mut [u32], flow: u32) -> u64
     requires flow { flow < length bytes.now }
     requires some { 2 ≤ length winners.old }
@@ -261,24 +251,23 @@ fn climb(bytes: &[u64], winners: &mut [u32], flow: u32) -> u64
     requires another { slice_index winners.old 1 ≢ flow }
     requires loses { WinsOver bytes.now (slice_index winners.old 1) flow }
     ensures winners { AreWinners bytes.now winners.new }
-    ensures few { (levels : ℕ) → length winners.old ≡ 2 ^ levels → result + 1 ≤ levels }
+    ensures few { (levels : ℕ) → length winners.old ≡ 2 ^ levels → result ≤ levels }
+    ensures compares { 1 ≤ result }
 {
     let own = bytes[flow as usize];
-    let mut comparisons = 0;
+    let mut comparisons = 1;
     let mut node = winners.len() + flow as usize;
-    let mut other = flow_beside(flow);
     // The root stands over nodes 2 and 3.
     while node > 3 {
-        let right = (node % 2) as u64;
         node /= 2;
+        let winner = winners[node];
         // Where it won already it still does, with nothing to compare.
-        if winners[node] != flow {
-            if !wins_over(&mut comparisons, own, bytes_of(bytes, other), right) {
+        if winner != flow {
+            if !wins_over(&mut comparisons, flow, own, winner, bytes_of(bytes, winner)) {
                 return comparisons;
             }
             winners[node] = flow;
         }
-        other = winner_beside(winners, node);
     }
     comparisons
 }
@@ -298,20 +287,19 @@ fn lower(bytes: &[u64], winners: &mut [u32], flow: u32) -> u64
     // The winner so far and its bytes are carried along, so that no level waits for what the one below wrote.
     let mut winner = flow;
     let mut own = bytes[flow as usize];
-    let mut other = flow_beside(flow);
     while node > 1 {
-        let right = (node % 2) as u64;
+        let beside = node_beside(node);
         node /= 2;
         if winners[node] != flow {
             return comparisons;
         }
+        let other = winner_at(winners, beside);
         let other_bytes = bytes_of(bytes, other);
-        if !wins_over(&mut comparisons, own, other_bytes, right) {
+        if !wins_over(&mut comparisons, winner, own, other, other_bytes) {
             winner = other;
             own = other_bytes;
         }
         winners[node] = winner;
-        other = winner_beside(winners, node);
     }
     comparisons
 }

@@ -5,7 +5,6 @@ use Rattle.flow_core.proofs.winner_tree.first_winners.Given as goal
 -- the nodes from this one on have their winners
 abbrev pub invariant-loop-node : goal.invariant-loop-node
 invariant-loop-node l = record {
-  some : 1 ≤ l.node;
   within : l.node ≤ l.leaves;
   size : vec_len l.winners ≡ l.leaves;
   right : AreWinnersFrom l.node [] l.winners.items;

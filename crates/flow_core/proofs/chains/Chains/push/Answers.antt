@@ -1,11 +1,11 @@
-use Rattle.std.proofs.Common.{◌≡◌, ◌-◌, ◌+◌, ◌∙◌, ◌∷◌, ◌++◌, None, Some, [], get_or, set, arith}
+use Rattle.std.proofs.Common.{◌≡◌, ◌-◌, ◌+◌, ◌<◌, ◌∙◌, ◌∷◌, ◌++◌, None, Some, [], get_or, length, set, sym, arith}
 use Rattle.std.specs.Vec.{with_item}
 use Rattle.slab.specs.Slab.{get, with_value}
 use Rattle.flow_core.specs.declared.chains.Chain.{Chain}
 use Rattle.flow_core.specs.declared.chains.Link.{Link}
 use Rattle.flow_core.specs.Chains.{Placed, ends_of, queues_of}
-use Rattle.flow_core.proofs.ChainLemmas.{AreSeenAs, Arrives, ends_read, few_held, held, last_there, pushed_behind, pushed_first, waiting_seen}
-use Rattle.flow_core.proofs.PlacedLemmas.{ends_len}
+use Rattle.flow_core.proofs.ChainLemmas.{AreSeenAs, Arrives, ends_read, few_held, pushed_behind, pushed_first}
+use Rattle.flow_core.proofs.PlacedLemmas.{ends_len, last_there}
 use Rattle.flow_core.proofs.chains.Chains.push.Goals.{After-index}
 use Rattle.flow_core.proofs.chains.Chains.push.Goals as goal
 
@@ -22,23 +22,28 @@ arrives c =
       updates = there.updates;
       counted = there.len;
       capacity = there.capacity;
-      few = omega (arith, size, waiting_seen c.self.inside c.self.invariant);
+      few = omega (arith, size, c.self.invariant.counted);
       room = rw (← c.self.view_is) at c.requires.room;
     }
 
-ends : (c : After-index) → ends_of (held c.self.inside c.self.invariant c.args.flow) ≡ c.index.result.now
-ends c = ends_read c.self.inside c.self.invariant c.args.flow c.index.result.now (rw (← c.self.view_is) at c.requires.flow) c.index.ensures
+within : (c : After-index) → c.args.flow < length (queues_of c.self.inside).queues
+within c = rw (← c.self.view_is) at c.requires.flow
+
+ends : (c : After-index) → c.index.result.now ≡ ends_of (c.self.invariant.each c.args.flow).placed
+ends c = ends_read c.self.inside c.self.invariant c.args.flow (within c) c.index.result.now c.index.ensures
 
 pub index_mut-requires : goal.index_mut-requires
 index_mut-requires c =
     let before = (goal.at.index_mut-requires c).After-index in
-    last_there c.self.inside c.self.invariant c.args.flow c.insert_reserved-key.new.self (added before) c.in-Some.chain (arrives before) (ends before ∙ c.in-Some.is)
+    let own = c.self.invariant.each c.args.flow in
+    let there = c.insert_reserved-key.ensures in
+    last_there c.self.inside.slots c.insert_reserved-key.new.self own.placed c.in-Some.chain (added before) (sym c.in-Some.is ∙ ends before) own.linked there.was_vacant there.updates
 
 pub overflow_add-chain : goal.overflow_add-chain
 overflow_add-chain c =
-    let f = c.self.inside in
-    let here = ends (goal.at.overflow_add-chain c).After-index ∙ c.in-Some.is in
-    omega (arith, ends_len (held f c.self.invariant c.args.flow) c.in-Some.chain here, few_held f c.self.invariant c.args.flow, c.self.invariant.few)
+    let before = (goal.at.overflow_add-chain c).After-index in
+    let own = ends_len (c.self.invariant.each c.args.flow).placed c.in-Some.chain (sym c.in-Some.is ∙ ends before) in
+    omega (arith, own.0, few_held c.self.inside c.self.invariant c.args.flow (within before), c.self.invariant.few)
 
 -- it comes behind the last one, or to an empty flow
 behind : (c : After-index) (chain : Chain) (link : Link) → c.index.result.now ≡ Some chain → get c.insert_reserved-key.new.self chain.last ≡ Some link
@@ -50,7 +55,7 @@ behind : (c : After-index) (chain : Chain) (link : Link) → c.index.result.now 
     })
     (set (queues_of c.self.inside).queues c.args.flow (get_or (queues_of c.self.inside).queues c.args.flow [] ++ c.args.waiting ∷ []))
 behind c chain link is found =
-    pushed_behind c.self.inside c.self.invariant c.args.flow c.insert_reserved-key.new.self (added c) chain link (rw (← c.self.view_is) at c.requires.flow) (arrives c) (ends c ∙ is) found
+    pushed_behind c.self.inside c.self.invariant c.args.flow (within c) c.insert_reserved-key.new.self (added c) chain link (arrives c) (sym is ∙ ends c) found
 
 first : (c : After-index) → c.index.result.now ≡ None
     → AreSeenAs
@@ -60,7 +65,7 @@ first : (c : After-index) → c.index.result.now ≡ None
       room = c.self.inside.room - 1;
     })
     (set (queues_of c.self.inside).queues c.args.flow (get_or (queues_of c.self.inside).queues c.args.flow [] ++ c.args.waiting ∷ []))
-first c is = pushed_first c.self.inside c.self.invariant c.args.flow c.insert_reserved-key.new.self (added c) (rw (← c.self.view_is) at c.requires.flow) (arrives c) (ends c ∙ is)
+first c is = pushed_first c.self.inside c.self.invariant c.args.flow (within c) c.insert_reserved-key.new.self (added c) (arrives c) (sym is ∙ ends c)
 
 pub invariant_of-self : goal.invariant_of-self
 invariant_of-self c = (behind (goal.at.invariant_of-self c).After-index c.in-Some.chain c.index_mut.result.now c.in-Some.is c.index_mut.ensures.value).kept

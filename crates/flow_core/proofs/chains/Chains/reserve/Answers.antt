@@ -7,6 +7,11 @@ invariant_of-self c =
     let kept = c.self.invariant in
     rw c.reserve.ensures.rest_kept (grown c.self.inside kept c.reserve.new.self.capacity c.self.inside.room (omega (arith, kept.room, c.reserve.ensures.capacity)))
 
+pub invariant_of-self-else-self-pushes : goal.invariant_of-self-else-self-pushes
+invariant_of-self-else-self-pushes c =
+    let kept = c.self.invariant in
+    rw c.reserve.ensures.rest_kept (grown c.self.inside kept c.reserve.new.self.capacity c.self.inside.room (omega (arith, kept.room, c.reserve.ensures.capacity)))
+
 pub invariant_of-self-then-self-pushes : goal.invariant_of-self-then-self-pushes
 invariant_of-self-then-self-pushes c =
     let room = c.in_ok-reserve.ensures.room in

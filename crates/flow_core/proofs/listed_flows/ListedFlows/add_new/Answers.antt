@@ -1,19 +1,22 @@
-use Rattle.std.proofs.Common.{◌∷◌, ◌++◌, Some, [], length}
-use Rattle.flow_core.specs.Links.{flows_of}
-use Rattle.flow_core.proofs.LinkLemmas.{IsSeenAs, add_new_seen, new_last_within, relinked}
-use Rattle.flow_core.proofs.listed_flows.ListedFlows.add_new.Goals.{After-append}
+use Rattle.std.proofs.Common.{true, arith, length-set}
+use Rattle.flow_core.proofs.FlowNumberLemmas.{add_new, fewer_listed}
 use Rattle.flow_core.proofs.listed_flows.ListedFlows.add_new.Goals as goal
 
-added : (c : After-append) → let f = c.self.inside in
-    IsSeenAs (relinked f c.append.new.links (Some c.append.result) f.old_flows) (length f.links.items) (flows_of f.links.items f.new_flows ++ c.args.flow ∷ []) (flows_of f.links.items f.old_flows)
-added c = add_new_seen c.self.inside c.self.invariant c.args.flow c.append.new.links c.append.result
-    (rw (← c.self.view_is) at c.requires.flow) (rw (← c.self.view_is) at c.requires.absent) (rw c.deref_mut.ensures.value at c.append.ensures)
-
-pub append-requires-clause-last : goal.append-requires-clause-last
-append-requires-clause-last c = rw c.deref_mut.ensures.value (new_last_within c.self.inside c.self.invariant)
+pub push_back_reserved-requires : goal.push_back_reserved-requires
+push_back_reserved-requires c =
+    let f = c.self.inside in
+    let fewer = fewer_listed f.marks.items c.args.flow f.new_flows.items f.old_flows.items (rw (← c.self.view_is) at c.requires.flow) (rw (← c.self.view_is) at c.requires.absent) c.self.invariant.marked in
+    omega (arith, c.self.invariant.new_room, f.new_flows.ok.0)
 
 pub invariant_of-self : goal.invariant_of-self
-invariant_of-self c = (added (goal.at.invariant_of-self c).After-append).kept
-
-pub returns : goal.returns
-returns c = rw (← c.self.view_is) (added (goal.at.returns c).After-append).seen
+invariant_of-self c =
+    let f = c.self.inside in
+    let kept = c.self.invariant in
+    let size = length-set f.marks.items c.args.flow true in
+    record {
+      few = omega (arith, size, kept.few);
+      marked = rw c.push_back_reserved.ensures.items
+          (add_new f.marks.items c.args.flow f.new_flows.items f.old_flows.items (rw (← c.self.view_is) at c.requires.flow) (rw (← c.self.view_is) at c.requires.absent) kept.marked);
+      new_room = omega (arith, size, kept.new_room, c.push_back_reserved.ensures.capacity);
+      old_room = omega (arith, size, kept.old_room);
+    }

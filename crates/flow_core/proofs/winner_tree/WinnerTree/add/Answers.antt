@@ -1,6 +1,6 @@
-use Rattle.std.proofs.Common.{◌≡◌, ◌+◌, ◌<◌, get_or, length, arith, length-set}
+use Rattle.std.proofs.Common.{◌≡◌, ◌+◌, ◌<◌, get_or, length, arith, get_or-set_same, length-set}
 use Rattle.std.proofs.lemmas.List.{get_or_read}
-use Rattle.flow_core.proofs.WinnerLemmas.{grown_to, leaves_kept}
+use Rattle.flow_core.proofs.WinnerLemmas.{leaves_kept, written_count}
 use Rattle.flow_core.proofs.winner_tree.WinnerTree.add.Goals as goal
 
 pub raise-made-requires-clause-leaves : goal.raise-made-requires-clause-leaves
@@ -13,5 +13,6 @@ raise-made-requires-clause-grown c =
     let t = c.self.inside in
     let within : c.args.flow < length t.bytes.items = rw (← c.self.view_is) at c.requires.flow in
     let was : c.index_mut.result.now ≡ get_or t.bytes.items c.args.flow 0 = get_or_read t.bytes.items c.args.flow c.index_mut.result.now within c.index_mut.ensures.value 0 in
+    let count = c.index_mut.result.now + c.args.bytes in
     rw (c.deref.ensures.value, c.deref_mut.ensures.value)
-    (grown_to t.bytes.items t.winners.items c.args.flow (c.index_mut.result.now + c.args.bytes) c.self.invariant.winners within (omega arith))
+    (written_count t.bytes.items t.winners.items c.args.flow count c.self.invariant.winners, omega (arith, get_or-set_same t.bytes.items c.args.flow count 0 within))

@@ -12,13 +12,9 @@ small c = c.levels_over-levels.ensures.least 16 (omega arith)
 pub overflow_shl-levels : goal.overflow_shl-levels
 overflow_shl-levels c = omega (arith, small (goal.at.overflow_shl-levels c).After-levels_over-levels)
 
-pub first_winners-requires-clause-doubled : goal.first_winners-requires-clause-doubled
-first_winners-requires-clause-doubled c =
-    record { exponent = c.levels_over-levels.result; power = shifted c.levels_over-levels.result (small (goal.at.first_winners-requires-clause-doubled c).After-levels_over-levels) }
-
-pub first_winners-requires-clause-most : goal.first_winners-requires-clause-most
-first_winners-requires-clause-most c =
-    let few = small (goal.at.first_winners-requires-clause-most c).After-levels_over-levels in
+pub first_winners-requires : goal.first_winners-requires
+first_winners-requires c =
+    let few = small (goal.at.first_winners-requires c).After-levels_over-levels in
     rw (shifted c.levels_over-levels.result few) (most_leaves c.levels_over-levels.result few)
 
 pub invariant_of-result : goal.invariant_of-result

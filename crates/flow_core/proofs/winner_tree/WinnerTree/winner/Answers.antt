@@ -1,6 +1,7 @@
-use Rattle.std.proofs.Common.{◌≡◌, ◌<◌, ◌≤◌, get_or, length, refl, rules, arith}
+use Rattle.std.proofs.Common.{◌≡◌, ℕ, ◌<◌, ◌≤◌, get_or, length, refl, rules, arith}
 use Rattle.std.proofs.lemmas.List.{get_or_read}
-use Rattle.flow_core.proofs.WinnerLemmas.{leaves_kept, none_at, root_has_most, root_has_none, root_within}
+use Rattle.flow_core.proofs.ReadLemmas.{All-at}
+use Rattle.flow_core.proofs.WinnerLemmas.{leaves_kept, root_has_most, root_has_none, root_within}
 use Rattle.flow_core.proofs.winner_tree.WinnerTree.winner.Goals.{After-unwrap_or-root}
 use Rattle.flow_core.proofs.winner_tree.WinnerTree.winner.Goals as goal
 
@@ -23,7 +24,7 @@ returns-then-index-gt0-clause-none c =
     let t = c.self.inside in
     let bytes = get_or_read t.bytes.items c.unwrap_or-root.result c.index.result.now (within (goal.at.returns-then-index-gt0-clause-none c).After-unwrap_or-root) c.index.ensures 0 in (
       λ e. absurd cc,
-      λ none. absurd (let none' = rw (← c.self.view_is) at none in omega (arith, none_at t.bytes.items c.unwrap_or-root.result none', c.if-index-gt0.true)),
+      λ none. absurd (let none' = rw (← c.self.view_is) at none in omega (arith, All-at (λ (b : ℕ). b ≡ 0) t.bytes.items c.unwrap_or-root.result 0 refl none', c.if-index-gt0.true)),
     )
 
 pub returns-then-index-gt0-clause-winner : goal.returns-then-index-gt0-clause-winner
