@@ -31,6 +31,13 @@ fate_of (Sent id moment ecn mark) = Some id
 fate_of (Dropped id moment cause) = Some id
 fate_of (Closed moment) = None
 
+-- the id of the packet that the event is of; a close is of none
+abbrev pub packet_id_of : Event → Option ℕ
+packet_id_of (Accepted id moment lane flow packet) = Some id
+packet_id_of (Sent id moment ecn mark) = Some id
+packet_id_of (Dropped id moment cause) = Some id
+packet_id_of (Closed moment) = None
+
 abbrev pub moment_of : Event → ℕ
 moment_of (Accepted id moment lane flow packet) = moment
 moment_of (Sent id moment ecn mark) = moment
