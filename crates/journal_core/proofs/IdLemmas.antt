@@ -1,9 +1,9 @@
 -- Lemmas on acceptances whose ids are consecutive numbers.
-use Rattle.std.proofs.Common.{◌≡◌, ◌≢◌, ℕ, zero, suc, ◌+◌, ◌<◌, ◌≤◌, Bool, true, false, List, [], ◌∷◌, ◌++◌, map, filter, eqb, Some, None, refl, sym, ap, subst, ◌∙◌, inl, inr, arith}
+use Rattle.std.proofs.Common.{◌≡◌, ◌≢◌, ℕ, zero, suc, ◌+◌, ◌<◌, ◌≤◌, Bool, true, false, not, ◌||◌, List, [], ◌∷◌, ◌++◌, map, filter, eqb, Some, None, refl, sym, ap, subst, ◌∙◌, inl, inr, arith}
 use Rattle.std.specs.List.{AllByRecursion, range_with_len}
 use Rattle.std.proofs.lemmas.Bool.{cases_Bool, false≢true, eqb-false, eq-eqb, ne_eqb, cases_eq, or_parts}
 use Rattle.journal_core.specs.Happened.{Acceptance, named, is_among, passes}
-use Rattle.journal_core.proofs.ListLemmas.{ByRecursion-weaker, find-append}
+use Rattle.journal_core.proofs.ListLemmas.{ByRecursion-all, ByRecursion-parts, ByRecursion-weaker, filter_agree_on, filter_keeps_all, find-append}
 
 abbrev pub id_of : Acceptance → ℕ
 id_of a = a.id
@@ -53,19 +53,21 @@ Rises-above k (a ∷ accepted) r =
     let low = r.0 in
     (low, ByRecursion-weaker (λ b. a.id + 1 ≤ b.id) (λ b. k ≤ b.id) accepted (λ b h. omega arith) (Rises-above (a.id + 1) accepted r.1))
 
--- behind an acceptance the ids are above its own
-pub Rises-behind : (k : ℕ) (before after : List Acceptance) (a : Acceptance) → Rises k (before ++ a ∷ after) → AllByRecursion (λ b. a.id + 1 ≤ b.id) after
-Rises-behind k [] after a r = Rises-above (a.id + 1) after r.1
-Rises-behind k (b ∷ before) after a r = Rises-behind (b.id + 1) before after a r.1
+-- an acceptance's id is not among those before it
+pub Rises-apart : (k : ℕ) (before after : List Acceptance) (a : Acceptance) → Rises k (before ++ a ∷ after) → is_among (map id_of before) a.id ≡ false
+Rises-apart k [] after a r = refl
+Rises-apart k (b ∷ before) after a r =
+    let low = (ByRecursion-parts (λ c. b.id + 1 ≤ c.id) before (a ∷ after) (Rises-above (b.id + 1) (before ++ a ∷ after) r.1)).1.0 in
+    rw (ne_eqb b.id a.id (λ s. omega arith)) (Rises-apart (b.id + 1) before after a r.1)
 
--- before it they are below its own
-pub Rises-before : (k : ℕ) (before after : List Acceptance) (a : Acceptance) → Rises k (before ++ a ∷ after) → AllByRecursion (λ b. b.id + 1 ≤ a.id) before
-Rises-before k [] after a r = tt
-Rises-before k (b ∷ before) after a r = (Rises-first (b.id + 1) before after a r.1, Rises-before (b.id + 1) before after a r.1)
-  where
-    Rises-first : (k : ℕ) (before after : List Acceptance) (a : Acceptance) → Rises k (before ++ a ∷ after) → k ≤ a.id
-    Rises-first k [] after a r = r.0
-    Rises-first k (b ∷ before) after a r = let low = r.0 in let ih = Rises-first (b.id + 1) before after a r.1 in omega arith
+-- those whose ids are among the first ones are the first ones
+pub Rises-rest : (k : ℕ) (before after : List Acceptance) → Rises k (before ++ after) → filter (λ a. not (is_among (map id_of before) a.id)) (before ++ after) ≡ after
+Rises-rest k [] after r = filter_keeps_all (λ _. true) after (ByRecursion-all (λ _. true ≡ true) after (λ _. refl))
+Rises-rest k (b ∷ before) after r =
+    rw (eq-eqb b.id b.id refl)
+    (filter_agree_on (λ a. not (eqb b.id a.id || is_among (map id_of before) a.id)) (λ a. not (is_among (map id_of before) a.id)) (before ++ after)
+    (ByRecursion-weaker (λ a. b.id + 1 ≤ a.id) (λ a. not (eqb b.id a.id || is_among (map id_of before) a.id) ≡ not (is_among (map id_of before) a.id)) (before ++ after) (λ a low. rw (ne_eqb b.id a.id (λ s. omega arith))) (Rises-above (b.id + 1) (before ++ after) r.1))
+    ∙ Rises-rest (b.id + 1) before after r.1)
 
 -- an id that none has is not found
 pub named_none : (accepted : List Acceptance) (id : ℕ) → AllByRecursion (λ (a : Acceptance). a.id ≢ id) accepted → named accepted id ≡ None
@@ -104,19 +106,6 @@ passes_at test accepted id a e = rw e
 pub passes-append : (test : Acceptance → Bool) (accepted more : List Acceptance) (id : ℕ) (a : Acceptance) → named accepted id ≡ Some a → passes test (accepted ++ more) id ≡ passes test accepted id
 passes-append test accepted more id a e = rw (e, find-append (λ b. eqb b.id id) accepted more a e)
 
--- whether an id is among those and one more
-pub is_among_push : (ids : List ℕ) (id other : ℕ) → other ≢ id → is_among (ids ++ other ∷ []) id ≡ is_among ids id
-is_among_push [] id other ne = rw (ne_eqb other id ne)
-is_among_push (x ∷ ids) id other ne = rw (is_among_push ids id other ne)
-
-pub is_among_last : (ids : List ℕ) (id : ℕ) → is_among (ids ++ id ∷ []) id ≡ true
-is_among_last [] id = rw (eq-eqb id id refl)
-is_among_last (x ∷ ids) id =
-    elim (cases_Bool (eqb x id)) [
-      | inl t ↦ rw t
-      | inr t ↦ rw t (is_among_last ids id)
-    ]
-
 -- an id that differs from each is not among them
 pub is_among_none : (ids : List ℕ) (id : ℕ) → AllByRecursion (λ x. x ≢ id) ids → is_among ids id ≡ false
 is_among_none [] id h = refl
@@ -137,13 +126,3 @@ is_among-filter q (x ∷ ids) id t =
       | inl u ↦ rw (u, ih)
       | inr u ↦ rw u (ih ∙ sym (rw (ne_eqb x id (λ s. false≢true (sym u ∙ ap q s ∙ t)))))
     ]
-
--- an acceptance of the list is among its ids
-pub is_among_itself : (accepted : List Acceptance) → AllByRecursion (λ a. is_among (map id_of accepted) a.id ≡ true) accepted
-is_among_itself [] = tt
-is_among_itself (a ∷ accepted) = (rw (eq-eqb a.id a.id refl), behind accepted (is_among_itself accepted))
-  where
-    behind : (some : List Acceptance) → AllByRecursion (λ b. is_among (map id_of accepted) b.id ≡ true) some → AllByRecursion (λ b. is_among (map id_of (a ∷ accepted)) b.id ≡ true) some
-    behind [] h = tt
-    behind (b ∷ some) h =
-        (elim (cases_Bool (eqb a.id b.id)) [ inl t ↦ rw t | inr t ↦ rw t h.0 ], behind some h.1)

@@ -36,29 +36,14 @@ pub filter_keeps_none : {X : Type 0} (p : X → Bool) (xs : List X) → AllByRec
 filter_keeps_none p [] h = refl
 filter_keeps_none p (x ∷ xs) h = rw h.0 (filter_keeps_none p xs h.1)
 
-filter_keep : {X : Type 0} (p : X → Bool) (x : X) (xs : List X) → p x ≡ true → filter p (x ∷ xs) ≡ x ∷ filter p xs
-filter_keep p x xs t = rw t
-
-filter_skip : {X : Type 0} (p : X → Bool) (x : X) (xs : List X) → p x ≡ false → filter p (x ∷ xs) ≡ filter p xs
-filter_skip p x xs t = rw t
-
 -- two filters in either order
 pub filter_comm : {X : Type 0} (p q : X → Bool) (xs : List X) → filter p (filter q xs) ≡ filter q (filter p xs)
 filter_comm p q [] = refl
 filter_comm p q (x ∷ xs) =
     let ih = filter_comm p q xs in
     elim (cases_Bool (p x)) [
-      | inl t ↦
-          elim (cases_Bool (q x)) [
-            | inl u ↦
-                ap (filter p) (filter_keep q x xs u) ∙ filter_keep p x (filter q xs) t ∙ ap (λ r. x ∷ r) ih ∙ sym (filter_keep q x (filter p xs) u) ∙ ap (filter q) (sym (filter_keep p x xs t))
-            | inr u ↦ ap (filter p) (filter_skip q x xs u) ∙ ih ∙ sym (filter_skip q x (filter p xs) u) ∙ ap (filter q) (sym (filter_keep p x xs t))
-          ]
-      | inr t ↦
-          elim (cases_Bool (q x)) [
-            | inl u ↦ ap (filter p) (filter_keep q x xs u) ∙ filter_skip p x (filter q xs) t ∙ ih ∙ ap (filter q) (sym (filter_skip p x xs t))
-            | inr u ↦ ap (filter p) (filter_skip q x xs u) ∙ ih ∙ ap (filter q) (sym (filter_skip p x xs t))
-          ]
+      | inl t ↦ elim (cases_Bool (q x)) [ inl u ↦ simp (t, u) (ap (λ r. x ∷ r) ih) | inr u ↦ simp (t, u) ih ]
+      | inr t ↦ elim (cases_Bool (q x)) [ inl u ↦ simp (t, u) ih | inr u ↦ simp (t, u) ih ]
     ]
 
 -- a filter by a test that implies another is a filter of what the other keeps
@@ -115,6 +100,10 @@ ByRecursion-weaker P Q (x ∷ xs) f h = (f x h.0, ByRecursion-weaker P Q xs f h.
 pub ByRecursion-all : {X : Type 0} (P : X → Type 0) (xs : List X) → ((x : X) → P x) → AllByRecursion P xs
 ByRecursion-all P [] f = tt
 ByRecursion-all P (x ∷ xs) f = (f x, ByRecursion-all P xs f)
+
+pub ByRecursion-map : {X Y : Type 0} (f : X → Y) (P : Y → Type 0) (xs : List X) → AllByRecursion (λ x. P (f x)) xs → AllByRecursion P (map f xs)
+ByRecursion-map f P [] h = tt
+ByRecursion-map f P (x ∷ xs) h = (h.0, ByRecursion-map f P xs h.1)
 
 -- two facts of each element
 pub ByRecursion-both : {X : Type 0} (P Q : X → Type 0) (xs : List X) → AllByRecursion P xs → AllByRecursion Q xs → AllByRecursion (λ x. P x × Q x) xs

@@ -1,7 +1,8 @@
 -- How an acceptance and an event carry a tally on, and what its rows are where all events are counted.
 use Rattle.std.proofs.Common.{◌≡◌, ℕ, zero, suc, ◌+◌, ◌-◌, ◌<◌, ◌≤◌, Bool, true, false, cond, ◌||◌, All, List, [], ◌∷◌, ◌++◌, length, map, get_or, set, Option, Some, None, slice_get, refl, sym, ap, subst, ◌∙◌, inl, inr, arith}
 use Rattle.std.specs.Prelude.{count_by, sum_by}
-use Rattle.std.specs.Cmp.{IsEquivalence, both_ways}
+use Rattle.std.specs.Cmp.{IsEquivalence}
+use Rattle.std.proofs.lemmas.Bool.Decides.{Decides-like, same_from_decides}
 use Rattle.std.specs.List.{AllByRecursion, AllZip, Contains, IsDistinct, cons_option, filter_map, list_any, range_with_len}
 use Rattle.std.proofs.lemmas.Bool.{cases_Bool, cases_lt, cases_eq}
 use Rattle.std.proofs.lemmas.List.{same_lists, length-set, length-map, length_push, get_or-map, get_or-set_same, get_or-set_other, map-append, append-nil, take_all}
@@ -27,12 +28,9 @@ use Rattle.journal_core.proofs.LawsOfHistory.{same_tuple-Decides}
 same_tuple-IsEquivalence : IsEquivalence same_tuple
 same_tuple-IsEquivalence = record {
   refl = λ t. (same_tuple-Decides t t).1 refl;
-  symm = λ t u. both_ways (same_tuple t u) (same_tuple u t) (λ e. turned t u e) (λ e. turned u t e);
+  symm = λ t u. same_from_decides (same_tuple t u) (same_tuple u t) (Decides-like (same_tuple t u) sym sym (same_tuple-Decides t u)) (same_tuple-Decides u t);
   congr = λ t u v e. ap (λ x. same_tuple x v) ((same_tuple-Decides t u).0 e);
 }
-  where
-    turned : (t u : FiveTuple) → same_tuple t u ≡ true → same_tuple u t ≡ true
-    turned t u e = (same_tuple-Decides u t).1 (sym ((same_tuple-Decides t u).0 e))
 
 -- the first acceptance of each five-tuple
 abbrev firsts_of : List Acceptance → List Acceptance
