@@ -20,14 +20,14 @@ use Rattle.journal_core.specs.Happened.{Acceptance, acceptance_of, fate_of, acce
 use Rattle.journal_core.specs.History.{AreCounts}
 use Rattle.journal_core.specs.Statistics.{sent_of, dropped_of, is_codel_drop, is_overflow_drop, is_marked, length_of, length_named, bytes_named}
 use Rattle.journal_core.specs.Steps.{drop_event}
-use Rattle.journal_core.proofs.EventLemmas.{filter_map_same, filter_map_push}
+use Rattle.journal_core.proofs.EventLemmas.{filter_map_same, filter_map_push, sum_more}
 use Rattle.journal_core.proofs.FatelessPackets.{sum_fates}
 use Rattle.journal_core.proofs.FlowShares.{AreFound}
 use Rattle.journal_core.proofs.HistoryEvents.{bytes_stay}
 
--- what an event adds to each count
-abbrev Adds : Counts → Counts → List Acceptance → Event → Type 0
-Adds c c' accepted e =
+-- what an event grow to each count
+abbrev Grow : Counts → Counts → List Acceptance → Event → Type 0
+Grow c c' accepted e =
     (c'.accepted ≡ c.accepted + length (acceptances (e ∷ []))) × (c'.accepted_bytes ≡ c.accepted_bytes + sum_by length_of (acceptances (e ∷ [])))
     × (c'.sent ≡ c.sent + length (filter_map sent_of (e ∷ []))) × (c'.sent_bytes ≡ c.sent_bytes + bytes_named accepted (filter_map sent_of (e ∷ [])))
     × (c'.dropped_codel ≡ c.dropped_codel + count_by is_codel_drop (e ∷ [])) × (c'.dropped_overflow ≡ c.dropped_overflow + count_by is_overflow_drop (e ∷ []))
@@ -36,38 +36,35 @@ Adds c c' accepted e =
 
 -- One event more, where the ids sent and dropped name the same lengths as before.
 module _ (c c' : Counts) (events : List Event) (e : Event) (h : AreCounts c events) where
-  counts_push : Adds c c' (acceptances events) e → bytes_named (acceptances (events ++ e ∷ [])) (filter_map sent_of (events ++ e ∷ [])) ≡ bytes_named (acceptances events) (filter_map sent_of (events ++ e ∷ []))
+  counts_push : Grow c c' (acceptances events) e → bytes_named (acceptances (events ++ e ∷ [])) (filter_map sent_of (events ++ e ∷ [])) ≡ bytes_named (acceptances events) (filter_map sent_of (events ++ e ∷ []))
       → bytes_named (acceptances (events ++ e ∷ [])) (filter_map dropped_of (events ++ e ∷ [])) ≡ bytes_named (acceptances events) (filter_map dropped_of (events ++ e ∷ [])) → AreCounts c' (events ++ e ∷ [])
-  counts_push adds sent_stay dropped_stay =
+  counts_push grow sent_stay dropped_stay =
       record {
-        accepted = omega (arith, h.accepted, adds.0, length_more acceptance_of);
-        accepted_bytes = omega (arith, h.accepted_bytes, adds.1, sum_more length_of acceptance_of);
-        sent = omega (arith, h.sent, adds.2, length_more sent_of);
-        sent_bytes = omega (arith, h.sent_bytes, adds.3, sent_stay, sum_more (length_named (acceptances events)) sent_of);
-        dropped_codel = omega (arith, h.dropped_codel, adds.4, count_more is_codel_drop);
-        dropped_overflow = omega (arith, h.dropped_overflow, adds.5, count_more is_overflow_drop);
-        dropped_bytes = omega (arith, h.dropped_bytes, adds.6, dropped_stay, sum_more (length_named (acceptances events)) dropped_of);
-        marked = omega (arith, h.marked, adds.7, count_more is_marked);
-        fates = omega (arith, h.fates, adds.8, length_more fate_of);
+        accepted = omega (arith, h.accepted, grow.0, length_more acceptance_of);
+        accepted_bytes = omega (arith, h.accepted_bytes, grow.1, sum_more length_of acceptance_of events e);
+        sent = omega (arith, h.sent, grow.2, length_more sent_of);
+        sent_bytes = omega (arith, h.sent_bytes, grow.3, sent_stay, sum_more (length_named (acceptances events)) sent_of events e);
+        dropped_codel = omega (arith, h.dropped_codel, grow.4, count_more is_codel_drop);
+        dropped_overflow = omega (arith, h.dropped_overflow, grow.5, count_more is_overflow_drop);
+        dropped_bytes = omega (arith, h.dropped_bytes, grow.6, dropped_stay, sum_more (length_named (acceptances events)) dropped_of events e);
+        marked = omega (arith, h.marked, grow.7, count_more is_marked);
+        fates = omega (arith, h.fates, grow.8, length_more fate_of);
         fate_bytes =
-            omega (arith, h.sent_bytes, h.dropped_bytes, adds.3, adds.6, sent_stay, dropped_stay, sum_more (length_named (acceptances events)) sent_of, sum_more (length_named (acceptances events)) dropped_of,
+            omega (arith, h.sent_bytes, h.dropped_bytes, grow.3, grow.6, sent_stay, dropped_stay, sum_more (length_named (acceptances events)) sent_of events e, sum_more (length_named (acceptances events)) dropped_of events e,
             sum_fates (length_named (acceptances (events ++ e ∷ []))) (events ++ e ∷ []));
       }
     where
       length_more : {X : Type 0} (f : Event → Option X) → length (filter_map f (events ++ e ∷ [])) ≡ length (filter_map f events) + length (filter_map f (e ∷ []))
       length_more f = ap length (filter_map-append f events (e ∷ [])) ∙ length-append (filter_map f events) (filter_map f (e ∷ []))
 
-      sum_more : {X : Type 0} (value : X → ℕ) (f : Event → Option X) → sum_by value (filter_map f (events ++ e ∷ [])) ≡ sum_by value (filter_map f events) + sum_by value (filter_map f (e ∷ []))
-      sum_more value f = ap (sum_by value) (filter_map-append f events (e ∷ [])) ∙ sum_by-append value (filter_map f events) (filter_map f (e ∷ []))
-
       count_more : (p : Event → Bool) → count_by p (events ++ e ∷ []) ≡ count_by p events + count_by p (e ∷ [])
       count_more p = sum_by-append (λ x. cond (p x) 1 0) events (e ∷ [])
 
   -- one that accepts nothing
-  counts_without : acceptance_of e ≡ None → Adds c c' (acceptances events) e → AreCounts c' (events ++ e ∷ [])
-  counts_without none adds =
+  counts_without : acceptance_of e ≡ None → Grow c c' (acceptances events) e → AreCounts c' (events ++ e ∷ [])
+  counts_without none grow =
       let same = filter_map_same acceptance_of events e none in
-      counts_push adds (ap (λ accepted. bytes_named accepted (filter_map sent_of (events ++ e ∷ []))) same) (ap (λ accepted. bytes_named accepted (filter_map dropped_of (events ++ e ∷ []))) same)
+      counts_push grow (ap (λ accepted. bytes_named accepted (filter_map sent_of (events ++ e ∷ []))) same) (ap (λ accepted. bytes_named accepted (filter_map dropped_of (events ++ e ∷ []))) same)
 
 -- an acceptance
 pub counts_accept : (c : Counts) (events : List Event) (id moment lane flow : ℕ) (packet : PacketParts) → AreFound (acceptances events) (fate_ids events) → AreCounts c events → AreCounts (count_accepted c packet.len) (events ++ Accepted id moment lane flow packet ∷ [])

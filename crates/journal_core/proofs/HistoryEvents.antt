@@ -2,10 +2,9 @@
 use Rattle.std.proofs.Common.{◌≡◌, ◌≢◌, ℕ, ◌+◌, ◌<◌, ◌≤◌, Bool, true, false, ◌||◌, List, [], ◌∷◌, ◌++◌, length, map, sum_by, All, eqb, Some, None, refl, sym, ap, subst, ◌∙◌, ◌⊎◌, inl, inr, arith}
 use Rattle.std.specs.List.{range_with_len}
 use Rattle.std.proofs.lemmas.Bool.{eqb-true, cases_eq, eq-eqb, ne_eqb}
-use Rattle.std.proofs.lemmas.List.{length-map, map-append}
+use Rattle.std.proofs.lemmas.List.{map-append}
 use Rattle.std.proofs.lemmas.List.Elements.{All-push, All-weaker, recursion_from_All}
-use Rattle.std.proofs.lemmas.List.Folds.{list_any-append}
-use Rattle.std.proofs.lemmas.List.FromFn.{length-range_with_len}
+use Rattle.std.proofs.lemmas.List.Folds.{find-append, list_any-append}
 use Rattle.packet_core.specs.Packets.{PacketParts}
 use Rattle.packet_core.specs.declared.packet.FiveTuple.{FiveTuple}
 use Rattle.packet_core.specs.declared.packet.Waiting.{Waiting}
@@ -16,10 +15,10 @@ use Rattle.journal_core.specs.Happened.{Acceptance, waiting_of, acceptance_of, f
 use Rattle.journal_core.specs.JournalLaws.{AreDistinct, FlowsAreNamed, IsHonest, is_barred}
 use Rattle.journal_core.specs.Statistics.{length_of, length_named, bytes_named}
 use Rattle.journal_core.specs.History.{IsHistory, IsLine}
-use Rattle.journal_core.proofs.ListLemmas.{length_as_sum, sum_by_agree_on, ByRecursion-weaker, find-append, All-found}
-use Rattle.journal_core.proofs.IdLemmas.{id_of, Rises, Rises-range, Rises-within, differs_from_each}
+use Rattle.journal_core.proofs.ListLemmas.{length_as_sum, sum_by_agree_on, ByRecursion-weaker, All-found}
+use Rattle.journal_core.proofs.IdLemmas.{id_of, ids_below, many_ids, Rises-range, differs_from_each}
 use Rattle.journal_core.proofs.FlowShares.{AreFound, line_accepts, line_leaves, line_stays, Leaves}
-use Rattle.journal_core.proofs.FatelessPackets.{sum_left, value_of}
+use Rattle.journal_core.proofs.FatelessPackets.{sum_left, weight_of}
 use Rattle.journal_core.proofs.EventLemmas.{range_next, filter_map_same, filter_map_push, follow_push, moments_push, past_push, distinct_push, closed_push_free, closed_push_open, all_honest_stay, all_found}
 
 -- what the ids of found acceptances name stays when packets are accepted
@@ -29,7 +28,7 @@ bytes_stay accepted more ids found =
     (ByRecursion-weaker (λ id. (a : Acceptance) × (named accepted id ≡ Some a)) (λ id. length_named (accepted ++ more) id ≡ length_named accepted id) ids (λ id h. stays id h.0 h.1) found)
   where
     stays : (id : ℕ) (a : Acceptance) → named accepted id ≡ Some a → length_named (accepted ++ more) id ≡ length_named accepted id
-    stays id a e = rw (e, find-append (λ (b : Acceptance). eqb b.id id) accepted more a e)
+    stays id a e = rw (find-append (λ (b : Acceptance). eqb b.id id) accepted more, e) refl
 
 -- What is left and what has a fate make up what was accepted, in number and in bytes.
 left_adds_up : (events : List Event) (n : ℕ) → accepted_ids events ≡ range_with_len 0 n → All (λ id. id < n) (fate_ids events) → AreDistinct (fate_ids events)
@@ -39,10 +38,9 @@ left_adds_up events n ids known once =
     let fated = fate_ids events in
     let rises = Rises-range 0 n accepted ids in
     let found = all_found accepted n fated ids (recursion_from_All (λ id. id < n) fated known) in
-    let ones = sum_by_agree_on (value_of (λ _. 1) accepted) (λ _. 1) fated (ByRecursion-weaker (λ id. (a : Acceptance) × (named accepted id ≡ Some a)) (λ id. value_of (λ _. 1) accepted id ≡ 1) fated (λ id h. rw h.1) found) in
+    let ones = sum_by_agree_on (weight_of (λ _. 1) accepted) (λ _. 1) fated (ByRecursion-weaker (λ id. (a : Acceptance) × (named accepted id ≡ Some a)) (λ id. weight_of (λ _. 1) accepted id ≡ 1) fated (λ id h. rw h.1) found) in
     let all = sum_left (λ _. 1) 0 accepted fated rises once in
-    let len = sym (length-map accepted id_of) ∙ ap length ids ∙ length-range_with_len 0 n in
-    (omega (arith, length_as_sum (without_fate events), length_as_sum fated, length_as_sum accepted), sum_left length_of 0 accepted fated rises once)
+    (omega (arith, many_ids n accepted ids, length_as_sum (without_fate events), length_as_sum fated, length_as_sum accepted), sum_left length_of 0 accepted fated rises once)
 
 or_false : (b : Bool) → (b || false) ≡ b
 or_false true = refl
@@ -110,7 +108,7 @@ module _ (flow_of : FiveTuple → ℕ) (events : List Event) (n last : ℕ) wher
       let own : IsLine flow (w ∷ queue_of' flow) (acceptances events) (fate_ids events) = subst (λ q. IsLine flow q (acceptances events) (fate_ids events)) queue (h.lines flow) in
       let left = line_leaves flow w (queue_of' flow) (acceptances events) (fate_ids events) (Rises-range 0 n (acceptances events) h.ids) own in
       let id_is : left.who.id ≡ w.id = ap (λ (v : Waiting). v.id) left.same in
-      let below = All-found (λ (b : Acceptance). b.id < 0 + n) (λ b. eqb b.id w.id) (acceptances events) left.who (Rises-within 0 n (acceptances events) h.ids) left.found in
+      let below = All-found (λ (b : Acceptance). b.id < n) (λ b. eqb b.id w.id) (acceptances events) left.who (ids_below n (acceptances events) h.ids) left.found in
       history_push queue_of queue_of' closed closed n e h later (ap (map id_of) accepted ∙ h.ids) (rw accepted h.flows)
       (rw fated (All-push (λ id. id < n) (fate_ids events) w.id h.known (omega arith))) (rw fated (distinct_push (fate_ids events) w.id h.one_fate (differs_from_each (fate_ids events) w.id left.new)))
       (λ f. rw (accepted, fated) (line_of f left)) (rw open' (or_false closed)) (inr free) (rw accepted (All-push (IsHonest (acceptances events)) events e h.honest (honest left.who left.found left.same)))

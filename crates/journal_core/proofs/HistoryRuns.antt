@@ -1,9 +1,9 @@
 -- Every step of a discipline that is first in, first out by flow carries its history on, and so does every run.
-use Rattle.std.proofs.Common.{◌≡◌, ℕ, zero, suc, ◌+◌, ◌<◌, ◌≤◌, Bool, false, List, [], ◌∷◌, ◌++◌, map, All, IfSome, take, eqb, Option, Some, None, MatchOption, refl, sym, ap, subst, ◌∙◌, inl, inr, arith, append_assoc, append-nil}
+use Rattle.std.proofs.Common.{◌≡◌, ℕ, zero, suc, ◌+◌, ◌<◌, ◌≤◌, Bool, false, List, [], ◌∷◌, ◌++◌, map, All, IfSome, take, eqb, Option, Some, None, MatchOption, refl, sym, ap, subst, ◌∙◌, inl, inr, arith, rules, append_assoc, append-nil}
 use Rattle.std.specs.List.{Contains, flat_map}
 use Rattle.std.proofs.lemmas.Bool.{cases_Bool}
 use Rattle.std.proofs.lemmas.List.{map-append}
-use Rattle.std.proofs.lemmas.List.Elements.{All-nil, All-weaker}
+use Rattle.std.proofs.lemmas.List.Elements.{All-weaker}
 use Rattle.packet_core.specs.Packets.{PacketParts}
 use Rattle.packet_core.specs.declared.packet.FiveTuple.{FiveTuple}
 use Rattle.packet_core.specs.declared.packet.Waiting.{Waiting}
@@ -28,25 +28,20 @@ use Rattle.journal_core.proofs.HistoryEvents.{history_accepts, history_closes, h
 use Rattle.journal_core.proofs.LawsOfHistory.{laws_of_history, waits_of_history}
 use Rattle.journal_core.proofs.RefusalLemmas.{dequeue_next, enqueue_open, close_open}
 
--- no fate before the first event
-nothing_follows : (point : ℕ) → All (Contains (accepted_ids (take point []))) (fate_ids (take point []))
-nothing_follows zero = λ k d below. absurd (omega arith)
-nothing_follows (suc point) = λ k d below. absurd (omega arith)
-
 -- before the first event
 pub history_opens : (flow_of : FiveTuple → ℕ) (queue_of : ℕ → List Waiting) → ((flow : ℕ) → queue_of flow ≡ []) → IsHistory flow_of queue_of [] 0 0 false
 history_opens flow_of queue_of empty = record {
   ids = refl;
-  flows = All-nil (λ a. a.flow ≡ flow_of a.packet.tuple);
-  rises = λ i j d low below. absurd (omega arith);
-  past = All-nil (λ moment. moment ≤ 0);
-  known = All-nil (λ id. id < 0);
-  follow = nothing_follows;
+  flows = search rules;
+  rises = search rules;
+  past = search rules;
+  known = search rules;
+  follow = search rules;
   one_fate = tt;
   lines = λ flow. record { gone = []; rest = []; split = refl; fates = refl; queue = empty flow };
   close = refl;
   closed_for_good = tt;
-  honest = All-nil (IsHonest []);
+  honest = search rules;
   left = refl;
   left_bytes = refl;
 }
@@ -140,31 +135,26 @@ module _ {Q : Type 0} (d : Discipline Q) (queue_of : Q → ℕ → List Waiting)
   keeps_admits : (old new : State Q) (moment lane : ℕ) (packet : PacketParts) (made events : List Event) → refusal_of old (Enqueue moment lane packet) ≡ None → Admits d old moment lane packet made new → Keeps old events → Keeps new (events ++ made)
   keeps_admits old new moment lane packet made events fits m h =
       let known = (enqueue_open old moment lane packet fits).0 in
-      let later = known.next.later in
-      let open' = known.open' in
       let w = arrival old moment packet in
       let e = Accepted old.next_id moment lane (d.flow_of packet.tuple) packet in
-      let before : IsHistory d.flow_of (queue_of old.queues) events old.next_id old.last false = subst (λ b. IsHistory d.flow_of (queue_of old.queues) events old.next_id old.last b) open' h in
-      let accepted = history_accepts d.flow_of events old.next_id old.last (queue_of old.queues) moment lane packet before later in
+      let before : IsHistory d.flow_of (queue_of old.queues) events old.next_id old.last false = subst (λ b. IsHistory d.flow_of (queue_of old.queues) events old.next_id old.last b) known.open' h in
+      let accepted = history_accepts d.flow_of events old.next_id old.last (queue_of old.queues) moment lane packet before known.next.later in
       let batches = fifo.admits old.queues w m.lost new.queues m.queues in
       let all = history_batches d.flow_of (old.next_id + 1) false moment cause.Overflow batches.0 (with_arrival (queue_of old.queues) (d.flow_of packet.tuple) w) (queue_of new.queues) (events ++ e ∷ []) moment accepted batches.2 (omega arith) in
-      keeps_at new (events ++ made) (old.next_id + 1) moment false m.next_id m.last (m.closed ∙ open')
+      keeps_at new (events ++ made) (old.next_id + 1) moment false m.next_id m.last (m.closed ∙ known.open')
       (rw (m.told, batches.1) (subst (λ es. IsHistory d.flow_of (queue_of new.queues) es (old.next_id + 1) moment false) (append_assoc events (e ∷ []) (map (drop_event moment cause.Overflow) (packets_of batches.0))) all))
 
   keeps_serves : (old new : State Q) (moment : ℕ) (given : Option Given) (made events : List Event) → refusal_of old (Dequeue moment) ≡ None → Serves d old moment given made new → Keeps old events → Keeps new (events ++ made)
   keeps_serves old new moment given made events fits m h =
-      let later = (dequeue_next old moment fits).later in
       let leaves = fifo.serves old.queues moment m.dropped given new.queues m.queues in
-      let all = history_serves d.flow_of old.next_id old.closed leaves.0.0 moment cause.Codel m.dropped given (queue_of old.queues) (queue_of new.queues) events old.last h leaves.0.1 leaves.1 later in
+      let all = history_serves d.flow_of old.next_id old.closed leaves.0.0 moment cause.Codel m.dropped given (queue_of old.queues) (queue_of new.queues) events old.last h leaves.0.1 leaves.1 (dequeue_next old moment fits).later in
       keeps_at new (events ++ made) old.next_id moment old.closed m.next_id m.last m.closed (rw m.told all)
 
   keeps_closes : (old new : State Q) (moment : ℕ) (made events : List Event) → refusal_of old (Close moment) ≡ None → Closes old moment made new → Keeps old events → Keeps new (events ++ made)
   keeps_closes old new moment made events fits m h =
       let known = close_open old moment fits in
-      let later = known.next.later in
-      let open' = known.open' in
-      let before : IsHistory d.flow_of (queue_of old.queues) events old.next_id old.last false = subst (λ b. IsHistory d.flow_of (queue_of old.queues) events old.next_id old.last b) open' h in
-      rw (m.told, m.state) (history_closes d.flow_of events old.next_id old.last (queue_of old.queues) moment before later)
+      let before : IsHistory d.flow_of (queue_of old.queues) events old.next_id old.last false = subst (λ b. IsHistory d.flow_of (queue_of old.queues) events old.next_id old.last b) known.open' h in
+      rw (m.told, m.state) (history_closes d.flow_of events old.next_id old.last (queue_of old.queues) moment before known.next.later)
 
   pub keeps_makes : (old new : State Q) (step : Step) (said : Answer) (made events : List Event) → refusal_of old step ≡ None → Makes d old step said made new → Keeps old events → Keeps new (events ++ made)
   keeps_makes old new (Enqueue moment lane packet) said made events fits m h = keeps_admits old new moment lane packet made events fits m.1 h

@@ -1,12 +1,12 @@
 -- How an acceptance and an event carry a tally on, and what its rows are where all events are counted.
-use Rattle.std.proofs.Common.{◌≡◌, ℕ, zero, suc, ◌+◌, ◌-◌, ◌<◌, ◌≤◌, Bool, true, false, cond, ◌||◌, All, List, [], ◌∷◌, ◌++◌, length, map, get_or, set, Option, Some, None, slice_get, refl, sym, ap, subst, ◌∙◌, inl, inr, arith}
+use Rattle.std.proofs.Common.{◌≡◌, ℕ, zero, suc, ◌+◌, ◌-◌, ◌<◌, ◌≤◌, Bool, true, false, cond, ◌||◌, All, List, [], ◌∷◌, ◌++◌, eqb, length, map, get_or, set, Option, Some, None, slice_get, refl, sym, ap, subst, ◌∙◌, inl, inr, arith}
 use Rattle.std.specs.Prelude.{count_by, sum_by}
 use Rattle.std.specs.Cmp.{IsEquivalence}
-use Rattle.std.proofs.lemmas.Bool.Decides.{Decides-like, same_from_decides}
+use Rattle.std.proofs.lemmas.Bool.Decides.{Decides-like, nat_tests, same_from_decides}
 use Rattle.std.specs.List.{AllByRecursion, AllZip, Contains, IsDistinct, cons_option, filter_map, list_any, range_with_len}
-use Rattle.std.proofs.lemmas.Bool.{cases_Bool, cases_lt, cases_eq}
+use Rattle.std.proofs.lemmas.Bool.{cases_eq}
 use Rattle.std.proofs.lemmas.List.{same_lists, length-set, length-map, length_push, get_or-map, get_or-set_same, get_or-set_other, map-append, append-nil, take_all}
-use Rattle.std.proofs.lemmas.List.Elements.{All-from_recursion, All-map, All-weaker, filter_map-append, recursion_from_All}
+use Rattle.std.proofs.lemmas.List.Elements.{All-contains, All-from_recursion, All-map, All-weaker, filter_map-append, recursion_from_All}
 use Rattle.std.proofs.lemmas.List.FromFn.{length-range_with_len, get_or-range_with_len}
 use Rattle.std.proofs.lemmas.List.Sums.{count_by-le-length, fold-append, sum_by-append}
 use Rattle.std.proofs.lemmas.Map.Keys.{IsDistinct-push, apart_from_distinct}
@@ -21,8 +21,9 @@ use Rattle.journal_core.specs.JournalLaws.{AreDistinct, FatesFollow, IdsInOrder}
 use Rattle.journal_core.specs.Statistics.{sent_of, dropped_of}
 use Rattle.journal_core.specs.Tallies.{AreTallied, IsBalanced, counted, row_so_far, settled, tuple_of, with_row}
 use Rattle.journal_core.specs.TupleRows.{first_of_each, of_one_tuple, row_of, tuple_rows, with_new}
+use Rattle.journal_core.proofs.EventLemmas.{sum_more}
 use Rattle.journal_core.proofs.FatelessPackets.{count_fated, sum_fates, sum_left}
-use Rattle.journal_core.proofs.IdLemmas.{Rises-range, Rises-within, id_of, named_itself, named_within, passes_at}
+use Rattle.journal_core.proofs.IdLemmas.{Rises-range, id_of, ids_below, named_at, named_itself, named_within, passes_at}
 use Rattle.journal_core.proofs.LawsOfHistory.{same_tuple-Decides}
 
 same_tuple-IsEquivalence : IsEquivalence same_tuple
@@ -95,47 +96,30 @@ nothing_accepted (Sent id moment ecn mark) other = refl
 nothing_accepted (Dropped id moment cause) other = refl
 nothing_accepted (Closed moment) other = refl
 
--- of distinct five-tuples, the one at the place alone is the packet's
-alone : (tuples : List FiveTuple) (i place : ℕ) (t : FiveTuple) → IsDistinct same_tuple tuples → slice_get tuples place ≡ Some t → i < length tuples → cond (same_tuple t (get_or tuples i t)) (i ≡ place) (i ≡ place → ⊥)
-alone tuples i place t apart at low =
-    let within = slice_get_within tuples place t at in
-    let here = get_or_from_slice_get tuples place t t at in
-    elim (cases_lt i place) [
-      | inl below ↦
-          rw (same_tuple-IsEquivalence.symm t (get_or tuples i t) ∙ ap (same_tuple (get_or tuples i t)) (sym here) ∙ apart_from_distinct same_tuple tuples i place t apart below within)
-          (λ s. omega arith)
-      | inr above ↦
-          elim (cases_eq i place) [
-            | inl same ↦ rw (same, here, same_tuple-IsEquivalence.refl t) refl
-            | inr other ↦ rw (ap (λ u. same_tuple u (get_or tuples i t)) (sym here) ∙ apart_from_distinct same_tuple tuples place i t apart (omega arith) low) other
-          ]
-    ]
+-- of distinct keys, the one at the place alone is the key that stands there
+alone : {K : Type 0} (eq : K → K → Bool) (laws : IsEquivalence eq) (ks : List K) (i place : ℕ) (k : K) → IsDistinct eq ks → slice_get ks place ≡ Some k → i < length ks → eq k (get_or ks i k) ≡ eqb i place
+alone eq laws ks i place k apart at low =
+    grind (arith, nat_tests, slice_get_within ks place k at, get_or_from_slice_get ks place k k at, laws.refl k, laws.symm k (get_or ks i k), apart_from_distinct eq ks i place k apart, apart_from_distinct eq ks place i k apart)
 
 -- A change at the place of a packet's five-tuple changes what is told of that five-tuple, and of no other.
 module _ (f g : Acceptance → TupleRow) (change : TupleRow → TupleRow) (firsts : List Acceptance) (who : Acceptance) (place : ℕ) (row : TupleRow) (apart : IsDistinct same_tuple (map tuple_of firsts))
     (stands : slice_get (map tuple_of firsts) place ≡ Some (tuple_of who)) (is : row ≡ get_or (map f firsts) place row) (each : (first : Acceptance) → g first ≡ cond (of_one_tuple who first) (change (f first)) (f first)) where
   change_here : (i : ℕ) (d : TupleRow) → i < length firsts → get_or (set (map f firsts) place (change row)) i d ≡ get_or (map g firsts) i d
   change_here i d low =
-      let first = get_or firsts i who in
-      let one = rw (get_or-map tuple_of firsts i who (tuple_of who) low) at (alone (map tuple_of firsts) i place (tuple_of who) apart stands (omega (arith, length-map firsts tuple_of))) in
-      elim (cases_Bool (of_one_tuple who first)) [
-        | inl t ↦
-            let same : i ≡ place = rw t at one in
-            rw (get_or-map g firsts i who d low, each first, t, same, get_or-set_same (map f firsts) place (change row) d (omega (arith, length-map firsts f)))
-            (ap change (is ∙ sym (ap (λ j. get_or (map f firsts) j row) same) ∙ get_or-map f firsts i who row low ∙ ap (λ j. f (get_or firsts j who)) same))
-        | inr t ↦
-            let other : i ≡ place → ⊥ = rw t at one in
-            rw (get_or-map g firsts i who d low, each first, t) (get_or-set_other (map f firsts) place i (change row) d other ∙ get_or-map f firsts i who d low)
-      ]
+      let one = alone same_tuple same_tuple-IsEquivalence (map tuple_of firsts) i place (tuple_of who) apart stands (omega (arith, length-map firsts tuple_of)) in
+      by (of_one_tuple who (get_or firsts i who)) (rw (get_or-map tuple_of firsts i who (tuple_of who) low) at one) (each (get_or firsts i who))
+    where
+      by : (own : Bool) → own ≡ eqb i place → g (get_or firsts i who) ≡ cond own (change (f (get_or firsts i who))) (f (get_or firsts i who)) → get_or (set (map f firsts) place (change row)) i d ≡ get_or (map g firsts) i d
+      by own one here =
+          elim (cases_eq i place) [
+            | inl same ↦ grind (arith, nat_tests, get_or-map g firsts i who d low, here, one, same, get_or-set_same (map f firsts) place (change row) d, length-map firsts f, get_or-map f firsts i who row low, is)
+            | inr other ↦ grind (arith, nat_tests, get_or-map g firsts i who d low, here, one, get_or-set_other (map f firsts) place i (change row) d other, get_or-map f firsts i who d low)
+          ]
 
   change_at : set (map f firsts) place (change row) ≡ map g firsts
   change_at =
       let len = length-set (map f firsts) place (change row) ∙ length-map firsts f in
       same_lists (set (map f firsts) place (change row)) (map g firsts) (len ∙ sym (length-map firsts g)) (λ i d low. change_here i d (omega arith))
-
--- one event more in a count
-count_more : {X : Type 0} (p : X → Bool) (h : Event → Option X) (seen : List Event) (e : Event) → count_by p (filter_map h (seen ++ e ∷ [])) ≡ count_by p (filter_map h seen) + count_by p (filter_map h (e ∷ []))
-count_more p h seen e = ap (count_by p) (filter_map-append h seen (e ∷ [])) ∙ sum_by-append (λ x. cond (p x) 1 0) (filter_map h seen) (filter_map h (e ∷ []))
 
 one_more : (own : Bool) (n m : ℕ) → m ≡ n + (0 + cond own 1 0) → m ≡ cond own (n + 1) n
 one_more true n m e = omega arith
@@ -164,20 +148,20 @@ module _ (accepted : List Acceptance) (seen : List Event) (first : Acceptance) w
   own_more : (who : Acceptance) (id : ℕ) (h : Event → Option ℕ) (e : Event) → named accepted id ≡ Some who → filter_map h (e ∷ []) ≡ id ∷ [] → count_by named_own (filter_map h (seen ++ e ∷ [])) ≡ cond (own who) (count_by named_own (filter_map h seen) + 1) (count_by named_own (filter_map h seen))
   own_more who id h e found is =
       one_more (own who) (count_by named_own (filter_map h seen)) (count_by named_own (filter_map h (seen ++ e ∷ [])))
-      (count_more named_own h seen e ∙ ap (λ ids. count_by named_own (filter_map h seen) + count_by named_own ids) is ∙ ap (λ b. count_by named_own (filter_map h seen) + (0 + cond b 1 0)) (passes_at own accepted id who found))
+      (sum_more (λ x. cond (named_own x) 1 0) h seen e ∙ ap (λ ids. count_by named_own (filter_map h seen) + count_by named_own ids) is ∙ ap (λ b. count_by named_own (filter_map h seen) + (0 + cond b 1 0)) (passes_at own accepted id who found))
 
   row_counts : (e : Event) (id : ℕ) (who : Acceptance) → packet_id_of e ≡ Some id → named accepted id ≡ Some who → ((a : Acceptance) → acceptance_of e ≡ Some a → a ≡ who)
       → row_so_far accepted (seen ++ e ∷ []) first ≡ cond (own who) (counted e (row_so_far accepted seen first)) (row_so_far accepted seen first)
   row_counts (Accepted n moment lane flow packet) id who of_id found same =
       let e : Event = Accepted n moment lane flow packet in
-      let one = count_more own acceptance_of seen e ∙ ap (λ (b : Acceptance). count_by own (acceptances seen) + (0 + cond (own b) 1 0)) (same (record { id = n; moment = moment; lane = lane; flow = flow; packet = packet }) refl) in
-      grown (own who) _ _ _ _ _ _ _ _ _ (one_more (own who) _ _ one) (none_more (own who) _ _ (count_more named_own sent_of seen e)) (none_more (own who) _ _ (count_more named_own dropped_of seen e))
+      let one = sum_more (λ x. cond (own x) 1 0) acceptance_of seen e ∙ ap (λ (b : Acceptance). count_by own (acceptances seen) + (0 + cond (own b) 1 0)) (same (record { id = n; moment = moment; lane = lane; flow = flow; packet = packet }) refl) in
+      grown (own who) _ _ _ _ _ _ _ _ _ (one_more (own who) _ _ one) (none_more (own who) _ _ (sum_more (λ x. cond (named_own x) 1 0) sent_of seen e)) (none_more (own who) _ _ (sum_more (λ x. cond (named_own x) 1 0) dropped_of seen e))
   row_counts (Sent n moment ecn mark) id who of_id found same =
       let e : Event = Sent n moment ecn mark in
-      grown (own who) _ _ _ _ _ _ _ _ _ (none_more (own who) _ _ (count_more own acceptance_of seen e)) (own_more who id sent_of e found (let is : n ≡ id = cc in ap (λ m. m ∷ []) is)) (none_more (own who) _ _ (count_more named_own dropped_of seen e))
+      grown (own who) _ _ _ _ _ _ _ _ _ (none_more (own who) _ _ (sum_more (λ x. cond (own x) 1 0) acceptance_of seen e)) (own_more who id sent_of e found (let is : n ≡ id = cc in ap (λ m. m ∷ []) is)) (none_more (own who) _ _ (sum_more (λ x. cond (named_own x) 1 0) dropped_of seen e))
   row_counts (Dropped n moment cause) id who of_id found same =
       let e : Event = Dropped n moment cause in
-      grown (own who) _ _ _ _ _ _ _ _ _ (none_more (own who) _ _ (count_more own acceptance_of seen e)) (none_more (own who) _ _ (count_more named_own sent_of seen e)) (own_more who id dropped_of e found (let is : n ≡ id = cc in ap (λ m. m ∷ []) is))
+      grown (own who) _ _ _ _ _ _ _ _ _ (none_more (own who) _ _ (sum_more (λ x. cond (own x) 1 0) acceptance_of seen e)) (none_more (own who) _ _ (sum_more (λ x. cond (named_own x) 1 0) sent_of seen e)) (own_more who id dropped_of e found (let is : n ≡ id = cc in ap (λ m. m ∷ []) is))
   row_counts (Closed moment) id who of_id found same = absurd cc
 
   -- one that is of no packet changes none
@@ -187,7 +171,7 @@ module _ (accepted : List Acceptance) (seen : List Event) (first : Acceptance) w
   row_stays (Dropped n moment cause) none = absurd cc
   row_stays (Closed moment) none =
       let e : Event = Closed moment in
-      grown false _ _ _ 0 0 0 _ _ _ (none_more false _ _ (count_more own acceptance_of seen e)) (none_more false _ _ (count_more named_own sent_of seen e)) (none_more false _ _ (count_more named_own dropped_of seen e))
+      grown false _ _ _ 0 0 0 _ _ _ (none_more false _ _ (sum_more (λ x. cond (own x) 1 0) acceptance_of seen e)) (none_more false _ _ (sum_more (λ x. cond (named_own x) 1 0) sent_of seen e)) (none_more false _ _ (sum_more (λ x. cond (named_own x) 1 0) dropped_of seen e))
 
   -- no count is above the number of events
   row_few : ((row_so_far accepted seen first).accepted ≤ length seen) × ((row_so_far accepted seen first).sent ≤ length seen) × ((row_so_far accepted seen first).dropped ≤ length seen)
@@ -227,31 +211,26 @@ module _ (events : List Event) (ids : IdsInOrder events) (follow : FatesFollow e
   fates_below =
       let n = length (acceptances events) in
       let all : All (Contains (accepted_ids events)) (fate_ids events) = subst (λ es. All (Contains (accepted_ids es)) (fate_ids es)) (take_all (length events) events (omega arith)) (follow (length events)) in
-      recursion_from_All (λ id. id < n) (fate_ids events) (All-weaker (Contains (range_with_len 0 n)) (λ id. id < n) (below n) (fate_ids events) (rw ids at all))
-    where
-      below : (n id : ℕ) → Contains (range_with_len 0 n) id → id < n
-      below n id has =
-          let within : has.0 < n = rw length-range_with_len at has.1 in
-          let is : id ≡ 0 + has.0 = sym has.2 ∙ get_or-range_with_len 0 n has.0 id within in
-          omega arith
+      let below : All (λ id. id < n) (accepted_ids events) = All-map (λ id. id < n) id_of (acceptances events) (All-from_recursion (λ a. a.id < n) (acceptances events) (ids_below n (acceptances events) ids)) in
+      recursion_from_All (λ id. id < n) (fate_ids events) (All-weaker (Contains (accepted_ids events)) (λ id. id < n) (λ id has. All-contains (λ i. i < n) (accepted_ids events) id below has) (fate_ids events) all)
 
   of_fate : (e : Event) (id : ℕ) → acceptance_of e ≡ None → id < length (acceptances events) → IsOfPacket (acceptances events) e id
   of_fate e id none below =
-      let found = named_within 0 (length (acceptances events)) (acceptances events) id ids (omega arith) (omega arith) in
+      let found = named_within (length (acceptances events)) (acceptances events) id ids below in
       record { who = found.0; below = below; found = found.1; same = λ a is. absurd cc }
 
-  pub packet_of : (place : ℕ) (d e : Event) (id : ℕ) → place < length events → get_or events place d ≡ e → packet_id_of e ≡ Some id → IsOfPacket (acceptances events) e id
-  packet_of place d (Accepted n moment lane flow packet) id low is of_id =
+  pub event_packet : (place : ℕ) (d e : Event) (id : ℕ) → place < length events → get_or events place d ≡ e → packet_id_of e ≡ Some id → IsOfPacket (acceptances events) e id
+  event_packet place d (Accepted n moment lane flow packet) id low is of_id =
       let a : Acceptance = record { id = n; moment = moment; lane = lane; flow = flow; packet = packet } in
       let accepted = acceptances events in
       let is_id : n ≡ id = cc in
       let tells = ap acceptance_of is in
       let known = told_at acceptance_of (λ b. named accepted b.id ≡ Some b) events place d a low tells (named_itself 0 accepted (Rises-range 0 (length accepted) accepted ids)) in
-      let within = told_at acceptance_of (λ b. b.id < 0 + length accepted) events place d a low tells (Rises-within 0 (length accepted) accepted ids) in
+      let within = told_at acceptance_of (λ b. b.id < length accepted) events place d a low tells (ids_below (length accepted) accepted ids) in
       record { who = a; below = omega arith; found = ap (named accepted) (sym is_id) ∙ known; same = λ b e. cc }
-  packet_of place d (Sent n moment ecn mark) id low is of_id = of_fate (Sent n moment ecn mark) id refl (told_at fate_of (λ i. i < length (acceptances events)) events place d id low (ap fate_of is ∙ of_id) fates_below)
-  packet_of place d (Dropped n moment cause) id low is of_id = of_fate (Dropped n moment cause) id refl (told_at fate_of (λ i. i < length (acceptances events)) events place d id low (ap fate_of is ∙ of_id) fates_below)
-  packet_of place d (Closed moment) id low is of_id = absurd cc
+  event_packet place d (Sent n moment ecn mark) id low is of_id = of_fate (Sent n moment ecn mark) id refl (told_at fate_of (λ i. i < length (acceptances events)) events place d id low (ap fate_of is ∙ of_id) fates_below)
+  event_packet place d (Dropped n moment cause) id low is of_id = of_fate (Dropped n moment cause) id refl (told_at fate_of (λ i. i < length (acceptances events)) events place d id low (ap fate_of is ∙ of_id) fates_below)
+  event_packet place d (Closed moment) id low is of_id = absurd cc
 
 module _ (tuples : List FiveTuple) (rows : List TupleRow) (places : List ℕ) (accepted : List Acceptance) (seen : List Event) (h : AreTallied tuples rows places accepted seen) where
   pub as_many : length rows ≡ length tuples
@@ -271,11 +250,8 @@ module _ (tuples : List FiveTuple) (rows : List TupleRow) (places : List ℕ) (a
     pub packet_placed : (d : ℕ) → (id < length places) × (slice_get tuples (get_or places id d) ≡ Some (tuple_of of_packet.who))
     packet_placed d =
         let who = of_packet.who in
-        let first = get_or accepted id who in
-        let id_is : first.id ≡ 0 + id = sym (get_or-map id_of accepted id who who.id of_packet.below) ∙ ap (λ l. get_or l id who.id) ids ∙ get_or-range_with_len 0 (length accepted) id who.id of_packet.below in
-        let itself = All-from_recursion (λ a. named accepted a.id ≡ Some a) accepted (named_itself 0 accepted (Rises-range 0 (length accepted) accepted ids)) id who of_packet.below in
-        let found : named accepted first.id ≡ Some who = ap (named accepted) (let same : first.id ≡ id = omega arith in same) ∙ of_packet.found in
-        let is_who : first ≡ who = cc in
+        let found = sym of_packet.found ∙ named_at (length accepted) accepted id who ids of_packet.below in
+        let is_who : get_or accepted id who ≡ who = cc in
         let at = placed_at places accepted id d who of_packet.below h.places_are in
         (at.0, at.1 ∙ ap (λ a. Some (tuple_of a)) is_who)
       where

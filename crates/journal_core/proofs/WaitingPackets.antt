@@ -10,7 +10,7 @@ use Rattle.journal_core.proofs.ListLemmas.{ByRecursion-both, ByRecursion-filter,
 
 sum_by-map : {X Y : Type 0} (f : X → Y) (h : Y → ℕ) (xs : List X) → sum_by h (map f xs) ≡ sum_by (λ x. h (f x)) xs
 sum_by-map f h [] = refl
-sum_by-map f h (x ∷ xs) = let ih = sum_by-map f h xs in let one = sum_by-cons h (f x) (map f xs) in let two = sum_by-cons (λ x. h (f x)) x xs in omega arith
+sum_by-map f h (x ∷ xs) = omega (arith, sum_by-map f h xs, sum_by-cons h (f x) (map f xs), sum_by-cons (λ x. h (f x)) x xs)
 
 -- the acceptances into that flow
 abbrev into : ℕ → Acceptance → Bool

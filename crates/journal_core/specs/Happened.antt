@@ -19,7 +19,8 @@ abbrev pub waiting_of : Acceptance → Waiting
 waiting_of a = record { id = a.id; stamp = a.moment; packet = a.packet }
 
 abbrev pub acceptance_of : Event → Option Acceptance
-acceptance_of (Accepted id moment lane flow packet) = Some (record { id = id; moment = moment; lane = lane; flow = flow; packet = packet })
+acceptance_of (Accepted id moment lane flow packet) =
+    Some (record { id = id; moment = moment; lane = lane; flow = flow; packet = packet })
 acceptance_of (Sent id moment ecn mark) = None
 acceptance_of (Dropped id moment cause) = None
 acceptance_of (Closed moment) = None

@@ -2,7 +2,7 @@ use Rattle.std.proofs.Common.{◌≡◌, ℕ, Some, arith, sym, subst, ◌∙◌
 use Rattle.std.proofs.lemmas.List.{length-take-le, take_more}
 use Rattle.journal_core.specs.Tallies.{tuple_of}
 use Rattle.journal_core.specs.Happened.{acceptances, packet_id_of}
-use Rattle.journal_core.proofs.TallyLemmas.{IsOfPacket, packet_few, packet_of, packet_placed, packet_within, tallied_counts, tallied_stays}
+use Rattle.journal_core.proofs.TallyLemmas.{IsOfPacket, event_packet, packet_few, packet_placed, packet_within, tallied_counts, tallied_stays}
 use Rattle.journal_core.proofs.tuple_rows.Tally.count.Goals.{In-Some}
 use Rattle.journal_core.proofs.tuple_rows.Tally.count.Goals as goal
 
@@ -11,7 +11,7 @@ its_id : (c : In-Some) → packet_id_of c.index-events-place.result ≡ Some c.i
 its_id c = sym c.packet_id.ensures ∙ c.in-Some.is
 
 its_packet : (c : In-Some) → IsOfPacket (acceptances c.args.events.now) c.index-events-place.result c.in-Some.id
-its_packet c = packet_of c.args.events.now c.requires.ids c.requires.follow c.args.place c.index-events-place.result c.index-events-place.result c.in-Some.id c.requires.within (sym c.index-events-place.is) (its_id c)
+its_packet c = event_packet c.args.events.now c.requires.ids c.requires.follow c.args.place c.index-events-place.result c.index-events-place.result c.in-Some.id c.requires.within (sym c.index-events-place.is) (its_id c)
 
 -- at its place stands its five-tuple
 its_place : (c : In-Some) (row : ℕ) → row ≡ get_or c.args.self.now.places.items c.in-Some.id row → slice_get c.args.self.now.tuples.keys row ≡ Some (tuple_of (its_packet c).who)
