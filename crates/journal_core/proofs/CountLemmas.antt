@@ -1,45 +1,70 @@
 -- The counts that run along are those of the statistics, event by event.
-use Rattle.std.proofs.Common.{◌≡◌, ℕ, ◌+◌, Bool, cond, List, [], ◌∷◌, ◌++◌, length, map, sum_by, Some, refl, sym, ap, subst, ◌∙◌, arith, append-nil, append_assoc}
+use Rattle.std.proofs.Common.{◌≡◌, ℕ, ◌+◌, Bool, cond, List, [], ◌∷◌, ◌++◌, length, map, sum_by, Option, Some, None, refl, sym, ap, subst, ◌∙◌, arith, append-nil, append_assoc}
+use Rattle.std.specs.Prelude.{count_by}
 use Rattle.std.specs.List.{AllByRecursion, filter_map}
-use Rattle.std.proofs.lemmas.List.{length_push}
-use Rattle.std.proofs.lemmas.List.Sums.{sum_by_push}
+use Rattle.std.proofs.lemmas.List.{length-append}
+use Rattle.std.proofs.lemmas.List.Elements.{filter_map-append}
+use Rattle.std.proofs.lemmas.List.Sums.{sum_by-append}
 use Rattle.packet_core.specs.Packets.{PacketParts}
-use Rattle.journal_core.specs.declared.journal.Counts.{Counts}
+use Rattle.packet_core.specs.declared.packet.Ecn.{Ecn}
 use Rattle.packet_core.specs.declared.packet.Waiting.{Waiting}
+use Rattle.codel_core.specs.declared.served.Mark.{Mark}
+use Rattle.codel_core.specs.declared.served.Mark.TheVariants.{NoMark, CodelMark}
 use Rattle.journal_core.specs.declared.event.Cause.{Cause}
 use Rattle.journal_core.specs.declared.event.Cause.TheVariants.{Codel, Overflow}
 use Rattle.journal_core.specs.declared.event.Event.{Event}
 use Rattle.journal_core.specs.declared.event.Event.TheVariants.{Accepted, Sent, Dropped, Closed}
-use Rattle.codel_core.specs.declared.served.Mark.{Mark}
-use Rattle.codel_core.specs.declared.served.Mark.TheVariants.{NoMark, CodelMark}
-use Rattle.packet_core.specs.declared.packet.Ecn.{Ecn}
-use Rattle.journal_core.specs.Books.{count_accepted, count_sent, count_dropped, count_drops, marks_of, codel_drops_of, overflow_drops_of}
+use Rattle.journal_core.specs.declared.journal.Counts.{Counts}
+use Rattle.journal_core.specs.Books.{count_accepted, count_sent, count_dropped, count_drops}
 use Rattle.journal_core.specs.Happened.{Acceptance, acceptance_of, fate_of, acceptances, fate_ids, named}
 use Rattle.journal_core.specs.History.{AreCounts}
 use Rattle.journal_core.specs.Statistics.{sent_of, dropped_of, is_codel_drop, is_overflow_drop, is_marked, length_of, length_named, bytes_named}
 use Rattle.journal_core.specs.Steps.{drop_event}
-use Rattle.journal_core.proofs.EventLemmas.{filter_map_same, filter_map_push}
-use Rattle.journal_core.proofs.HistoryEvents.{bytes_stay}
+use Rattle.journal_core.proofs.EventLemmas.{filter_map_same, filter_map_push, sum_more}
+use Rattle.journal_core.proofs.FatelessPackets.{sum_fates}
 use Rattle.journal_core.proofs.FlowShares.{AreFound}
+use Rattle.journal_core.proofs.HistoryEvents.{bytes_stay}
 
--- what holds of each fate's id holds of those sent, and of those dropped
-pub sent_among : (P : ℕ → Type 0) (events : List Event) → AllByRecursion P (fate_ids events) → AllByRecursion P (filter_map sent_of events)
-sent_among P [] h = tt
-sent_among P (Accepted id moment lane flow packet ∷ events) h = sent_among P events h
-sent_among P (Sent id moment ecn mark ∷ events) h = (h.0, sent_among P events h.1)
-sent_among P (Dropped id moment cause ∷ events) h = sent_among P events h.1
-sent_among P (Closed moment ∷ events) h = sent_among P events h
+-- what an event grow to each count
+abbrev Grow : Counts → Counts → List Acceptance → Event → Type 0
+Grow c c' accepted e =
+    (c'.accepted ≡ c.accepted + length (acceptances (e ∷ []))) × (c'.accepted_bytes ≡ c.accepted_bytes + sum_by length_of (acceptances (e ∷ [])))
+    × (c'.sent ≡ c.sent + length (filter_map sent_of (e ∷ []))) × (c'.sent_bytes ≡ c.sent_bytes + bytes_named accepted (filter_map sent_of (e ∷ [])))
+    × (c'.dropped_codel ≡ c.dropped_codel + count_by is_codel_drop (e ∷ [])) × (c'.dropped_overflow ≡ c.dropped_overflow + count_by is_overflow_drop (e ∷ []))
+    × (c'.dropped_bytes ≡ c.dropped_bytes + bytes_named accepted (filter_map dropped_of (e ∷ []))) × (c'.marked ≡ c.marked + count_by is_marked (e ∷ []))
+    × (c'.sent + c'.dropped_codel + c'.dropped_overflow ≡ c.sent + c.dropped_codel + c.dropped_overflow + length (fate_ids (e ∷ [])))
 
-pub dropped_among : (P : ℕ → Type 0) (events : List Event) → AllByRecursion P (fate_ids events) → AllByRecursion P (filter_map dropped_of events)
-dropped_among P [] h = tt
-dropped_among P (Accepted id moment lane flow packet ∷ events) h = dropped_among P events h
-dropped_among P (Sent id moment ecn mark ∷ events) h = dropped_among P events h.1
-dropped_among P (Dropped id moment cause ∷ events) h = (h.0, dropped_among P events h.1)
-dropped_among P (Closed moment ∷ events) h = dropped_among P events h
+-- One event more, where the ids sent and dropped name the same lengths as before.
+module _ (c c' : Counts) (events : List Event) (e : Event) (h : AreCounts c events) where
+  counts_push : Grow c c' (acceptances events) e → bytes_named (acceptances (events ++ e ∷ [])) (filter_map sent_of (events ++ e ∷ [])) ≡ bytes_named (acceptances events) (filter_map sent_of (events ++ e ∷ []))
+      → bytes_named (acceptances (events ++ e ∷ [])) (filter_map dropped_of (events ++ e ∷ [])) ≡ bytes_named (acceptances events) (filter_map dropped_of (events ++ e ∷ [])) → AreCounts c' (events ++ e ∷ [])
+  counts_push grow sent_stay dropped_stay =
+      record {
+        accepted = omega (arith, h.accepted, grow.0, length_more acceptance_of);
+        accepted_bytes = omega (arith, h.accepted_bytes, grow.1, sum_more length_of acceptance_of events e);
+        sent = omega (arith, h.sent, grow.2, length_more sent_of);
+        sent_bytes = omega (arith, h.sent_bytes, grow.3, sent_stay, sum_more (length_named (acceptances events)) sent_of events e);
+        dropped_codel = omega (arith, h.dropped_codel, grow.4, count_more is_codel_drop);
+        dropped_overflow = omega (arith, h.dropped_overflow, grow.5, count_more is_overflow_drop);
+        dropped_bytes = omega (arith, h.dropped_bytes, grow.6, dropped_stay, sum_more (length_named (acceptances events)) dropped_of events e);
+        marked = omega (arith, h.marked, grow.7, count_more is_marked);
+        fates = omega (arith, h.fates, grow.8, length_more fate_of);
+        fate_bytes =
+            omega (arith, h.sent_bytes, h.dropped_bytes, grow.3, grow.6, sent_stay, dropped_stay, sum_more (length_named (acceptances events)) sent_of events e, sum_more (length_named (acceptances events)) dropped_of events e,
+            sum_fates (length_named (acceptances (events ++ e ∷ []))) (events ++ e ∷ []));
+      }
+    where
+      length_more : {X : Type 0} (f : Event → Option X) → length (filter_map f (events ++ e ∷ [])) ≡ length (filter_map f events) + length (filter_map f (e ∷ []))
+      length_more f = ap length (filter_map-append f events (e ∷ [])) ∙ length-append (filter_map f events) (filter_map f (e ∷ []))
 
--- one event more in a count
-count_push : (p : Event → Bool) (events : List Event) (e : Event) → sum_by (λ x. cond (p x) 1 0) (events ++ e ∷ []) ≡ sum_by (λ x. cond (p x) 1 0) events + cond (p e) 1 0
-count_push p events e = sum_by_push (λ x. cond (p x) 1 0) events e
+      count_more : (p : Event → Bool) → count_by p (events ++ e ∷ []) ≡ count_by p events + count_by p (e ∷ [])
+      count_more p = sum_by-append (λ x. cond (p x) 1 0) events (e ∷ [])
+
+  -- one that accepts nothing
+  counts_without : acceptance_of e ≡ None → Grow c c' (acceptances events) e → AreCounts c' (events ++ e ∷ [])
+  counts_without none grow =
+      let same = filter_map_same acceptance_of events e none in
+      counts_push grow (ap (λ accepted. bytes_named accepted (filter_map sent_of (events ++ e ∷ []))) same) (ap (λ accepted. bytes_named accepted (filter_map dropped_of (events ++ e ∷ []))) same)
 
 -- an acceptance
 pub counts_accept : (c : Counts) (events : List Event) (id moment lane flow : ℕ) (packet : PacketParts) → AreFound (acceptances events) (fate_ids events) → AreCounts c events → AreCounts (count_accepted c packet.len) (events ++ Accepted id moment lane flow packet ∷ [])
@@ -47,91 +72,32 @@ counts_accept c events id moment lane flow packet found h =
     let e : Event = Accepted id moment lane flow packet in
     let a : Acceptance = record { id = id; moment = moment; lane = lane; flow = flow; packet = packet } in
     let accepted : acceptances (events ++ e ∷ []) ≡ acceptances events ++ a ∷ [] = filter_map_push acceptance_of events e a refl in
-    let fated : fate_ids (events ++ e ∷ []) ≡ fate_ids events = filter_map_same fate_of events e refl in
-    let sent : filter_map sent_of (events ++ e ∷ []) ≡ filter_map sent_of events = filter_map_same sent_of events e refl in
-    let dropped : filter_map dropped_of (events ++ e ∷ []) ≡ filter_map dropped_of events = filter_map_same dropped_of events e refl in
-    let P = λ (id : ℕ). (b : Acceptance) × (named (acceptances events) id ≡ Some b) in
-    record {
-      accepted = ap (λ k. k + 1) h.accepted ∙ sym (ap length accepted ∙ length_push (acceptances events) a);
-      accepted_bytes = ap (λ k. k + packet.len) h.accepted_bytes ∙ sym (ap (sum_by length_of) accepted ∙ sum_by_push length_of (acceptances events) a);
-      sent = h.sent ∙ ap length (sym sent);
-      sent_bytes = h.sent_bytes ∙ sym (rw (accepted, sent) (bytes_stay (acceptances events) (a ∷ []) (filter_map sent_of events) (sent_among P events found)));
-      dropped_codel = let was = h.dropped_codel in let one = count_push is_codel_drop events e in omega arith;
-      dropped_overflow = let was = h.dropped_overflow in let one = count_push is_overflow_drop events e in omega arith;
-      dropped_bytes = h.dropped_bytes ∙ sym (rw (accepted, dropped) (bytes_stay (acceptances events) (a ∷ []) (filter_map dropped_of events) (dropped_among P events found)));
-      marked = let was = h.marked in let one = count_push is_marked events e in omega arith;
-      fates = h.fates ∙ ap length (sym fated);
-      fate_bytes = h.fate_bytes ∙ sym (rw (accepted, fated) (bytes_stay (acceptances events) (a ∷ []) (fate_ids events) found));
-    }
+    let parts = parts_of (λ i. (b : Acceptance) × (named (acceptances events) i ≡ Some b)) events found in
+    counts_push c (count_accepted c packet.len) events e h (omega arith, omega arith, omega arith, omega arith, omega arith, omega arith, omega arith, omega arith, omega arith)
+    (rw (accepted, filter_map_same sent_of events e refl) (bytes_stay (acceptances events) (a ∷ []) (filter_map sent_of events) parts.0))
+    (rw (accepted, filter_map_same dropped_of events e refl) (bytes_stay (acceptances events) (a ∷ []) (filter_map dropped_of events) parts.1))
+  where
+    -- what holds of each fate's id holds of those sent, and of those dropped
+    parts_of : (P : ℕ → Type 0) (events : List Event) → AllByRecursion P (fate_ids events) → AllByRecursion P (filter_map sent_of events) × AllByRecursion P (filter_map dropped_of events)
+    parts_of P [] h = (tt, tt)
+    parts_of P (Accepted id moment lane flow packet ∷ events) h = parts_of P events h
+    parts_of P (Sent id moment ecn mark ∷ events) h = let rest = parts_of P events h.1 in ((h.0, rest.0), rest.1)
+    parts_of P (Dropped id moment cause ∷ events) h = let rest = parts_of P events h.1 in (rest.0, (h.0, rest.1))
+    parts_of P (Closed moment ∷ events) h = parts_of P events h
 
 -- a packet sent
 pub counts_send : (c : Counts) (events : List Event) (id moment : ℕ) (ecn : Ecn) (mark : Mark) (len : ℕ) → length_named (acceptances events) id ≡ len → AreCounts c events → AreCounts (count_sent c len mark) (events ++ Sent id moment ecn mark ∷ [])
-counts_send c events id moment ecn mark len value h =
-    let e : Event = Sent id moment ecn mark in
-    let accepted : acceptances (events ++ e ∷ []) ≡ acceptances events = filter_map_same acceptance_of events e refl in
-    let fated : fate_ids (events ++ e ∷ []) ≡ fate_ids events ++ id ∷ [] = filter_map_push fate_of events e id refl in
-    let sent : filter_map sent_of (events ++ e ∷ []) ≡ filter_map sent_of events ++ id ∷ [] = filter_map_push sent_of events e id refl in
-    let dropped : filter_map dropped_of (events ++ e ∷ []) ≡ filter_map dropped_of events = filter_map_same dropped_of events e refl in
-    let lens = ap length sent ∙ length_push (filter_map sent_of events) id in
-    let sums = sum_push (filter_map sent_of events) in
-    let fate_sums = sum_push (fate_ids events) in
-    record {
-      accepted = h.accepted ∙ ap length (sym accepted);
-      accepted_bytes = h.accepted_bytes ∙ ap (sum_by length_of) (sym accepted);
-      sent = let was = h.sent in omega arith;
-      sent_bytes = ap (λ k. k + len) h.sent_bytes ∙ sym (rw (accepted, sent) sums);
-      dropped_codel = let was = h.dropped_codel in let one = count_push is_codel_drop events e in omega arith;
-      dropped_overflow = let was = h.dropped_overflow in let one = count_push is_overflow_drop events e in omega arith;
-      dropped_bytes = h.dropped_bytes ∙ sym (rw (accepted, dropped));
-      marked = let was = h.marked in let one = count_push is_marked events e in let mark_is = mark_counts mark in omega arith;
-      fates = let was = h.fates in let all = ap length fated ∙ length_push (fate_ids events) id in omega arith;
-      fate_bytes = let was = h.fate_bytes in let now : bytes_named (acceptances (events ++ e ∷ [])) (fate_ids (events ++ e ∷ [])) ≡ bytes_named (acceptances events) (fate_ids events) + len = rw (accepted, fated) fate_sums in omega arith;
-    }
-  where
-    sum_push : (ids : List ℕ) → bytes_named (acceptances events) (ids ++ id ∷ []) ≡ bytes_named (acceptances events) ids + len
-    sum_push ids = let all = sum_by_push (length_named (acceptances events)) ids id in omega arith
-
-    mark_counts : (mark : Mark) → marks_of mark ≡ cond (is_marked (Sent id moment ecn mark)) 1 0
-    mark_counts NoMark = refl
-    mark_counts CodelMark = refl
+counts_send c events id moment ecn NoMark len value h =
+    counts_without c (count_sent c len NoMark) events (Sent id moment ecn NoMark) h refl (omega arith, omega arith, omega arith, omega arith, omega arith, omega arith, omega arith, omega arith, omega arith)
+counts_send c events id moment ecn CodelMark len value h =
+    counts_without c (count_sent c len CodelMark) events (Sent id moment ecn CodelMark) h refl (omega arith, omega arith, omega arith, omega arith, omega arith, omega arith, omega arith, omega arith, omega arith)
 
 -- a packet dropped
 pub counts_drop : (c : Counts) (events : List Event) (id moment : ℕ) (why : Cause) (len : ℕ) → length_named (acceptances events) id ≡ len → AreCounts c events → AreCounts (count_dropped c len why) (events ++ Dropped id moment why ∷ [])
-counts_drop c events id moment why len value h =
-    let e : Event = Dropped id moment why in
-    let accepted : acceptances (events ++ e ∷ []) ≡ acceptances events = filter_map_same acceptance_of events e refl in
-    let fated : fate_ids (events ++ e ∷ []) ≡ fate_ids events ++ id ∷ [] = filter_map_push fate_of events e id refl in
-    let sent : filter_map sent_of (events ++ e ∷ []) ≡ filter_map sent_of events = filter_map_same sent_of events e refl in
-    let dropped : filter_map dropped_of (events ++ e ∷ []) ≡ filter_map dropped_of events ++ id ∷ [] = filter_map_push dropped_of events e id refl in
-    let sums = sum_push (filter_map dropped_of events) in
-    let fate_sums = sum_push (fate_ids events) in
-    record {
-      accepted = h.accepted ∙ ap length (sym accepted);
-      accepted_bytes = h.accepted_bytes ∙ ap (sum_by length_of) (sym accepted);
-      sent = h.sent ∙ ap length (sym sent);
-      sent_bytes = h.sent_bytes ∙ sym (rw (accepted, sent));
-      dropped_codel = let was = h.dropped_codel in let one = count_push is_codel_drop events e in let is = codel_counts why in omega arith;
-      dropped_overflow = let was = h.dropped_overflow in let one = count_push is_overflow_drop events e in let is = overflow_counts why in omega arith;
-      dropped_bytes = ap (λ k. k + len) h.dropped_bytes ∙ sym (rw (accepted, dropped) sums);
-      marked = let was = h.marked in let one = count_push is_marked events e in omega arith;
-      fates = let was = h.fates in let all = ap length fated ∙ length_push (fate_ids events) id in let one = one_drop why in omega arith;
-      fate_bytes = let was = h.fate_bytes in let now : bytes_named (acceptances (events ++ e ∷ [])) (fate_ids (events ++ e ∷ [])) ≡ bytes_named (acceptances events) (fate_ids events) + len = rw (accepted, fated) fate_sums in omega arith;
-    }
-  where
-    sum_push : (ids : List ℕ) → bytes_named (acceptances events) (ids ++ id ∷ []) ≡ bytes_named (acceptances events) ids + len
-    sum_push ids = let all = sum_by_push (length_named (acceptances events)) ids id in omega arith
-
-    codel_counts : (why : Cause) → codel_drops_of why ≡ cond (is_codel_drop (Dropped id moment why)) 1 0
-    codel_counts Codel = refl
-    codel_counts Overflow = refl
-
-    overflow_counts : (why : Cause) → overflow_drops_of why ≡ cond (is_overflow_drop (Dropped id moment why)) 1 0
-    overflow_counts Codel = refl
-    overflow_counts Overflow = refl
-
-    one_drop : (why : Cause) → codel_drops_of why + overflow_drops_of why ≡ 1
-    one_drop Codel = refl
-    one_drop Overflow = refl
+counts_drop c events id moment Codel len value h =
+    counts_without c (count_dropped c len Codel) events (Dropped id moment Codel) h refl (omega arith, omega arith, omega arith, omega arith, omega arith, omega arith, omega arith, omega arith, omega arith)
+counts_drop c events id moment Overflow len value h =
+    counts_without c (count_dropped c len Overflow) events (Dropped id moment Overflow) h refl (omega arith, omega arith, omega arith, omega arith, omega arith, omega arith, omega arith, omega arith, omega arith)
 
 -- packets dropped, one after another
 pub counts_drops : (why : Cause) (moment : ℕ) (c : Counts) (events : List Event) (ws : List Waiting) → AllByRecursion (λ w. length_named (acceptances events) w.id ≡ w.packet.len) ws → AreCounts c events → AreCounts (count_drops why c ws) (events ++ map (drop_event moment why) ws)
@@ -151,21 +117,4 @@ count_drops-accepted why c (w ∷ ws) = count_drops-accepted why (count_dropped 
 
 -- a close
 pub counts_close : (c : Counts) (events : List Event) (moment : ℕ) → AreCounts c events → AreCounts c (events ++ Closed moment ∷ [])
-counts_close c events moment h =
-    let e : Event = Closed moment in
-    let accepted : acceptances (events ++ e ∷ []) ≡ acceptances events = filter_map_same acceptance_of events e refl in
-    let fated : fate_ids (events ++ e ∷ []) ≡ fate_ids events = filter_map_same fate_of events e refl in
-    let sent : filter_map sent_of (events ++ e ∷ []) ≡ filter_map sent_of events = filter_map_same sent_of events e refl in
-    let dropped : filter_map dropped_of (events ++ e ∷ []) ≡ filter_map dropped_of events = filter_map_same dropped_of events e refl in
-    record {
-      accepted = h.accepted ∙ ap length (sym accepted);
-      accepted_bytes = h.accepted_bytes ∙ ap (sum_by length_of) (sym accepted);
-      sent = h.sent ∙ ap length (sym sent);
-      sent_bytes = h.sent_bytes ∙ sym (rw (accepted, sent));
-      dropped_codel = let was = h.dropped_codel in let one = count_push is_codel_drop events e in omega arith;
-      dropped_overflow = let was = h.dropped_overflow in let one = count_push is_overflow_drop events e in omega arith;
-      dropped_bytes = h.dropped_bytes ∙ sym (rw (accepted, dropped));
-      marked = let was = h.marked in let one = count_push is_marked events e in omega arith;
-      fates = h.fates ∙ ap length (sym fated);
-      fate_bytes = h.fate_bytes ∙ sym (rw (accepted, fated));
-    }
+counts_close c events moment h = counts_without c c events (Closed moment) h refl (omega arith, omega arith, omega arith, omega arith, omega arith, omega arith, omega arith, omega arith, omega arith)

@@ -1,31 +1,25 @@
 -- How one event at a journal's end changes what is read off the journal.
-use Rattle.std.proofs.Common.{◌≡◌, ◌≢◌, ℕ, zero, suc, ◌+◌, ◌<◌, ◌≤◌, false, List, [], ◌∷◌, ◌++◌, length, map, All, ◌==◌, ◌-◌, Option, Some, None, refl, sym, ap, subst, ◌∙◌, inl, inr, arith, append-nil}
+use Rattle.std.proofs.Common.{◌≡◌, ◌≢◌, ℕ, zero, suc, ◌+◌, ◌<◌, ◌≤◌, false, List, [], ◌∷◌, ◌++◌, length, map, sum_by, All, ◌==◌, ◌-◌, Option, Some, None, refl, sym, ap, subst, ◌∙◌, inl, inr, arith, append-nil}
 use Rattle.std.specs.List.{AllByRecursion, Contains, filter_map, list_any, range_with_len}
-use Rattle.std.specs.Option.{IsSomeAnd}
+use Rattle.std.specs.Option.{IsSomeAnd, option_or}
 use Rattle.std.proofs.lemmas.Bool.{cases_lt, false≢true, or_parts}
-use Rattle.std.proofs.lemmas.List.{take-append-le, take_all, map-append, length_push}
+use Rattle.std.proofs.lemmas.List.{take-append-le, take_all, map-append, map-id, length_push}
 use Rattle.std.proofs.lemmas.List.Elements.{filter_map-append, All-push, All-weaker}
-use Rattle.std.proofs.lemmas.List.FromFn.{length-range_with_len, get_or-range_with_len}
-use Rattle.std.proofs.lemmas.List.Folds.{list_any-append}
+use Rattle.std.proofs.lemmas.List.FromFn.{length-range_with_len, get_or-range_with_len, map-range_with_len_more}
+use Rattle.std.proofs.lemmas.List.Folds.{find-append, list_any-append}
+use Rattle.std.proofs.lemmas.List.Sums.{sum_by-append}
 use Rattle.std.proofs.lemmas.List.Sorted.{IsNonDecreasingBy-push}
 use Rattle.journal_core.specs.declared.event.Event.{Event}
 use Rattle.journal_core.specs.declared.event.Event.TheVariants.{Accepted, Sent, Dropped, Closed}
 use Rattle.journal_core.specs.Happened.{Acceptance, moment_of, is_closed, accepted_ids, fate_ids, named}
 use Rattle.journal_core.specs.JournalLaws.{FatesFollow, AreDistinct, IsClosedForGood, IsHonest, is_barred, MomentsRise}
-use Rattle.journal_core.proofs.ListLemmas.{find-append}
+use Rattle.journal_core.proofs.ListLemmas.{ByRecursion-weaker}
 use Rattle.journal_core.proofs.IdLemmas.{named_within, id_of}
 use Rattle.journal_core.proofs.FlowShares.{AreFound}
 
--- the next number behind those from k on
-range_push : (k n : ℕ) → range_with_len k n ++ (k + n) ∷ [] ≡ range_with_len k (n + 1)
-range_push k zero = let e : k + 0 ≡ k = omega arith in ap (λ j. j ∷ []) e
-range_push k (suc n) =
-    let e : k + suc n ≡ (k + 1) + n = omega arith in
-    let s : suc n + 1 ≡ suc (n + 1) = omega arith in
-    rw (e, s) (ap (λ r. k ∷ r) (range_push (k + 1) n))
-
+-- the next number behind the first ones
 pub range_next : (n : ℕ) → range_with_len 0 n ++ n ∷ [] ≡ range_with_len 0 (n + 1)
-range_next n = let e : 0 + n ≡ n = omega arith in subst (λ j. range_with_len 0 n ++ j ∷ [] ≡ range_with_len 0 (n + 1)) e (range_push 0 n)
+range_next n = sym (rw (map-id (range_with_len 0 n), map-id (range_with_len 0 (n + 1))) at (map-range_with_len_more (λ x. x) 0 n n (omega arith)))
 
 -- an event that tells no such thing adds nothing
 pub filter_map_same : {X Y : Type 0} (h : X → Option Y) (xs : List X) (x : X) → h x ≡ None → filter_map h (xs ++ x ∷ []) ≡ filter_map h xs
@@ -34,6 +28,10 @@ filter_map_same h xs x none = filter_map-append h xs (x ∷ []) ∙ ap (λ r. fi
 -- and one that does adds it at the end
 pub filter_map_push : {X Y : Type 0} (h : X → Option Y) (xs : List X) (x : X) (y : Y) → h x ≡ Some y → filter_map h (xs ++ x ∷ []) ≡ filter_map h xs ++ y ∷ []
 filter_map_push h xs x y some = filter_map-append h xs (x ∷ []) ∙ ap (λ r. filter_map h xs ++ r) (let e : filter_map h (x ∷ []) ≡ y ∷ [] = rw some in e)
+
+-- one event more in a sum over what events tell
+pub sum_more : {X Y : Type 0} (value : Y → ℕ) (h : X → Option Y) (xs : List X) (x : X) → sum_by value (filter_map h (xs ++ x ∷ [])) ≡ sum_by value (filter_map h xs) + sum_by value (filter_map h (x ∷ []))
+sum_more value h xs x = ap (sum_by value) (filter_map-append h xs (x ∷ [])) ∙ sum_by-append value (filter_map h xs) (filter_map h (x ∷ []))
 
 -- each id below the next one is among 0, 1, 2 and so on
 range_contains : (n id : ℕ) → id < n → Contains (range_with_len 0 n) id
@@ -82,16 +80,13 @@ closed_push_open (x ∷ events) e open' =
     ((λ t. absurd (false≢true (sym parts.0 ∙ t))), closed_push_open events e parts.1)
 
 -- a found acceptance stays found
-some_stays : (accepted more : List Acceptance) (id : ℕ) (P : Acceptance → Type 0) → IsSomeAnd (named accepted id) P → IsSomeAnd (named (accepted ++ more) id) P
-some_stays accepted more id P h = go (named accepted id) refl h
-  where
-    go : (o : Option Acceptance) → named accepted id ≡ o → IsSomeAnd o P → IsSomeAnd (named (accepted ++ more) id) P
-    go None e h = absurd h
-    go (Some a) e h = rw (find-append (λ (b : Acceptance). b.id == id) accepted more a e) h
+found_stays : (o other : Option Acceptance) (P : Acceptance → Type 0) → IsSomeAnd o P → IsSomeAnd (option_or o other) P
+found_stays None other P h = absurd h
+found_stays (Some a) other P h = h
 
 honest_stays : (accepted more : List Acceptance) (e : Event) → IsHonest accepted e → IsHonest (accepted ++ more) e
 honest_stays accepted more (Accepted id moment lane flow packet) h = tt
-honest_stays accepted more (Sent id moment ecn mark) h = some_stays accepted more id _ h
+honest_stays accepted more (Sent id moment ecn mark) h = rw (find-append (λ (b : Acceptance). b.id == id) accepted more) (found_stays (named accepted id) (named more id) _ h)
 honest_stays accepted more (Dropped id moment cause) h = tt
 honest_stays accepted more (Closed moment) h = tt
 
@@ -101,5 +96,4 @@ all_honest_stay accepted more events h = All-weaker (IsHonest accepted) (IsHones
 
 -- each id below the next one is found
 pub all_found : (accepted : List Acceptance) (n : ℕ) (ids : List ℕ) → map id_of accepted ≡ range_with_len 0 n → AllByRecursion (λ id. id < n) ids → AreFound accepted ids
-all_found accepted n [] e h = tt
-all_found accepted n (id ∷ ids) e h = let below = h.0 in (named_within 0 n accepted id e (omega arith) (omega arith), all_found accepted n ids e h.1)
+all_found accepted n ids e h = ByRecursion-weaker (λ id. id < n) (λ id. (a : Acceptance) × (named accepted id ≡ Some a)) ids (λ id below. named_within n accepted id e below) h

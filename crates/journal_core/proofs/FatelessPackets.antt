@@ -1,63 +1,80 @@
--- What stays without a fate when one packet more is accepted, or has a fate.
-use Rattle.std.proofs.Common.{◌≡◌, ◌≢◌, ℕ, ◌+◌, ◌≤◌, true, false, not, List, [], ◌∷◌, ◌++◌, length, filter, sum_by, Some, sym, ap, ◌∙◌, inl, inr, ◌⊎◌, arith}
-use Rattle.std.specs.List.{AllByRecursion}
+-- What has no fate and what has one make up what was accepted.
+use Rattle.std.proofs.Common.{◌≡◌, ◌≢◌, ℕ, ◌+◌, ◌≤◌, ◌<◌, Bool, true, false, cond, not, List, [], ◌∷◌, length, filter, map, sum_by, Option, Some, None, sym, ap, ◌∙◌, refl, inl, inr, arith}
+use Rattle.std.specs.Prelude.{count_by}
+use Rattle.std.specs.List.{AllByRecursion, filter_map}
+use Rattle.std.specs.Option.{option_map_or}
 use Rattle.std.proofs.lemmas.Bool.{cases_Bool, cases_eq, eq-eqb, ne_eqb}
-use Rattle.std.proofs.lemmas.List.Elements.{filter-append}
+use Rattle.std.proofs.lemmas.List.Elements.{recursion_from_All}
 use Rattle.std.proofs.lemmas.List.Sums.{sum_by-cons}
-use Rattle.journal_core.specs.Happened.{Acceptance, named, is_among}
-use Rattle.journal_core.proofs.ListLemmas.{filter_agree_on, ByRecursion-weaker, length_as_sum}
-use Rattle.journal_core.proofs.IdLemmas.{Rises, Rises-above, is_among_push, is_among_last, is_among_none}
+use Rattle.journal_core.specs.declared.event.Event.{Event}
+use Rattle.journal_core.specs.declared.event.Event.TheVariants.{Accepted, Sent, Dropped, Closed}
+use Rattle.journal_core.specs.Happened.{Acceptance, fate_ids, is_among, named, passes}
+use Rattle.journal_core.specs.JournalLaws.{AreDistinct}
+use Rattle.journal_core.specs.Statistics.{sent_of, dropped_of}
+use Rattle.journal_core.proofs.ListLemmas.{ByRecursion-weaker}
+use Rattle.journal_core.proofs.IdLemmas.{Rises, Rises-above, is_among_none, named_none}
 
 -- the acceptances whose ids are not among those
 abbrev pub left_by : List ℕ → List Acceptance → List Acceptance
 left_by fated accepted = filter (λ a. not (is_among fated a.id)) accepted
 
--- a packet with a new id is left
-pub left_by-accept : (fated : List ℕ) (accepted : List Acceptance) (a : Acceptance) → AllByRecursion (λ id. id ≢ a.id) fated → left_by fated (accepted ++ a ∷ []) ≡ left_by fated accepted ++ a ∷ []
-left_by-accept fated accepted a apart =
-    let none = is_among_none fated a.id apart in
-    filter-append (λ a. not (is_among fated a.id)) accepted (a ∷ []) ∙ ap (λ r. left_by fated accepted ++ r) (let e : left_by fated (a ∷ []) ≡ a ∷ [] = rw none in e)
+-- what f gives of the acceptance that has the id
+abbrev pub weight_of : (Acceptance → ℕ) → List Acceptance → ℕ → ℕ
+weight_of f accepted id = option_map_or f (named accepted id) 0
 
--- of those left, the packet that has a fate now is left no more, and each other one still is
-pub left_by-fate : (f : Acceptance → ℕ) (k : ℕ) (fated : List ℕ) (id : ℕ) (who : Acceptance) (accepted : List Acceptance) → Rises k accepted → named accepted id ≡ Some who → is_among fated id ≡ false
-    → sum_by f (left_by (fated ++ id ∷ []) accepted) + f who ≡ sum_by f (left_by fated accepted)
-left_by-fate f k fated id who [] rises found new = absurd cc
-left_by-fate f k fated id who (a ∷ accepted) rises found new = elim (cases_eq a.id id) [ inl same ↦ here same | inr other ↦ behind other (λ known. left_by-fate f (a.id + 1) fated id who accepted rises.1 known new) (cases_Bool (is_among fated a.id)) ]
+-- with one acceptance more at the front, its value is added where it has a fate
+values_cons : (f : Acceptance → ℕ) (a : Acceptance) (accepted : List Acceptance) (fated : List ℕ) → named accepted a.id ≡ None → AreDistinct fated
+    → sum_by (weight_of f (a ∷ accepted)) fated ≡ cond (is_among fated a.id) (f a) 0 + sum_by (weight_of f accepted) fated
+values_cons f a accepted [] new once = omega arith
+values_cons f a accepted (id ∷ fated) new once =
+    let ih = values_cons f a accepted fated new once.1 in
+    let more = sum_by-cons (weight_of f (a ∷ accepted)) id fated in
+    let less = sum_by-cons (weight_of f accepted) id fated in
+    elim (cases_eq a.id id) [
+      | inl same ↦
+          let its : weight_of f (a ∷ accepted) id ≡ f a = rw (eq-eqb a.id id same) in
+          let none : weight_of f accepted id ≡ 0 = rw (ap (named accepted) (sym same) ∙ new) in
+          let only : cond {A = ℕ} (is_among fated a.id) (f a) 0 ≡ 0 = rw (ap (is_among fated) same ∙ is_among_none fated id (recursion_from_All (λ other. other ≢ id) fated once.0)) in
+          rw (eq-eqb id a.id (sym same)) (omega arith)
+      | inr other ↦
+          let its : weight_of f (a ∷ accepted) id ≡ weight_of f accepted id = rw (ne_eqb a.id id other) in
+          rw (ne_eqb id a.id (λ s. other (sym s))) (omega arith)
+    ]
+
+-- Added up: what is left, and what the fates name.
+pub sum_left : (f : Acceptance → ℕ) (k : ℕ) (accepted : List Acceptance) (fated : List ℕ) → Rises k accepted → AreDistinct fated → sum_by f (left_by fated accepted) + sum_by (weight_of f accepted) fated ≡ sum_by f accepted
+sum_left f k [] fated rises once = nothing fated
   where
-    here : a.id ≡ id → sum_by f (left_by (fated ++ id ∷ []) (a ∷ accepted)) + f who ≡ sum_by f (left_by fated (a ∷ accepted))
-    here same =
-        let e : Some a ≡ Some who = rw (eq-eqb a.id id same) at found in
-        let is_who : a ≡ who = cc in
-        let gone : is_among (fated ++ id ∷ []) a.id ≡ true = ap (is_among (fated ++ id ∷ [])) same ∙ is_among_last fated id in
-        let was : is_among fated a.id ≡ false = ap (is_among fated) same ∙ new in
-        let rest : left_by (fated ++ id ∷ []) accepted ≡ left_by fated accepted =
-        filter_agree_on (λ b. not (is_among (fated ++ id ∷ []) b.id)) (λ b. not (is_among fated b.id)) accepted
-        (ByRecursion-weaker (λ b. a.id + 1 ≤ b.id) (λ b. not (is_among (fated ++ id ∷ []) b.id) ≡ not (is_among fated b.id)) accepted (λ b above. ap not (is_among_push fated b.id id (λ s. omega arith))) (Rises-above (a.id + 1) accepted rises.1)) in
-        let new_is : left_by (fated ++ id ∷ []) (a ∷ accepted) ≡ left_by fated accepted = rw gone rest in
-        let old_is : left_by fated (a ∷ accepted) ≡ a ∷ left_by fated accepted = rw was in
-        let sum_new = ap (sum_by f) new_is in
-        let sum_old = ap (sum_by f) old_is ∙ sum_by-cons f a (left_by fated accepted) in
-        let value = ap f is_who in
-        omega arith
+    nothing : (ids : List ℕ) → sum_by f [] + sum_by (weight_of f []) ids ≡ 0
+    nothing [] = omega arith
+    nothing (id ∷ ids) = let ih = nothing ids in let one = sum_by-cons (weight_of f []) id ids in omega arith
+sum_left f k (a ∷ accepted) fated rises once =
+    let ih = sum_left f (a.id + 1) accepted fated rises.1 once in
+    let new = named_none accepted a.id (ByRecursion-weaker (λ b. a.id + 1 ≤ b.id) (λ b. b.id ≢ a.id) accepted (λ b above. λ s. omega arith) (Rises-above (a.id + 1) accepted rises.1)) in
+    let values = values_cons f a accepted fated new once in
+    let whole = sum_by-cons f a accepted in
+    elim (cases_Bool (is_among fated a.id)) [
+      | inl t ↦ let with_it : sum_by (weight_of f (a ∷ accepted)) fated ≡ f a + sum_by (weight_of f accepted) fated = rw t at values in rw t (omega arith)
+      | inr t ↦
+          let without : sum_by (weight_of f (a ∷ accepted)) fated ≡ 0 + sum_by (weight_of f accepted) fated = rw t at values in
+          let one = sum_by-cons f a (left_by fated accepted) in
+          rw t (omega arith)
+    ]
 
-    behind : (a.id ≡ id → ⊥) → (named accepted id ≡ Some who → sum_by f (left_by (fated ++ id ∷ []) accepted) + f who ≡ sum_by f (left_by fated accepted)) → (is_among fated a.id ≡ true) ⊎ (is_among fated a.id ≡ false) → sum_by f (left_by (fated ++ id ∷ []) (a ∷ accepted)) + f who ≡ sum_by f (left_by fated (a ∷ accepted))
-    behind other shorter (inl had) =
-        let found' = rw (ne_eqb a.id id other) at found in
-        let ih = shorter found' in
-        let has : is_among (fated ++ id ∷ []) a.id ≡ true = is_among_push fated a.id id (λ s. other (sym s)) ∙ had in
-        rw (has, had) ih
-    behind other shorter (inr had) =
-        let found' = rw (ne_eqb a.id id other) at found in
-        let ih = shorter found' in
-        let has : is_among (fated ++ id ∷ []) a.id ≡ false = is_among_push fated a.id id (λ s. other (sym s)) ∙ had in
-        let sum_new : sum_by f (left_by (fated ++ id ∷ []) (a ∷ accepted)) ≡ f a + sum_by f (left_by (fated ++ id ∷ []) accepted) = rw has (sum_by-cons f a (left_by (fated ++ id ∷ []) accepted)) in
-        let sum_old : sum_by f (left_by fated (a ∷ accepted)) ≡ f a + sum_by f (left_by fated accepted) = rw had (sum_by-cons f a (left_by fated accepted)) in
-        omega arith
+-- the number of fates whose acceptance passes a test
+pub count_fated : (test : Acceptance → Bool) (accepted : List Acceptance) (ids : List ℕ) → sum_by (weight_of (λ a. cond (test a) 1 0) accepted) ids ≡ count_by (passes test accepted) ids
+count_fated test accepted ids = λ k. sum_by (λ id. at (named accepted id) k) ids
+  where
+    at : (o : Option Acceptance) → option_map_or (λ a. cond (test a) 1 0) o 0 ≡ cond {A = ℕ} (option_map_or test o false) 1 0
+    at None = refl
+    at (Some a) = refl
 
--- how many are left
-pub length-left_by-fate : (fated : List ℕ) (id : ℕ) (who : Acceptance) (accepted : List Acceptance) → Rises 0 accepted → named accepted id ≡ Some who → is_among fated id ≡ false → length (left_by (fated ++ id ∷ []) accepted) + 1 ≡ length (left_by fated accepted)
-length-left_by-fate fated id who accepted rises found new =
-    let one = left_by-fate (λ _. 1) 0 fated id who accepted rises found new in
-    let new_len = length_as_sum (left_by (fated ++ id ∷ []) accepted) in
-    let old_len = length_as_sum (left_by fated accepted) in
-    omega arith
+-- A fate is a packet sent or a packet dropped.
+pub sum_fates : (g : ℕ → ℕ) (events : List Event) → sum_by g (fate_ids events) ≡ sum_by g (filter_map sent_of events) + sum_by g (filter_map dropped_of events)
+sum_fates g [] = omega arith
+sum_fates g (Accepted id moment lane flow packet ∷ events) = sum_fates g events
+sum_fates g (Sent id moment ecn mark ∷ events) =
+    let ih = sum_fates g events in let one = sum_by-cons g id (fate_ids events) in let other = sum_by-cons g id (filter_map sent_of events) in omega arith
+sum_fates g (Dropped id moment cause ∷ events) =
+    let ih = sum_fates g events in let one = sum_by-cons g id (fate_ids events) in let other = sum_by-cons g id (filter_map dropped_of events) in omega arith
+sum_fates g (Closed moment ∷ events) = sum_fates g events

@@ -7,8 +7,8 @@ use Rattle.std.proofs.lemmas.List.Elements.{filter-append}
 use Rattle.packet_core.specs.declared.packet.Waiting.{Waiting}
 use Rattle.journal_core.specs.Happened.{Acceptance, waiting_of, named, is_among, passes}
 use Rattle.journal_core.specs.History.{IsLine}
-use Rattle.journal_core.proofs.ListLemmas.{filter_agree_on, ByRecursion-filter, ByRecursion-passes, ByRecursion-parts, ByRecursion-weaker}
-use Rattle.journal_core.proofs.IdLemmas.{id_of, Rises, Rises-filter, Rises-before, named_itself, passes_at, passes-append, is_among_none, is_among-filter}
+use Rattle.journal_core.proofs.ListLemmas.{filter_agree_on, ByRecursion-both, ByRecursion-filter, ByRecursion-passes, ByRecursion-parts, ByRecursion-weaker}
+use Rattle.journal_core.proofs.IdLemmas.{id_of, Rises, Rises-apart, Rises-filter, named_itself, passes_at, passes-append, is_among-filter}
 
 -- each id has an acceptance
 abbrev pub AreFound : List Acceptance → List ℕ → Type 0
@@ -50,39 +50,36 @@ pub record Leaves (flow : ℕ) (w : Waiting) (waiting : List Waiting) (accepted 
   pub new : is_among fated w.id ≡ false
   pub line : IsLine flow waiting accepted (fated ++ w.id ∷ [])
 
-all_ids : (P : ℕ → Type 0) (accepted : List Acceptance) → AllByRecursion (λ (a : Acceptance). P a.id) accepted → AllByRecursion P (map id_of accepted)
-all_ids P [] h = tt
-all_ids P (a ∷ accepted) h = (h.0, all_ids P accepted h.1)
+-- an acceptance of the flow, which is found by its id
+abbrev pub IsOwn : ℕ → List Acceptance → Acceptance → Type 0
+IsOwn flow accepted a = (named accepted a.id ≡ Some a) × (of_flow flow a ≡ true)
 
-one_more : (q : ℕ → Bool) (ids : List ℕ) (id : ℕ) → q id ≡ true → filter q (ids ++ id ∷ []) ≡ filter q ids ++ id ∷ []
-one_more q ids id t = filter-append q ids (id ∷ []) ∙ ap (λ r. filter q ids ++ r) (let e : filter q (id ∷ []) ≡ id ∷ [] = rw t in e)
+pub all_own : (flow : ℕ) (accepted : List Acceptance) → Rises 0 accepted → AllByRecursion (IsOwn flow accepted) (filter (of_flow flow) accepted)
+all_own flow accepted rises =
+    let P = λ (a : Acceptance). named accepted a.id ≡ Some a in
+    ByRecursion-both P (λ a. of_flow flow a ≡ true) (filter (of_flow flow) accepted) (ByRecursion-filter P (of_flow flow) accepted (named_itself 0 accepted rises)) (ByRecursion-passes (of_flow flow) accepted)
 
-none_more : (q : ℕ → Bool) (ids : List ℕ) (id : ℕ) → q id ≡ false → filter q (ids ++ id ∷ []) ≡ filter q ids
-none_more q ids id t = filter-append q ids (id ∷ []) ∙ ap (λ r. filter q ids ++ r) (let e : filter q (id ∷ []) ≡ [] = rw t in e) ∙ append-nil (filter q ids)
+-- so are those that are gone, and the rest
+pub parts_own : (flow : ℕ) (accepted gone rest : List Acceptance) → Rises 0 accepted → filter (of_flow flow) accepted ≡ gone ++ rest → AllByRecursion (IsOwn flow accepted) gone × AllByRecursion (IsOwn flow accepted) rest
+parts_own flow accepted gone rest rises split = ByRecursion-parts (IsOwn flow accepted) gone rest (subst (AllByRecursion (IsOwn flow accepted)) split (all_own flow accepted rises))
 
 head_leaves : (flow : ℕ) (a : Acceptance) (gone rest accepted : List Acceptance) (fated : List ℕ) → Rises 0 accepted → filter (of_flow flow) accepted ≡ gone ++ a ∷ rest → filter (passes (of_flow flow) accepted) fated ≡ map id_of gone
     → Leaves flow (waiting_of a) (map waiting_of rest) accepted fated
 head_leaves flow a gone rest accepted fated rises split fates =
-    let P = λ (b : Acceptance). named accepted b.id ≡ Some b in
-    let each = ByRecursion-filter P (of_flow flow) accepted (named_itself 0 accepted rises) in
-    let found : named accepted a.id ≡ Some a = (ByRecursion-parts P gone (a ∷ rest) (subst (AllByRecursion P) split each)).1.0 in
-    let own : of_flow flow a ≡ true = (ByRecursion-parts (λ b. of_flow flow b ≡ true) gone (a ∷ rest) (subst (AllByRecursion (λ b. of_flow flow b ≡ true)) split (ByRecursion-passes (of_flow flow) accepted))).1.0 in
-    let test : passes (of_flow flow) accepted a.id ≡ true = passes_at (of_flow flow) accepted a.id a found ∙ own in
-    let below = Rises-before 0 gone rest a (subst (Rises 0) split (Rises-filter (of_flow flow) 0 accepted rises)) in
-    let apart = all_ids (λ id. id ≢ a.id) gone (ByRecursion-weaker (λ (b : Acceptance). b.id + 1 ≤ a.id) (λ (b : Acceptance). b.id ≢ a.id) gone (λ b h. λ s. omega arith) below) in
+    let own = (parts_own flow accepted gone (a ∷ rest) rises split).1.0 in
+    let test : passes (of_flow flow) accepted a.id ≡ true = passes_at (of_flow flow) accepted a.id a own.0 ∙ own.1 in
     record {
       who = a;
-      found = found;
+      found = own.0;
       same = refl;
-      flow_is = own;
+      flow_is = own.1;
       new =
-          sym (is_among-filter (passes (of_flow flow) accepted) fated a.id test) ∙ ap (λ ids. is_among ids a.id) fates ∙ is_among_none (map id_of gone) a.id apart;
+          sym (is_among-filter (passes (of_flow flow) accepted) fated a.id test) ∙ ap (λ ids. is_among ids a.id) fates ∙ Rises-apart 0 gone rest a (subst (Rises 0) split (Rises-filter (of_flow flow) 0 accepted rises));
       line = record {
         gone = gone ++ a ∷ [];
         rest = rest;
         split = split ∙ sym (append_assoc gone (a ∷ []) rest);
-        fates =
-            one_more (passes (of_flow flow) accepted) fated a.id test ∙ ap (λ ids. ids ++ a.id ∷ []) fates ∙ sym (map-append id_of gone (a ∷ []));
+        fates = filter-append (passes (of_flow flow) accepted) fated (a.id ∷ []) ∙ (λ k. fates k ++ cond (test k) (a.id ∷ []) []) ∙ sym (map-append id_of gone (a ∷ []));
         queue = refl;
       };
     }
@@ -105,6 +102,8 @@ line_stays flow waiting accepted fated id who found other line = record {
   gone = line.gone;
   rest = line.rest;
   split = line.split;
-  fates = none_more (passes (of_flow flow) accepted) fated id (passes_at (of_flow flow) accepted id who found ∙ other) ∙ line.fates;
+  fates =
+      filter-append (passes (of_flow flow) accepted) fated (id ∷ []) ∙ (λ k. line.fates k ++ cond ((passes_at (of_flow flow) accepted id who found ∙ other) k) (id ∷ []) [])
+      ∙ append-nil (map id_of line.gone);
   queue = line.queue;
 }

@@ -1,9 +1,9 @@
 -- Every step of a discipline that is first in, first out by flow carries its history on, and so does every run.
-use Rattle.std.proofs.Common.{◌≡◌, ℕ, zero, suc, ◌+◌, ◌<◌, ◌≤◌, Bool, false, List, [], ◌∷◌, ◌++◌, map, All, IfSome, take, eqb, Option, Some, None, MatchOption, refl, sym, ap, subst, ◌∙◌, inl, inr, arith, append_assoc, append-nil}
+use Rattle.std.proofs.Common.{◌≡◌, ℕ, zero, suc, ◌+◌, ◌<◌, ◌≤◌, Bool, false, List, [], ◌∷◌, ◌++◌, map, All, IfSome, take, eqb, Option, Some, None, MatchOption, refl, sym, ap, subst, ◌∙◌, inl, inr, arith, rules, append_assoc, append-nil}
 use Rattle.std.specs.List.{Contains, flat_map}
 use Rattle.std.proofs.lemmas.Bool.{cases_Bool}
 use Rattle.std.proofs.lemmas.List.{map-append}
-use Rattle.std.proofs.lemmas.List.Elements.{All-nil}
+use Rattle.std.proofs.lemmas.List.Elements.{All-weaker}
 use Rattle.packet_core.specs.Packets.{PacketParts}
 use Rattle.packet_core.specs.declared.packet.FiveTuple.{FiveTuple}
 use Rattle.packet_core.specs.declared.packet.Waiting.{Waiting}
@@ -18,46 +18,42 @@ use Rattle.journal_core.specs.declared.outcome.Answer.{Answer}
 use Rattle.journal_core.specs.declared.outcome.Answer.TheVariants as answer
 use Rattle.codel_core.specs.Verdict.{sent_ecn}
 use Rattle.journal_core.specs.Disciplines.{Discipline, Given, Batch, packets_of, LeaveHeads, IsFifoByFlow, LeavesHead, heads, with_arrival, given_packet, MayHave}
-use Rattle.journal_core.specs.Happened.{Acceptance, waiting_of, acceptances, accepted_ids, fate_ids, named}
+use Rattle.journal_core.specs.Happened.{Acceptance, waiting_of, moment_of, acceptances, accepted_ids, fate_ids, named}
 use Rattle.journal_core.specs.JournalLaws.{IsHonest, JournalLaws, WaitWithoutFate}
 use Rattle.journal_core.specs.History.{IsHistory, IsLine}
 use Rattle.journal_core.specs.State.{State, opening_state, arrival, refusal_of}
 use Rattle.journal_core.specs.Steps.{drop_event, sent_events, Admits, Serves, Closes, Makes, Steps}
 use Rattle.journal_core.specs.Runs.{Made, Runs, journal_of}
-use Rattle.journal_core.proofs.HistoryEvents.{history_accepts, history_closes, history_waits, history_fates}
+use Rattle.journal_core.proofs.HistoryEvents.{history_accepts, history_closes, history_fates}
 use Rattle.journal_core.proofs.LawsOfHistory.{laws_of_history, waits_of_history}
 use Rattle.journal_core.proofs.RefusalLemmas.{dequeue_next, enqueue_open, close_open}
-
--- no fate before the first event
-nothing_follows : (point : ℕ) → All (Contains (accepted_ids (take point []))) (fate_ids (take point []))
-nothing_follows zero = λ k d below. absurd (omega arith)
-nothing_follows (suc point) = λ k d below. absurd (omega arith)
 
 -- before the first event
 pub history_opens : (flow_of : FiveTuple → ℕ) (queue_of : ℕ → List Waiting) → ((flow : ℕ) → queue_of flow ≡ []) → IsHistory flow_of queue_of [] 0 0 false
 history_opens flow_of queue_of empty = record {
   ids = refl;
-  flows = All-nil (λ a. a.flow ≡ flow_of a.packet.tuple);
-  rises = λ i j d low below. absurd (omega arith);
-  past = All-nil (λ moment. moment ≤ 0);
-  known = All-nil (λ id. id < 0);
-  follow = nothing_follows;
+  flows = search rules;
+  rises = search rules;
+  past = search rules;
+  known = search rules;
+  follow = search rules;
   one_fate = tt;
   lines = λ flow. record { gone = []; rest = []; split = refl; fates = refl; queue = empty flow };
   close = refl;
   closed_for_good = tt;
-  honest = All-nil (IsHonest []);
+  honest = search rules;
   left = refl;
   left_bytes = refl;
 }
 
--- queues that are the same by flow have the same history
-pub history_same : (flow_of : FiveTuple → ℕ) (queue_of queue_of' : ℕ → List Waiting) (events : List Event) (n last : ℕ) (closed : Bool) → ((flow : ℕ) → queue_of flow ≡ queue_of' flow) → IsHistory flow_of queue_of events n last closed → IsHistory flow_of queue_of' events n last closed
-history_same flow_of queue_of queue_of' events n last closed same h = record {
+-- Time passes, and queues that are the same by flow have the same history.
+history_waits : (flow_of : FiveTuple → ℕ) (queue_of queue_of' : ℕ → List Waiting) (events : List Event) (n last moment : ℕ) (closed : Bool) → ((flow : ℕ) → queue_of flow ≡ queue_of' flow) → last ≤ moment
+    → IsHistory flow_of queue_of events n last closed → IsHistory flow_of queue_of' events n moment closed
+history_waits flow_of queue_of queue_of' events n last moment closed same later h = record {
   ids = h.ids;
   flows = h.flows;
   rises = h.rises;
-  past = h.past;
+  past = All-weaker (λ m. m ≤ last) (λ m. m ≤ moment) (λ m low. omega arith) (map moment_of events) h.past;
   known = h.known;
   follow = h.follow;
   one_fate = h.one_fate;
@@ -73,8 +69,8 @@ history_same flow_of queue_of queue_of' events n last closed same h = record {
 heads_none : (flow f : ℕ) → heads flow [] f ≡ []
 heads_none flow f = elim (cases_Bool (eqb flow f)) [ inl t ↦ rw t | inr t ↦ rw t ]
 
-heads_more : (flow f : ℕ) (w : Waiting) (gone : List Waiting) → heads flow (w ∷ gone) f ≡ heads flow (w ∷ []) f ++ heads flow gone f
-heads_more flow f w gone = elim (cases_Bool (eqb flow f)) [ inl t ↦ rw t | inr t ↦ rw t ]
+heads_append : (flow f : ℕ) (gone more : List Waiting) → heads flow (gone ++ more) f ≡ heads flow gone f ++ heads flow more f
+heads_append flow f gone more = elim (cases_Bool (eqb flow f)) [ inl t ↦ rw t | inr t ↦ rw t ]
 
 -- The packets leave the head of a flow's queue, each with an event that is its fate.
 module _ (flow_of : FiveTuple → ℕ) (n : ℕ) (closed : Bool) (flow moment : ℕ) where
@@ -82,12 +78,12 @@ module _ (flow_of : FiveTuple → ℕ) (n : ℕ) (closed : Bool) (flow moment : 
       → IsHistory flow_of queue_of' (events ++ map (drop_event moment why) gone) n moment closed
   history_drops why [] queue_of queue_of' events last h leaves later =
       let same = λ (f : ℕ). leaves f ∙ ap (λ r. r ++ queue_of' f) (heads_none flow f) in
-      rw (append-nil events) (history_same flow_of queue_of queue_of' events n moment closed same (history_waits flow_of events n last queue_of closed moment h later))
+      rw (append-nil events) (history_waits flow_of queue_of queue_of' events n last moment closed same later h)
   history_drops why (w ∷ gone) queue_of queue_of' events last h leaves later =
       let mid = λ (f : ℕ). heads flow gone f ++ queue_of' f in
-      let first : LeavesHead queue_of flow (w ∷ []) mid = λ f. leaves f ∙ ap (λ r. r ++ queue_of' f) (heads_more flow f w gone) ∙ append_assoc (heads flow (w ∷ []) f) (heads flow gone f) (queue_of' f) in
+      let first : LeavesHead queue_of flow (w ∷ []) mid = λ f. leaves f ∙ ap (λ r. r ++ queue_of' f) (heads_append flow f (w ∷ []) gone) ∙ append_assoc (heads flow (w ∷ []) f) (heads flow gone f) (queue_of' f) in
       let e = drop_event moment why w in
-      let next = history_fates flow_of events n last queue_of mid closed flow w moment e h first later refl refl refl refl refl (λ a found same. tt) in
+      let next = history_fates flow_of events n last queue_of mid closed flow w e h first later refl refl refl refl (λ a found same. tt) in
       subst (λ es. IsHistory flow_of queue_of' es n moment closed) (append_assoc events (e ∷ []) (map (drop_event moment why) gone))
       (history_drops why gone mid queue_of' (events ++ e ∷ []) moment next (λ f. refl) (omega arith))
 
@@ -103,12 +99,9 @@ module _ (flow_of : FiveTuple → ℕ) (n : ℕ) (closed : Bool) (flow moment : 
       let e = Sent g.waiting.id moment (sent_ecn g.mark g.waiting.packet.ecn) g.mark in
       let dropped = history_drops why gone queue_of mid events last h first later in
       subst (λ es. IsHistory flow_of queue_of' es n moment closed) (append_assoc events drops (e ∷ []))
-      (history_fates flow_of (events ++ drops) n moment mid queue_of' closed flow g.waiting moment e dropped (λ f. refl) (omega arith) refl refl refl refl refl
+      (history_fates flow_of (events ++ drops) n moment mid queue_of' closed flow g.waiting e dropped (λ f. refl) (omega arith) refl refl refl refl
       (λ a found same. honest_at (acceptances (events ++ drops)) a found same))
     where
-      heads_append : (flow f : ℕ) (gone more : List Waiting) → heads flow (gone ++ more) f ≡ heads flow gone f ++ heads flow more f
-      heads_append flow f gone more = elim (cases_Bool (eqb flow f)) [ inl t ↦ rw t | inr t ↦ rw t ]
-
       honest_at : (accepted : List Acceptance) (a : Acceptance) → named accepted g.waiting.id ≡ Some a → waiting_of a ≡ g.waiting → IsHonest accepted (Sent g.waiting.id moment (sent_ecn g.mark g.waiting.packet.ecn) g.mark)
       honest_at accepted a found same =
           let ecn : a.packet.ecn ≡ g.waiting.packet.ecn = ap (λ (w : Waiting). w.packet.ecn) same in
@@ -118,7 +111,7 @@ module _ (flow_of : FiveTuple → ℕ) (n : ℕ) (closed : Bool) (flow moment : 
 history_batches : (flow_of : FiveTuple → ℕ) (n : ℕ) (closed : Bool) (moment : ℕ) (why : Cause) (batches : List Batch) (queue_of queue_of' : ℕ → List Waiting) (events : List Event) (last : ℕ) → IsHistory flow_of queue_of events n last closed → LeaveHeads queue_of batches queue_of' → last ≤ moment
     → IsHistory flow_of queue_of' (events ++ map (drop_event moment why) (packets_of batches)) n moment closed
 history_batches flow_of n closed moment why [] queue_of queue_of' events last h leave later =
-    rw (append-nil events) (history_same flow_of queue_of queue_of' events n moment closed leave (history_waits flow_of events n last queue_of closed moment h later))
+    rw (append-nil events) (history_waits flow_of queue_of queue_of' events n last moment closed leave later h)
 history_batches flow_of n closed moment why (b ∷ batches) queue_of queue_of' events last h leave later =
     let mid = λ (f : ℕ). flat_map (λ (c : Batch). heads c.flow c.gone f) batches ++ queue_of' f in
     let first : LeavesHead queue_of b.flow b.gone mid = λ f. leave f ∙ append_assoc (heads b.flow b.gone f) (flat_map (λ (c : Batch). heads c.flow c.gone f) batches) (queue_of' f) in
@@ -142,31 +135,26 @@ module _ {Q : Type 0} (d : Discipline Q) (queue_of : Q → ℕ → List Waiting)
   keeps_admits : (old new : State Q) (moment lane : ℕ) (packet : PacketParts) (made events : List Event) → refusal_of old (Enqueue moment lane packet) ≡ None → Admits d old moment lane packet made new → Keeps old events → Keeps new (events ++ made)
   keeps_admits old new moment lane packet made events fits m h =
       let known = (enqueue_open old moment lane packet fits).0 in
-      let later = known.next.later in
-      let open' = known.open' in
       let w = arrival old moment packet in
       let e = Accepted old.next_id moment lane (d.flow_of packet.tuple) packet in
-      let before : IsHistory d.flow_of (queue_of old.queues) events old.next_id old.last false = subst (λ b. IsHistory d.flow_of (queue_of old.queues) events old.next_id old.last b) open' h in
-      let accepted = history_accepts d.flow_of events old.next_id old.last (queue_of old.queues) moment lane packet before later in
+      let before : IsHistory d.flow_of (queue_of old.queues) events old.next_id old.last false = subst (λ b. IsHistory d.flow_of (queue_of old.queues) events old.next_id old.last b) known.open' h in
+      let accepted = history_accepts d.flow_of events old.next_id old.last (queue_of old.queues) moment lane packet before known.next.later in
       let batches = fifo.admits old.queues w m.lost new.queues m.queues in
       let all = history_batches d.flow_of (old.next_id + 1) false moment cause.Overflow batches.0 (with_arrival (queue_of old.queues) (d.flow_of packet.tuple) w) (queue_of new.queues) (events ++ e ∷ []) moment accepted batches.2 (omega arith) in
-      keeps_at new (events ++ made) (old.next_id + 1) moment false m.next_id m.last (m.closed ∙ open')
+      keeps_at new (events ++ made) (old.next_id + 1) moment false m.next_id m.last (m.closed ∙ known.open')
       (rw (m.told, batches.1) (subst (λ es. IsHistory d.flow_of (queue_of new.queues) es (old.next_id + 1) moment false) (append_assoc events (e ∷ []) (map (drop_event moment cause.Overflow) (packets_of batches.0))) all))
 
   keeps_serves : (old new : State Q) (moment : ℕ) (given : Option Given) (made events : List Event) → refusal_of old (Dequeue moment) ≡ None → Serves d old moment given made new → Keeps old events → Keeps new (events ++ made)
   keeps_serves old new moment given made events fits m h =
-      let later = (dequeue_next old moment fits).later in
       let leaves = fifo.serves old.queues moment m.dropped given new.queues m.queues in
-      let all = history_serves d.flow_of old.next_id old.closed leaves.0.0 moment cause.Codel m.dropped given (queue_of old.queues) (queue_of new.queues) events old.last h leaves.0.1 leaves.1 later in
+      let all = history_serves d.flow_of old.next_id old.closed leaves.0.0 moment cause.Codel m.dropped given (queue_of old.queues) (queue_of new.queues) events old.last h leaves.0.1 leaves.1 (dequeue_next old moment fits).later in
       keeps_at new (events ++ made) old.next_id moment old.closed m.next_id m.last m.closed (rw m.told all)
 
   keeps_closes : (old new : State Q) (moment : ℕ) (made events : List Event) → refusal_of old (Close moment) ≡ None → Closes old moment made new → Keeps old events → Keeps new (events ++ made)
   keeps_closes old new moment made events fits m h =
       let known = close_open old moment fits in
-      let later = known.next.later in
-      let open' = known.open' in
-      let before : IsHistory d.flow_of (queue_of old.queues) events old.next_id old.last false = subst (λ b. IsHistory d.flow_of (queue_of old.queues) events old.next_id old.last b) open' h in
-      rw (m.told, m.state) (history_closes d.flow_of events old.next_id old.last (queue_of old.queues) moment before later)
+      let before : IsHistory d.flow_of (queue_of old.queues) events old.next_id old.last false = subst (λ b. IsHistory d.flow_of (queue_of old.queues) events old.next_id old.last b) known.open' h in
+      rw (m.told, m.state) (history_closes d.flow_of events old.next_id old.last (queue_of old.queues) moment before known.next.later)
 
   pub keeps_makes : (old new : State Q) (step : Step) (said : Answer) (made events : List Event) → refusal_of old step ≡ None → Makes d old step said made new → Keeps old events → Keeps new (events ++ made)
   keeps_makes old new (Enqueue moment lane packet) said made events fits m h = keeps_admits old new moment lane packet made events fits m.1 h

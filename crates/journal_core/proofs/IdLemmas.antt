@@ -1,9 +1,14 @@
 -- Lemmas on acceptances whose ids are consecutive numbers.
-use Rattle.std.proofs.Common.{◌≡◌, ◌≢◌, ℕ, zero, suc, ◌+◌, ◌<◌, ◌≤◌, Bool, true, false, List, [], ◌∷◌, ◌++◌, map, filter, eqb, Some, None, refl, sym, ap, subst, ◌∙◌, inl, inr, arith}
+use Rattle.std.proofs.Common.{◌≡◌, ◌≢◌, ℕ, zero, suc, ◌+◌, ◌<◌, ◌≤◌, Bool, true, false, not, ◌||◌, List, [], ◌∷◌, ◌++◌, map, filter, length, get_or, eqb, Some, None, refl, sym, ap, subst, ◌∙◌, inl, inr, arith}
 use Rattle.std.specs.List.{AllByRecursion, range_with_len}
-use Rattle.std.proofs.lemmas.Bool.{cases_Bool, false≢true, eqb-false, eq-eqb, ne_eqb, cases_eq, or_parts}
+use Rattle.std.proofs.lemmas.Bool.{cases_Bool, eqb-false, eq-eqb, ne_eqb, or_parts}
+use Rattle.std.proofs.lemmas.Bool.Decides.{nat_tests}
+use Rattle.std.proofs.lemmas.List.{get_or-map, length-map}
+use Rattle.std.proofs.lemmas.List.Elements.{All-from_recursion, recursion_from_All}
+use Rattle.std.proofs.lemmas.List.Folds.{find-append}
+use Rattle.std.proofs.lemmas.List.FromFn.{get_or-range_with_len, length-range_with_len}
 use Rattle.journal_core.specs.Happened.{Acceptance, named, is_among, passes}
-use Rattle.journal_core.proofs.ListLemmas.{ByRecursion-weaker, find-append}
+use Rattle.journal_core.proofs.ListLemmas.{ByRecursion-all, ByRecursion-both, ByRecursion-parts, ByRecursion-weaker, filter_agree_on, filter_keeps_all}
 
 abbrev pub id_of : Acceptance → ℕ
 id_of a = a.id
@@ -26,25 +31,24 @@ Rises-range k (suc n) (a ∷ accepted) e =
     let tail : map id_of accepted ≡ range_with_len (k + 1) n = cc in
     (omega arith, subst (λ j. Rises (j + 1) accepted) (sym head) (Rises-range (k + 1) n accepted tail))
 
--- and none is past the last
-pub Rises-within : (k n : ℕ) (accepted : List Acceptance) → map id_of accepted ≡ range_with_len k n → AllByRecursion (λ a. a.id < k + n) accepted
-Rises-within k n [] e = tt
-Rises-within k zero (a ∷ accepted) e = absurd cc
-Rises-within k (suc n) (a ∷ accepted) e =
-    let head : a.id ≡ k = cc in
-    let tail : map id_of accepted ≡ range_with_len (k + 1) n = cc in
-    let rest = Rises-within (k + 1) n accepted tail in
-    (omega arith, ByRecursion-weaker (λ b. b.id < (k + 1) + n) (λ b. b.id < k + suc n) accepted (λ b low. omega arith) rest)
+-- as many as they are, the id at each place, and that none is past the last
+pub many_ids : (n : ℕ) (accepted : List Acceptance) → map id_of accepted ≡ range_with_len 0 n → length accepted ≡ n
+many_ids n accepted ids = sym (length-map accepted id_of) ∙ ap length ids ∙ length-range_with_len 0 n
+
+id_at : (n : ℕ) (accepted : List Acceptance) (i : ℕ) (a : Acceptance) → map id_of accepted ≡ range_with_len 0 n → i < n → (get_or accepted i a).id ≡ i
+id_at n accepted i a ids low =
+    let at = sym (get_or-map id_of accepted i a a.id (omega (arith, many_ids n accepted ids))) ∙ ap (λ l. get_or l i a.id) ids ∙ get_or-range_with_len 0 n i a.id low in
+    omega arith
+
+pub ids_below : (n : ℕ) (accepted : List Acceptance) → map id_of accepted ≡ range_with_len 0 n → AllByRecursion (λ a. a.id < n) accepted
+ids_below n accepted ids = recursion_from_All (λ a. a.id < n) accepted (λ i a low. let len = many_ids n accepted ids in omega (arith, id_at n accepted i a ids (omega arith)))
 
 pub Rises-filter : (p : Acceptance → Bool) (k : ℕ) (accepted : List Acceptance) → Rises k accepted → Rises k (filter p accepted)
 Rises-filter p k [] r = tt
 Rises-filter p k (a ∷ accepted) r =
     let ih = Rises-filter p (a.id + 1) accepted r.1 in
     let low = r.0 in
-    elim (cases_Bool (p a)) [
-      | inl t ↦ rw t (low, ih)
-      | inr t ↦ rw t (Rises-lower k (a.id + 1) (filter p accepted) (omega arith) ih)
-    ]
+    elim (cases_Bool (p a)) [ inl t ↦ rw t (low, ih) | inr t ↦ rw t (Rises-lower k (a.id + 1) (filter p accepted) (omega arith) ih) ]
 
 -- each id is at least the first
 pub Rises-above : (k : ℕ) (accepted : List Acceptance) → Rises k accepted → AllByRecursion (λ a. k ≤ a.id) accepted
@@ -53,19 +57,21 @@ Rises-above k (a ∷ accepted) r =
     let low = r.0 in
     (low, ByRecursion-weaker (λ b. a.id + 1 ≤ b.id) (λ b. k ≤ b.id) accepted (λ b h. omega arith) (Rises-above (a.id + 1) accepted r.1))
 
--- behind an acceptance the ids are above its own
-pub Rises-behind : (k : ℕ) (before after : List Acceptance) (a : Acceptance) → Rises k (before ++ a ∷ after) → AllByRecursion (λ b. a.id + 1 ≤ b.id) after
-Rises-behind k [] after a r = Rises-above (a.id + 1) after r.1
-Rises-behind k (b ∷ before) after a r = Rises-behind (b.id + 1) before after a r.1
+-- an acceptance's id is not among those before it
+pub Rises-apart : (k : ℕ) (before after : List Acceptance) (a : Acceptance) → Rises k (before ++ a ∷ after) → is_among (map id_of before) a.id ≡ false
+Rises-apart k [] after a r = refl
+Rises-apart k (b ∷ before) after a r =
+    let low = (ByRecursion-parts (λ c. b.id + 1 ≤ c.id) before (a ∷ after) (Rises-above (b.id + 1) (before ++ a ∷ after) r.1)).1.0 in
+    rw (ne_eqb b.id a.id (λ s. omega arith)) (Rises-apart (b.id + 1) before after a r.1)
 
--- before it they are below its own
-pub Rises-before : (k : ℕ) (before after : List Acceptance) (a : Acceptance) → Rises k (before ++ a ∷ after) → AllByRecursion (λ b. b.id + 1 ≤ a.id) before
-Rises-before k [] after a r = tt
-Rises-before k (b ∷ before) after a r = (Rises-first (b.id + 1) before after a r.1, Rises-before (b.id + 1) before after a r.1)
-  where
-    Rises-first : (k : ℕ) (before after : List Acceptance) (a : Acceptance) → Rises k (before ++ a ∷ after) → k ≤ a.id
-    Rises-first k [] after a r = r.0
-    Rises-first k (b ∷ before) after a r = let low = r.0 in let ih = Rises-first (b.id + 1) before after a r.1 in omega arith
+-- those whose ids are among the first ones are the first ones
+pub Rises-rest : (k : ℕ) (before after : List Acceptance) → Rises k (before ++ after) → filter (λ a. not (is_among (map id_of before) a.id)) (before ++ after) ≡ after
+Rises-rest k [] after r = filter_keeps_all (λ _. true) after (ByRecursion-all (λ _. true ≡ true) after (λ _. refl))
+Rises-rest k (b ∷ before) after r =
+    rw (eq-eqb b.id b.id refl)
+    (filter_agree_on (λ a. not (eqb b.id a.id || is_among (map id_of before) a.id)) (λ a. not (is_among (map id_of before) a.id)) (before ++ after)
+    (ByRecursion-weaker (λ a. b.id + 1 ≤ a.id) (λ a. not (eqb b.id a.id || is_among (map id_of before) a.id) ≡ not (is_among (map id_of before) a.id)) (before ++ after) (λ a low. rw (ne_eqb b.id a.id (λ s. omega arith))) (Rises-above (b.id + 1) (before ++ after) r.1))
+    ∙ Rises-rest (b.id + 1) before after r.1)
 
 -- an id that none has is not found
 pub named_none : (accepted : List Acceptance) (id : ℕ) → AllByRecursion (λ (a : Acceptance). a.id ≢ id) accepted → named accepted id ≡ None
@@ -76,25 +82,19 @@ named_none (a ∷ accepted) id h = rw (ne_eqb a.id id h.0) (named_none accepted 
 pub named_itself : (k : ℕ) (accepted : List Acceptance) → Rises k accepted → AllByRecursion (λ a. named accepted a.id ≡ Some a) accepted
 named_itself k [] r = tt
 named_itself k (a ∷ accepted) r =
-    (rw (eq-eqb a.id a.id refl), behind accepted (Rises-above (a.id + 1) accepted r.1) (named_itself (a.id + 1) accepted r.1))
-  where
-    behind : (some : List Acceptance) → AllByRecursion (λ b. a.id + 1 ≤ b.id) some → AllByRecursion (λ b. named accepted b.id ≡ Some b) some → AllByRecursion (λ b. named (a ∷ accepted) b.id ≡ Some b) some
-    behind [] h e = tt
-    behind (b ∷ some) h e = let low = h.0 in (rw (ne_eqb a.id b.id (λ s. omega arith)) e.0, behind some h.1 e.1)
+    (rw (eq-eqb a.id a.id refl), ByRecursion-weaker (λ b. (a.id + 1 ≤ b.id) × (named accepted b.id ≡ Some b)) (λ b. named (a ∷ accepted) b.id ≡ Some b) accepted
+    (λ b h. let low = h.0 in rw (ne_eqb a.id b.id (λ s. omega arith)) h.1) (ByRecursion-both _ _ accepted (Rises-above (a.id + 1) accepted r.1) (named_itself (a.id + 1) accepted r.1)))
 
--- each number that an id has is found
-pub named_within : (k n : ℕ) (accepted : List Acceptance) (id : ℕ) → map id_of accepted ≡ range_with_len k n → k ≤ id → id < k + n → (a : Acceptance) × (named accepted id ≡ Some a)
-named_within k zero accepted id e low high = absurd (omega arith)
-named_within k (suc n) [] id e low high = absurd cc
-named_within k (suc n) (a ∷ accepted) id e low high =
-    let head : a.id ≡ k = cc in
-    let tail : map id_of accepted ≡ range_with_len (k + 1) n = cc in
-    elim (cases_eq a.id id) [
-      | inl same ↦ (a, rw (eq-eqb a.id id same))
-      | inr other ↦
-          let found = named_within (k + 1) n accepted id tail (omega arith) (omega arith) in
-          (found.0, rw (ne_eqb a.id id other) found.1)
-    ]
+-- each number that an id has is found, at its place
+pub named_at : (n : ℕ) (accepted : List Acceptance) (id : ℕ) (a : Acceptance) → map id_of accepted ≡ range_with_len 0 n → id < n → named accepted id ≡ Some (get_or accepted id a)
+named_at n accepted id a ids low =
+    let len = many_ids n accepted ids in
+    ap (named accepted) (sym (id_at n accepted id a ids low))
+    ∙ All-from_recursion (λ b. named accepted b.id ≡ Some b) accepted (named_itself 0 accepted (Rises-range 0 n accepted ids)) id a (omega arith)
+
+pub named_within : (n : ℕ) (accepted : List Acceptance) (id : ℕ) → map id_of accepted ≡ range_with_len 0 n → id < n → (a : Acceptance) × (named accepted id ≡ Some a)
+named_within n [] id ids low = let len = many_ids n [] ids in absurd (omega arith)
+named_within n (a ∷ accepted) id ids low = (get_or (a ∷ accepted) id a, named_at n (a ∷ accepted) id a ids low)
 
 -- the test of an acceptance that its id finds
 pub passes_at : (test : Acceptance → Bool) (accepted : List Acceptance) (id : ℕ) (a : Acceptance) → named accepted id ≡ Some a → passes test accepted id ≡ test a
@@ -102,20 +102,7 @@ passes_at test accepted id a e = rw e
 
 -- more acceptances leave the test of a known id
 pub passes-append : (test : Acceptance → Bool) (accepted more : List Acceptance) (id : ℕ) (a : Acceptance) → named accepted id ≡ Some a → passes test (accepted ++ more) id ≡ passes test accepted id
-passes-append test accepted more id a e = rw (e, find-append (λ b. eqb b.id id) accepted more a e)
-
--- whether an id is among those and one more
-pub is_among_push : (ids : List ℕ) (id other : ℕ) → other ≢ id → is_among (ids ++ other ∷ []) id ≡ is_among ids id
-is_among_push [] id other ne = rw (ne_eqb other id ne)
-is_among_push (x ∷ ids) id other ne = rw (is_among_push ids id other ne)
-
-pub is_among_last : (ids : List ℕ) (id : ℕ) → is_among (ids ++ id ∷ []) id ≡ true
-is_among_last [] id = rw (eq-eqb id id refl)
-is_among_last (x ∷ ids) id =
-    elim (cases_Bool (eqb x id)) [
-      | inl t ↦ rw t
-      | inr t ↦ rw t (is_among_last ids id)
-    ]
+passes-append test accepted more id a e = rw (find-append (λ b. eqb b.id id) accepted more, e) refl
 
 -- an id that differs from each is not among them
 pub is_among_none : (ids : List ℕ) (id : ℕ) → AllByRecursion (λ x. x ≢ id) ids → is_among ids id ≡ false
@@ -131,19 +118,4 @@ differs_from_each (x ∷ ids) id e =
 -- a filter that passes the id leaves whether it is among them
 pub is_among-filter : (q : ℕ → Bool) (ids : List ℕ) (id : ℕ) → q id ≡ true → is_among (filter q ids) id ≡ is_among ids id
 is_among-filter q [] id t = refl
-is_among-filter q (x ∷ ids) id t =
-    let ih = is_among-filter q ids id t in
-    elim (cases_Bool (q x)) [
-      | inl u ↦ rw (u, ih)
-      | inr u ↦ rw u (ih ∙ sym (rw (ne_eqb x id (λ s. false≢true (sym u ∙ ap q s ∙ t)))))
-    ]
-
--- an acceptance of the list is among its ids
-pub is_among_itself : (accepted : List Acceptance) → AllByRecursion (λ a. is_among (map id_of accepted) a.id ≡ true) accepted
-is_among_itself [] = tt
-is_among_itself (a ∷ accepted) = (rw (eq-eqb a.id a.id refl), behind accepted (is_among_itself accepted))
-  where
-    behind : (some : List Acceptance) → AllByRecursion (λ b. is_among (map id_of accepted) b.id ≡ true) some → AllByRecursion (λ b. is_among (map id_of (a ∷ accepted)) b.id ≡ true) some
-    behind [] h = tt
-    behind (b ∷ some) h =
-        (elim (cases_Bool (eqb a.id b.id)) [ inl t ↦ rw t | inr t ↦ rw t h.0 ], behind some h.1)
+is_among-filter q (x ∷ ids) id t = grind (arith, nat_tests, cases_Bool (q x), is_among-filter q ids id t, t)

@@ -12,8 +12,5 @@ pub mod KnownPackets
 pub mod WaitingPackets
 pub mod RunLemmas
 pub mod RunsWithoutRefused
-pub mod FirstOfEach
-pub mod TupleCounts
 pub mod TallyLemmas
-pub mod JournalPrefixes
 pub mod Walks

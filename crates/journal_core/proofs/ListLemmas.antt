@@ -4,101 +4,44 @@ use Rattle.std.specs.List.{AllByRecursion}
 use Rattle.std.proofs.lemmas.Bool.{cases_Bool, false≢true}
 use Rattle.std.proofs.lemmas.List.Sums.{sum_by-cons}
 
--- what is found stays found behind more elements
-pub find-append : {X : Type 0} (p : X → Bool) (xs ys : List X) (x : X) → find p xs ≡ Some x → find p (xs ++ ys) ≡ Some x
-find-append p [] ys x e = cc
-find-append p (y ∷ xs) ys x e =
-    elim (cases_Bool (p y)) [
-      | inl t ↦ rw t (rw t at e)
-      | inr t ↦ rw t (find-append p xs ys x (rw t at e))
-    ]
-
 -- what is found is an element
 pub All-found : {X : Type 0} (P : X → Type 0) (p : X → Bool) (xs : List X) (x : X) → AllByRecursion P xs → find p xs ≡ Some x → P x
 All-found P p [] x h e = absurd cc
-All-found P p (y ∷ xs) x h e =
-    elim (cases_Bool (p y)) [
-      | inl t ↦ let same : y ≡ x = (let e' : Some y ≡ Some x = rw t at e in cc) in subst P same h.0
-      | inr t ↦ All-found P p xs x h.1 (rw t at e)
-    ]
+All-found P p (y ∷ xs) x h e = let here = h.0 in grind (arith, cases_Bool (p y), All-found P p xs x h.1, here, e)
 
 -- two tests that agree at each element of the list keep the same elements
 pub filter_agree_on : {X : Type 0} (p q : X → Bool) (xs : List X) → AllByRecursion (λ x. p x ≡ q x) xs → filter p xs ≡ filter q xs
 filter_agree_on p q [] h = refl
 filter_agree_on p q (x ∷ xs) h = rw h.0 (ap (λ r. cond (q x) (x ∷ r) r) (filter_agree_on p q xs h.1))
 
--- a test that passes each element keeps them all, and one that passes none keeps none
+-- a test that passes each element keeps them all
 pub filter_keeps_all : {X : Type 0} (p : X → Bool) (xs : List X) → AllByRecursion (λ x. p x ≡ true) xs → filter p xs ≡ xs
 filter_keeps_all p [] h = refl
 filter_keeps_all p (x ∷ xs) h = rw h.0 (ap (λ r. x ∷ r) (filter_keeps_all p xs h.1))
 
-pub filter_keeps_none : {X : Type 0} (p : X → Bool) (xs : List X) → AllByRecursion (λ x. p x ≡ false) xs → filter p xs ≡ []
-filter_keeps_none p [] h = refl
-filter_keeps_none p (x ∷ xs) h = rw h.0 (filter_keeps_none p xs h.1)
-
-filter_keep : {X : Type 0} (p : X → Bool) (x : X) (xs : List X) → p x ≡ true → filter p (x ∷ xs) ≡ x ∷ filter p xs
-filter_keep p x xs t = rw t
-
-filter_skip : {X : Type 0} (p : X → Bool) (x : X) (xs : List X) → p x ≡ false → filter p (x ∷ xs) ≡ filter p xs
-filter_skip p x xs t = rw t
-
 -- two filters in either order
 pub filter_comm : {X : Type 0} (p q : X → Bool) (xs : List X) → filter p (filter q xs) ≡ filter q (filter p xs)
 filter_comm p q [] = refl
-filter_comm p q (x ∷ xs) =
-    let ih = filter_comm p q xs in
-    elim (cases_Bool (p x)) [
-      | inl t ↦
-          elim (cases_Bool (q x)) [
-            | inl u ↦
-                ap (filter p) (filter_keep q x xs u) ∙ filter_keep p x (filter q xs) t ∙ ap (λ r. x ∷ r) ih ∙ sym (filter_keep q x (filter p xs) u) ∙ ap (filter q) (sym (filter_keep p x xs t))
-            | inr u ↦ ap (filter p) (filter_skip q x xs u) ∙ ih ∙ sym (filter_skip q x (filter p xs) u) ∙ ap (filter q) (sym (filter_keep p x xs t))
-          ]
-      | inr t ↦
-          elim (cases_Bool (q x)) [
-            | inl u ↦ ap (filter p) (filter_keep q x xs u) ∙ filter_skip p x (filter q xs) t ∙ ih ∙ ap (filter q) (sym (filter_skip p x xs t))
-            | inr u ↦ ap (filter p) (filter_skip q x xs u) ∙ ih ∙ ap (filter q) (sym (filter_skip p x xs t))
-          ]
-    ]
+filter_comm p q (x ∷ xs) = grind (arith, cases_Bool (p x), cases_Bool (q x), filter_comm p q xs)
 
 -- a filter by a test that implies another is a filter of what the other keeps
 pub filter_within : {X : Type 0} (p q : X → Bool) (xs : List X) → AllByRecursion (λ x. p x ≡ true → q x ≡ true) xs → filter p xs ≡ filter p (filter q xs)
 filter_within p q [] h = refl
-filter_within p q (x ∷ xs) h =
-    elim (cases_Bool (q x)) [
-      | inl u ↦ rw u (ap (λ r. cond (p x) (x ∷ r) r) (filter_within p q xs h.1))
-      | inr u ↦
-          elim (cases_Bool (p x)) [
-            | inl t ↦ absurd (false≢true (sym u ∙ h.0 t))
-            | inr t ↦ rw (u, t) (filter_within p q xs h.1)
-          ]
-    ]
+filter_within p q (x ∷ xs) h = let here = h.0 in grind (arith, cases_Bool (p x), cases_Bool (q x), filter_within p q xs h.1, here)
 
 -- a filter of a map
 pub filter-map : {X Y : Type 0} (f : X → Y) (p : Y → Bool) (q : X → Bool) (xs : List X) → AllByRecursion (λ x. p (f x) ≡ q x) xs → filter p (map f xs) ≡ map f (filter q xs)
 filter-map f p q [] h = refl
-filter-map f p q (x ∷ xs) h =
-    elim (cases_Bool (q x)) [
-      | inl u ↦ rw (h.0, u) (ap (λ r. f x ∷ r) (filter-map f p q xs h.1))
-      | inr u ↦ rw (h.0, u) (filter-map f p q xs h.1)
-    ]
+filter-map f p q (x ∷ xs) h = let here = h.0 in grind (arith, cases_Bool (q x), filter-map f p q xs h.1, here)
 
 -- what holds of each element holds of each that a filter keeps, and of the parts of a list
 pub ByRecursion-filter : {X : Type 0} (P : X → Type 0) (p : X → Bool) (xs : List X) → AllByRecursion P xs → AllByRecursion P (filter p xs)
 ByRecursion-filter P p [] h = h
-ByRecursion-filter P p (x ∷ xs) h =
-    elim (cases_Bool (p x)) [
-      | inl t ↦ rw t (h.0, ByRecursion-filter P p xs h.1)
-      | inr t ↦ rw t (ByRecursion-filter P p xs h.1)
-    ]
+ByRecursion-filter P p (x ∷ xs) h = let rest = ByRecursion-filter P p xs h.1 in elim (cases_Bool (p x)) [ inl t ↦ rw t (h.0, rest) | inr t ↦ rw t rest ]
 
 pub ByRecursion-passes : {X : Type 0} (p : X → Bool) (xs : List X) → AllByRecursion (λ x. p x ≡ true) (filter p xs)
 ByRecursion-passes p [] = tt
-ByRecursion-passes p (x ∷ xs) =
-    elim (cases_Bool (p x)) [
-      | inl t ↦ rw t (t, ByRecursion-passes p xs)
-      | inr t ↦ rw t (ByRecursion-passes p xs)
-    ]
+ByRecursion-passes p (x ∷ xs) = let rest = ByRecursion-passes p xs in elim (cases_Bool (p x)) [ inl t ↦ rw t (t, rest) | inr t ↦ rw t rest ]
 
 pub ByRecursion-parts : {X : Type 0} (P : X → Type 0) (xs ys : List X) → AllByRecursion P (xs ++ ys) → AllByRecursion P xs × AllByRecursion P ys
 ByRecursion-parts P [] ys h = (tt, h)
@@ -116,6 +59,10 @@ pub ByRecursion-all : {X : Type 0} (P : X → Type 0) (xs : List X) → ((x : X)
 ByRecursion-all P [] f = tt
 ByRecursion-all P (x ∷ xs) f = (f x, ByRecursion-all P xs f)
 
+pub ByRecursion-map : {X Y : Type 0} (f : X → Y) (P : Y → Type 0) (xs : List X) → AllByRecursion (λ x. P (f x)) xs → AllByRecursion P (map f xs)
+ByRecursion-map f P [] h = tt
+ByRecursion-map f P (x ∷ xs) h = (h.0, ByRecursion-map f P xs h.1)
+
 -- two facts of each element
 pub ByRecursion-both : {X : Type 0} (P Q : X → Type 0) (xs : List X) → AllByRecursion P xs → AllByRecursion Q xs → AllByRecursion (λ x. P x × Q x) xs
 ByRecursion-both P Q [] h k = tt
@@ -129,4 +76,4 @@ sum_by_agree_on f g (x ∷ xs) h = sum_by-cons f x xs ∙ rw (h.0, sum_by_agree_
 -- a length is a sum of ones
 pub length_as_sum : {X : Type 0} (xs : List X) → length xs ≡ sum_by (λ (_ : X). 1) xs
 length_as_sum [] = refl
-length_as_sum (x ∷ xs) = let ih = length_as_sum xs in let e = sum_by-cons (λ _. 1) x xs in omega arith
+length_as_sum (x ∷ xs) = omega (arith, length_as_sum xs, sum_by-cons (λ _. 1) x xs)

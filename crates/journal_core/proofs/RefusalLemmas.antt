@@ -12,14 +12,16 @@ pub record IsNext (moment last : ℕ) : Type 0 where
   pub later : last ≤ moment
   pub soon : moment < 2 ^ 60
 
+-- a test that doesn't refuse was not met
+unmet : {X : Type 0} (test : Bool) (x : X) (o : Option X) → cond test (Some x) o ≡ None → (test ≡ false) × (o ≡ None)
+unmet true x o e = absurd cc
+unmet false x o e = (refl, e)
+
 -- a moment that isn't refused is one
 moment_fits : (moment last : ℕ) → moment_fault_of moment last ≡ None → IsNext moment last
-moment_fits moment last fits = go (leb (2 ^ 60) moment) (ltb moment last) refl refl fits
-  where
-    go : (large low : Bool) → leb (2 ^ 60) moment ≡ large → ltb moment last ≡ low → cond large (Some TooLarge) (cond low (Some (Backwards last)) None) ≡ None → IsNext moment last
-    go true low d e fits = absurd cc
-    go false true d e fits = absurd cc
-    go false false d e fits = record { later = ltb-false moment last e; soon = leb-false (2 ^ 60) moment d }
+moment_fits moment last fits =
+    let few = unmet (leb (2 ^ 60) moment) TooLarge (cond (ltb moment last) (Some (Backwards last)) None) fits in
+    record { later = ltb-false moment last (unmet (ltb moment last) (Backwards last) None few.1).0; soon = leb-false (2 ^ 60) moment few.0 }
 
 -- no refusal means that no test refuses
 first_none : {X : Type 0} (a b : Option X) → first_of_two a b ≡ None → (a ≡ None) × (b ≡ None)
@@ -29,20 +31,6 @@ first_none (Some x) b e = absurd cc
 map_none : {X Y : Type 0} (f : X → Y) (o : Option X) → option_map f o ≡ None → o ≡ None
 map_none f None e = refl
 map_none f (Some x) e = absurd cc
-
-still_open : {Q : Type 0} (s : State Q) → closed_refusal_of s ≡ None → s.closed ≡ false
-still_open s e = go s.closed refl e
-  where
-    go : (b : Bool) → s.closed ≡ b → cond b (Some ClosedAlready) None ≡ None → s.closed ≡ false
-    go true is e = absurd cc
-    go false is e = is
-
-ids_left : {Q : Type 0} (s : State Q) → id_refusal_of s ≡ None → s.next_id < 2 ^ 40
-ids_left s e = go (leb (2 ^ 40) s.next_id) refl e
-  where
-    go : (b : Bool) → leb (2 ^ 40) s.next_id ≡ b → cond b (Some Exhausted) None ≡ None → s.next_id < 2 ^ 40
-    go true is e = absurd cc
-    go false is e = leb-false (2 ^ 40) s.next_id is
 
 -- what is known of the state where a step isn't refused
 pub record Open {Q : Type 0} (s : State Q) (moment : ℕ) : Type 0 where
@@ -56,9 +44,9 @@ pub enqueue_open : {Q : Type 0} (s : State Q) (moment lane : ℕ) (packet : Pack
 enqueue_open s moment lane packet fits =
     let tests = first_none (option_map Moment (moment_fault_of moment s.last)) (first_of_two (closed_refusal_of s) (id_refusal_of s)) fits in
     let others = first_none (closed_refusal_of s) (id_refusal_of s) tests.1 in
-    (record { next = moment_fits moment s.last (map_none Moment (moment_fault_of moment s.last) tests.0); open' = still_open s others.0 }, ids_left s others.1)
+    (record { next = moment_fits moment s.last (map_none Moment (moment_fault_of moment s.last) tests.0); open' = (unmet s.closed ClosedAlready None others.0).0 }, leb-false (2 ^ 40) s.next_id (unmet (leb (2 ^ 40) s.next_id) Exhausted None others.1).0)
 
 pub close_open : {Q : Type 0} (s : State Q) (moment : ℕ) → refusal_of s (Close moment) ≡ None → Open s moment
 close_open s moment fits =
     let tests = first_none (option_map Moment (moment_fault_of moment s.last)) (closed_refusal_of s) fits in
-    record { next = moment_fits moment s.last (map_none Moment (moment_fault_of moment s.last) tests.0); open' = still_open s tests.1 }
+    record { next = moment_fits moment s.last (map_none Moment (moment_fault_of moment s.last) tests.0); open' = (unmet s.closed ClosedAlready None tests.1).0 }

@@ -1,43 +1,57 @@
--- How one event carries a tally on.
-use Rattle.std.proofs.Common.{◌≡◌, ◌≢◌, ℕ, zero, suc, ◌+◌, ◌<◌, ◌≤◌, Bool, true, false, cond, All, List, [], ◌∷◌, ◌++◌, length, map, get_or, set, Option, Some, None, slice_get, refl, sym, ap, subst, ◌∙◌, arith}
-use Rattle.std.specs.List.{AllByRecursion, filter_map, range_with_len}
-use Rattle.std.proofs.lemmas.Bool.{eq-eqb, ne_eqb, or_parts}
-use Rattle.std.proofs.lemmas.List.{map-append, length-map}
-use Rattle.std.proofs.lemmas.List.Elements.{All-from_recursion, All-push, All-set}
-use Rattle.std.proofs.lemmas.List.Sums.{count_by-le-length}
+-- How an acceptance and an event carry a tally on, and what its rows are where all events are counted.
+use Rattle.std.proofs.Common.{◌≡◌, ℕ, zero, suc, ◌+◌, ◌-◌, ◌<◌, ◌≤◌, Bool, true, false, cond, ◌||◌, All, List, [], ◌∷◌, ◌++◌, eqb, length, map, get_or, set, Option, Some, None, slice_get, refl, sym, ap, subst, ◌∙◌, inl, inr, arith}
+use Rattle.std.specs.Prelude.{count_by, sum_by}
+use Rattle.std.specs.Cmp.{IsEquivalence}
+use Rattle.std.proofs.lemmas.Bool.Decides.{Decides-like, nat_tests, same_from_decides}
+use Rattle.std.specs.List.{AllByRecursion, AllZip, Contains, IsDistinct, cons_option, filter_map, list_any, range_with_len}
+use Rattle.std.proofs.lemmas.Bool.{cases_eq}
+use Rattle.std.proofs.lemmas.List.{same_lists, length-set, length-map, length_push, get_or-map, get_or-set_same, get_or-set_other, map-append, append-nil, take_all}
+use Rattle.std.proofs.lemmas.List.Elements.{All-contains, All-from_recursion, All-map, All-weaker, filter_map-append, recursion_from_All}
+use Rattle.std.proofs.lemmas.List.FromFn.{length-range_with_len, get_or-range_with_len}
+use Rattle.std.proofs.lemmas.List.Sums.{count_by-le-length, fold-append, sum_by-append}
+use Rattle.std.proofs.lemmas.Map.Keys.{IsDistinct-push, apart_from_distinct}
+use Rattle.std.proofs.lemmas.Option.{get_or_from_slice_get, slice_get_within}
 use Rattle.packet_core.specs.Packets.{PacketParts, same_tuple}
-use Rattle.packet_core.specs.declared.packet.Ecn.{Ecn}
 use Rattle.packet_core.specs.declared.packet.FiveTuple.{FiveTuple}
-use Rattle.codel_core.specs.declared.served.Mark.{Mark}
-use Rattle.journal_core.specs.declared.event.Cause.{Cause}
 use Rattle.journal_core.specs.declared.event.Event.{Event}
-use Rattle.journal_core.specs.declared.event.Event.TheVariants.{Accepted, Sent, Dropped}
+use Rattle.journal_core.specs.declared.event.Event.TheVariants.{Accepted, Sent, Dropped, Closed}
 use Rattle.journal_core.specs.declared.tuple_rows.TupleRow.{TupleRow}
-use Rattle.journal_core.specs.Happened.{Acceptance, acceptance_of, fate_of, acceptances, accepted_ids, fate_ids, named, is_among}
+use Rattle.journal_core.specs.Happened.{Acceptance, acceptance_of, fate_of, packet_id_of, acceptances, accepted_ids, fate_ids, named, passes, without_fate}
+use Rattle.journal_core.specs.JournalLaws.{AreDistinct, FatesFollow, IdsInOrder}
 use Rattle.journal_core.specs.Statistics.{sent_of, dropped_of}
-use Rattle.journal_core.specs.Tallies.{AreTallied, IsBalanced, tuple_of, has_tuple, with_tuple, with_row, empty_row, one_accepted, one_sent, one_dropped}
-use Rattle.journal_core.specs.TupleRows.{first_of_each, of_one_tuple, row_of, tuple_rows}
-use Rattle.journal_core.proofs.EventLemmas.{filter_map_same, filter_map_push}
-use Rattle.journal_core.proofs.FirstOfEach.{firsts_have, firsts_push, firsts_apart, element_at, change_at, turned}
-use Rattle.journal_core.proofs.IdLemmas.{Rises, Rises-range, id_of}
+use Rattle.journal_core.specs.Tallies.{AreTallied, IsBalanced, counted, row_so_far, settled, tuple_of, with_row}
+use Rattle.journal_core.specs.TupleRows.{first_of_each, of_one_tuple, row_of, tuple_rows, with_new}
+use Rattle.journal_core.proofs.EventLemmas.{sum_more}
+use Rattle.journal_core.proofs.FatelessPackets.{count_fated, sum_fates, sum_left}
+use Rattle.journal_core.proofs.IdLemmas.{Rises-range, id_of, ids_below, named_at, named_itself, named_within, passes_at}
 use Rattle.journal_core.proofs.LawsOfHistory.{same_tuple-Decides}
-use Rattle.journal_core.proofs.FlowShares.{AreFound}
-use Rattle.journal_core.proofs.TupleCounts.{row_by, row_accepts, row_sends, row_drops, row_waits, row_none}
+
+same_tuple-IsEquivalence : IsEquivalence same_tuple
+same_tuple-IsEquivalence = record {
+  refl = λ t. (same_tuple-Decides t t).1 refl;
+  symm = λ t u. same_from_decides (same_tuple t u) (same_tuple u t) (Decides-like (same_tuple t u) sym sym (same_tuple-Decides t u)) (same_tuple-Decides u t);
+  congr = λ t u v e. ap (λ x. same_tuple x v) ((same_tuple-Decides t u).0 e);
+}
 
 -- the first acceptance of each five-tuple
 abbrev firsts_of : List Acceptance → List Acceptance
 firsts_of accepted = first_of_each of_one_tuple accepted
 
--- the five-tuple, as a place finds it
-abbrev some_tuple : Acceptance → Option FiveTuple
-some_tuple a = Some (tuple_of a)
+-- Whatever f tells of the first ones: with one acceptance more it tells of that one last, where its five-tuple is new.
+firsts_push : {R : Type 0} (f : Acceptance → R) (accepted : List Acceptance) (a : Acceptance) → map f (firsts_of (accepted ++ a ∷ []))
+    ≡ cond (list_any (same_tuple (tuple_of a)) (map tuple_of (firsts_of accepted))) (map f (firsts_of accepted)) (map f (firsts_of accepted) ++ f a ∷ [])
+firsts_push f accepted a =
+    let firsts = firsts_of accepted in
+    ap (map f) (fold-append (with_new of_one_tuple) [] accepted (a ∷ [])) ∙ by (list_any (of_one_tuple a) firsts)
+    ∙ ap (λ b. cond b (map f firsts) (map f firsts ++ f a ∷ [])) (has_tuple firsts)
+  where
+    by : (b : Bool) → map f (cond b (firsts_of accepted) (firsts_of accepted ++ a ∷ [])) ≡ cond b (map f (firsts_of accepted)) (map f (firsts_of accepted) ++ f a ∷ [])
+    by true = refl
+    by false = map-append f (firsts_of accepted) (a ∷ [])
 
--- a five-tuple that none of the acceptances has
-none_has : (t : FiveTuple) (accepted : List Acceptance) → has_tuple (map tuple_of accepted) t ≡ false → AllByRecursion (λ a. same_tuple (tuple_of a) t ≡ false) accepted
-none_has t [] e = tt
-none_has t (a ∷ accepted) e =
-    let parts = or_parts (same_tuple t (tuple_of a)) (has_tuple (map tuple_of accepted) t) e in
-    (turned same_tuple same_tuple-Decides tuple_of (tuple_of a) t ∙ parts.0, none_has t accepted parts.1)
+    has_tuple : (firsts : List Acceptance) → list_any (of_one_tuple a) firsts ≡ list_any (same_tuple (tuple_of a)) (map tuple_of firsts)
+    has_tuple [] = refl
+    has_tuple (b ∷ firsts) = ap (λ r. of_one_tuple a b || r) (has_tuple firsts)
 
 -- what stands at a place still does behind more elements
 slice_get-append : {X : Type 0} (xs ys : List X) (place : ℕ) (x : X) → slice_get xs place ≡ Some x → slice_get (xs ++ ys) place ≡ Some x
@@ -45,264 +59,265 @@ slice_get-append [] ys place x e = absurd cc
 slice_get-append (y ∷ xs) ys zero x e = e
 slice_get-append (y ∷ xs) ys (suc place) x e = slice_get-append xs ys place x e
 
--- places of five-tuples stay theirs when one more goes last
-places_stay : (tuples more : List FiveTuple) (places : List ℕ) (accepted : List Acceptance) → map (slice_get tuples) places ≡ map some_tuple accepted → map (slice_get (tuples ++ more)) places ≡ map some_tuple accepted
-places_stay tuples more [] [] e = refl
-places_stay tuples more [] (a ∷ accepted) e = absurd cc
-places_stay tuples more (p ∷ places) [] e = absurd cc
-places_stay tuples more (p ∷ places) (a ∷ accepted) e =
-    let here : slice_get tuples p ≡ Some (tuple_of a) = cc in
-    let rest : map (slice_get tuples) places ≡ map some_tuple accepted = cc in
-    let there = slice_get-append tuples more p (tuple_of a) here in
-    let ih = places_stay tuples more places accepted rest in
-    λ k. there k ∷ ih k
+-- The place of each packet's five-tuple
+abbrev ArePlaced : List FiveTuple → List ℕ → List Acceptance → Type 0
+ArePlaced tuples places accepted = AllZip (λ place a. slice_get tuples place ≡ Some (tuple_of a)) places accepted
 
--- the place of the packet with an id
-place_found : (tuples : List FiveTuple) (k n j : ℕ) (places : List ℕ) (accepted : List Acceptance) (a : Acceptance) → map id_of accepted ≡ range_with_len k n → map (slice_get tuples) places ≡ map some_tuple accepted → named accepted (k + j) ≡ Some a
-    → (j < length places) × ((d : ℕ) → slice_get tuples (get_or places j d) ≡ Some (tuple_of a))
-place_found tuples k n j places [] a ids e found = absurd cc
-place_found tuples k n j [] (b ∷ accepted) a ids e found = absurd cc
-place_found tuples k zero j (p ∷ places) (b ∷ accepted) a ids e found = absurd cc
-place_found tuples k (suc n) zero (p ∷ places) (b ∷ accepted) a ids e found =
-    let head : b.id ≡ k = cc in
-    let at : b.id ≡ k + 0 = omega arith in
-    let is_b : Some b ≡ Some a = rw (eq-eqb b.id (k + 0) at) at found in
-    let here : slice_get tuples p ≡ Some (tuple_of b) = cc in
-    let same : b ≡ a = cc in
-    (omega arith, λ d. here ∙ ap some_tuple same)
-place_found tuples k (suc n) (suc j) (p ∷ places) (b ∷ accepted) a ids e found =
-    let head : b.id ≡ k = cc in
-    let tail : map id_of accepted ≡ range_with_len (k + 1) n = cc in
-    let rest : map (slice_get tuples) places ≡ map some_tuple accepted = cc in
-    let next : k + suc j ≡ (k + 1) + j = omega arith in
-    let behind : named accepted (k + suc j) ≡ Some a = rw (ne_eqb b.id (k + suc j) (λ s. omega arith)) at found in
-    let ih = place_found tuples (k + 1) n j places accepted a tail rest (subst (λ i. named accepted i ≡ Some a) next behind) in
-    let within = ih.0 in
-    (omega arith, ih.1)
+-- is its own with one packet more, whose five-tuple may be new.
+placed_push : (tuples more : List FiveTuple) (places : List ℕ) (accepted : List Acceptance) (place : ℕ) (a : Acceptance) → slice_get (tuples ++ more) place ≡ Some (tuple_of a)
+    → ArePlaced tuples places accepted → ArePlaced (tuples ++ more) (places ++ place ∷ []) (accepted ++ a ∷ [])
+placed_push tuples more [] [] place a at h = (at, tt)
+placed_push tuples more [] (b ∷ accepted) place a at h = absurd h
+placed_push tuples more (p ∷ places) [] place a at h = absurd h
+placed_push tuples more (p ∷ places) (b ∷ accepted) place a at h = (slice_get-append tuples more p (tuple_of b) h.0, placed_push tuples more places accepted place a at h.1)
 
--- a row counts no more packets than were accepted
-abbrev IsSmall : List Event → TupleRow → Type 0
-IsSmall events row = row.accepted ≤ length (acceptances events)
-
-row_small : (events : List Event) (firsts : List Acceptance) (rows : List TupleRow) (place : ℕ) (row : TupleRow) → rows ≡ map (row_of events) firsts → place < length rows → row ≡ get_or rows place row → row.accepted ≤ length (acceptances events)
-row_small events firsts rows place row are within is = subst (IsSmall events) (sym is) (subst (All (IsSmall events)) (sym are) (All-from_recursion (IsSmall events) (map (row_of events) firsts) (each firsts)) place row within)
+-- One packet more is accepted.
+pub tallied_adds : (tuples : List FiveTuple) (rows : List TupleRow) (places : List ℕ) (accepted : List Acceptance) (a : Acceptance) (place : ℕ) → slice_get (with_new same_tuple tuples (tuple_of a)) place ≡ Some (tuple_of a)
+    → AreTallied tuples rows places accepted [] → AreTallied (with_new same_tuple tuples (tuple_of a)) (with_row tuples rows (tuple_of a) a.flow) (places ++ place ∷ []) (accepted ++ a ∷ []) []
+tallied_adds tuples rows places accepted a place at h = record {
+  tuples_are = ap (λ ts. with_new same_tuple ts (tuple_of a)) h.tuples_are ∙ sym (firsts_push tuple_of accepted a);
+  apart = apart (list_any (same_tuple (tuple_of a)) tuples) refl;
+  rows_are = (λ k. with_row (h.tuples_are k) (h.rows_are k) (tuple_of a) a.flow) ∙ sym (firsts_push (row_so_far accepted []) accepted a);
+  places_are = placed (list_any (same_tuple (tuple_of a)) tuples) at;
+}
   where
-    each : (some : List Acceptance) → AllByRecursion (IsSmall events) (map (row_of events) some)
-    each [] = tt
-    each (first ∷ some) = (count_by-le-length (λ b. of_one_tuple b first) (acceptances events), each some)
+    apart : (known : Bool) → list_any (same_tuple (tuple_of a)) tuples ≡ known → IsDistinct same_tuple (cond known tuples (tuples ++ tuple_of a ∷ []))
+    apart true e = h.apart
+    apart false e = IsDistinct-push same_tuple-IsEquivalence tuples (tuple_of a) h.apart e
 
--- as many packets have a place
-places_all : (tuples : List FiveTuple) (places : List ℕ) (accepted : List Acceptance) → map (slice_get tuples) places ≡ map some_tuple accepted → length accepted ≡ length places
-places_all tuples places accepted e = sym (length-map accepted some_tuple) ∙ ap length (sym e) ∙ length-map places (slice_get tuples)
+    placed : (known : Bool) → slice_get (cond known tuples (tuples ++ tuple_of a ∷ [])) place ≡ Some (tuple_of a) → ArePlaced (cond known tuples (tuples ++ tuple_of a ∷ [])) (places ++ place ∷ []) (accepted ++ a ∷ [])
+    placed true at = subst (λ ts. ArePlaced ts (places ++ place ∷ []) (accepted ++ a ∷ [])) (append-nil tuples) (placed_push tuples [] places accepted place a (slice_get-append tuples [] place (tuple_of a) at) h.places_are)
+    placed false at = placed_push tuples (tuple_of a ∷ []) places accepted place a at h.places_are
 
--- no event is counted
-pub tallied_none : AreTallied [] [] [] []
-tallied_none = record { tuples_are = refl; rows_are = refl; places_are = refl; balance = λ k d below. absurd (omega arith) }
+-- an event that is no acceptance
+pub nothing_accepted : (e : Event) → ((id moment lane flow : ℕ) (packet : PacketParts) → e ≡ Accepted id moment lane flow packet → ⊥) → acceptance_of e ≡ None
+nothing_accepted (Accepted id moment lane flow packet) other = absurd (other id moment lane flow packet refl)
+nothing_accepted (Sent id moment ecn mark) other = refl
+nothing_accepted (Dropped id moment cause) other = refl
+nothing_accepted (Closed moment) other = refl
 
--- an event that accepts nothing and is no fate
-pub tallied_same : (tuples : List FiveTuple) (rows : List TupleRow) (places : List ℕ) (events : List Event) (e : Event) → acceptance_of e ≡ None → sent_of e ≡ None → dropped_of e ≡ None → fate_of e ≡ None
-    → AreTallied tuples rows places events → AreTallied tuples rows places (events ++ e ∷ [])
-tallied_same tuples rows places events e no_acceptance not_sent not_dropped no_fate h =
-    let accepted = filter_map_same acceptance_of events e no_acceptance in
-    let sent = filter_map_same sent_of events e not_sent in
-    let dropped = filter_map_same dropped_of events e not_dropped in
-    let fated = filter_map_same fate_of events e no_fate in
-    record {
-      tuples_are = h.tuples_are ∙ ap (λ (bs : List Acceptance). map tuple_of (firsts_of bs)) (sym accepted);
-      rows_are = h.rows_are ∙ (λ k. map (row_by (sym accepted k) (sym sent k) (sym dropped k) (sym fated k)) (firsts_of (sym accepted k)));
-      places_are = h.places_are ∙ ap (map some_tuple) (sym accepted);
-      balance = h.balance;
-    }
+-- of distinct keys, the one at the place alone is the key that stands there
+alone : {K : Type 0} (eq : K → K → Bool) (laws : IsEquivalence eq) (ks : List K) (i place : ℕ) (k : K) → IsDistinct eq ks → slice_get ks place ≡ Some k → i < length ks → eq k (get_or ks i k) ≡ eqb i place
+alone eq laws ks i place k apart at low =
+    grind (arith, nat_tests, slice_get_within ks place k at, get_or_from_slice_get ks place k k at, laws.refl k, laws.symm k (get_or ks i k), apart_from_distinct eq ks i place k apart, apart_from_distinct eq ks place i k apart)
 
--- A fate: it changes the row of one five-tuple, at its place.
-tallied_fate : (tuples : List FiveTuple) (rows : List TupleRow) (places : List ℕ) (events : List Event) (e : Event) (change : TupleRow → TupleRow) (t : FiveTuple) (place : ℕ) (row : TupleRow) → acceptance_of e ≡ None
-    → slice_get tuples place ≡ Some t → row ≡ get_or rows place row → ((first : Acceptance) → row_of (events ++ e ∷ []) first ≡ cond (same_tuple t (tuple_of first)) (change (row_of events first)) (row_of events first)) → (IsBalanced row → IsBalanced (change row))
-    → AreTallied tuples rows places events → AreTallied tuples (set rows place (change row)) places (events ++ e ∷ [])
-tallied_fate tuples rows places events e change t place row no_acceptance at row_is changes keeps h =
-    let accepted = filter_map_same acceptance_of events e no_acceptance in
-    let firsts = firsts_of (acceptances events) in
-    let there : slice_get (map tuple_of firsts) place ≡ Some t = ap (λ (ts : List FiveTuple). slice_get ts place) (sym h.tuples_are) ∙ at in
-    let found = element_at same_tuple same_tuple-Decides tuple_of (row_of events) firsts place t there in
-    let within : place < length rows = subst (λ (rs : List TupleRow). place < length rs) (sym h.rows_are) found.2 in
-    let one = change_at same_tuple same_tuple-Decides tuple_of (row_of events) (row_of (events ++ e ∷ [])) change t firsts place row (firsts_apart same_tuple same_tuple-Decides tuple_of (acceptances events)) there changes in
-    record {
-      tuples_are = h.tuples_are ∙ ap (λ (bs : List Acceptance). map tuple_of (firsts_of bs)) (sym accepted);
-      rows_are =
-          ap (λ (r : TupleRow). set rows place (change r)) row_is ∙ ap (λ (rs : List TupleRow). set rs place (change (get_or rs place row))) h.rows_are ∙ one ∙ ap (λ (bs : List Acceptance). map (row_of (events ++ e ∷ [])) (firsts_of bs)) (sym accepted);
-      places_are = h.places_are ∙ ap (map some_tuple) (sym accepted);
-      balance = All-set IsBalanced rows place (change row) (keeps (subst IsBalanced (sym row_is) (h.balance place row within))) h.balance;
-    }
+-- A change at the place of a packet's five-tuple changes what is told of that five-tuple, and of no other.
+module _ (f g : Acceptance → TupleRow) (change : TupleRow → TupleRow) (firsts : List Acceptance) (who : Acceptance) (place : ℕ) (row : TupleRow) (apart : IsDistinct same_tuple (map tuple_of firsts))
+    (stands : slice_get (map tuple_of firsts) place ≡ Some (tuple_of who)) (is : row ≡ get_or (map f firsts) place row) (each : (first : Acceptance) → g first ≡ cond (of_one_tuple who first) (change (f first)) (f first)) where
+  change_here : (i : ℕ) (d : TupleRow) → i < length firsts → get_or (set (map f firsts) place (change row)) i d ≡ get_or (map g firsts) i d
+  change_here i d low =
+      let one = alone same_tuple same_tuple-IsEquivalence (map tuple_of firsts) i place (tuple_of who) apart stands (omega (arith, length-map firsts tuple_of)) in
+      by (of_one_tuple who (get_or firsts i who)) (rw (get_or-map tuple_of firsts i who (tuple_of who) low) at one) (each (get_or firsts i who))
+    where
+      by : (own : Bool) → own ≡ eqb i place → g (get_or firsts i who) ≡ cond own (change (f (get_or firsts i who))) (f (get_or firsts i who)) → get_or (set (map f firsts) place (change row)) i d ≡ get_or (map g firsts) i d
+      by own one here =
+          elim (cases_eq i place) [
+            | inl same ↦ grind (arith, nat_tests, get_or-map g firsts i who d low, here, one, same, get_or-set_same (map f firsts) place (change row) d, length-map firsts f, get_or-map f firsts i who row low, is)
+            | inr other ↦ grind (arith, nat_tests, get_or-map g firsts i who d low, here, one, get_or-set_other (map f firsts) place i (change row) d other, get_or-map f firsts i who d low)
+          ]
 
--- What is known of a packet that gets its fate: it was accepted, and it has none yet.
-pub record HasNoFate (events : List Event) (id : ℕ) : Type 0 where
+  change_at : set (map f firsts) place (change row) ≡ map g firsts
+  change_at =
+      let len = length-set (map f firsts) place (change row) ∙ length-map firsts f in
+      same_lists (set (map f firsts) place (change row)) (map g firsts) (len ∙ sym (length-map firsts g)) (λ i d low. change_here i d (omega arith))
+
+one_more : (own : Bool) (n m : ℕ) → m ≡ n + (0 + cond own 1 0) → m ≡ cond own (n + 1) n
+one_more true n m e = omega arith
+one_more false n m e = omega arith
+
+none_more : (own : Bool) (n m : ℕ) → m ≡ n + 0 → m ≡ cond own n n
+none_more true n m e = omega arith
+none_more false n m e = omega arith
+
+-- An event changes the row of its packet's five-tuple.
+module _ (accepted : List Acceptance) (seen : List Event) (first : Acceptance) where
+  abbrev row_with : ℕ → ℕ → ℕ → TupleRow
+  row_with a s d = record { tuple = tuple_of first; flow = first.flow; accepted = a; sent = s; dropped = d; queued = 0 }
+
+  grown : (own : Bool) (a s d x y z a' s' d' : ℕ) → a' ≡ cond own x a → s' ≡ cond own y s → d' ≡ cond own z d → row_with a' s' d' ≡ cond own (row_with x y z) (row_with a s d)
+  grown true a s d x y z a' s' d' of_a of_s of_d = λ k. row_with (of_a k) (of_s k) (of_d k)
+  grown false a s d x y z a' s' d' of_a of_s of_d = λ k. row_with (of_a k) (of_s k) (of_d k)
+
+  abbrev own : Acceptance → Bool
+  own a = of_one_tuple a first
+
+  abbrev named_own : ℕ → Bool
+  named_own id = passes own accepted id
+
+  -- the event's own
+  own_more : (who : Acceptance) (id : ℕ) (h : Event → Option ℕ) (e : Event) → named accepted id ≡ Some who → filter_map h (e ∷ []) ≡ id ∷ [] → count_by named_own (filter_map h (seen ++ e ∷ [])) ≡ cond (own who) (count_by named_own (filter_map h seen) + 1) (count_by named_own (filter_map h seen))
+  own_more who id h e found is =
+      one_more (own who) (count_by named_own (filter_map h seen)) (count_by named_own (filter_map h (seen ++ e ∷ [])))
+      (sum_more (λ x. cond (named_own x) 1 0) h seen e ∙ ap (λ ids. count_by named_own (filter_map h seen) + count_by named_own ids) is ∙ ap (λ b. count_by named_own (filter_map h seen) + (0 + cond b 1 0)) (passes_at own accepted id who found))
+
+  row_counts : (e : Event) (id : ℕ) (who : Acceptance) → packet_id_of e ≡ Some id → named accepted id ≡ Some who → ((a : Acceptance) → acceptance_of e ≡ Some a → a ≡ who)
+      → row_so_far accepted (seen ++ e ∷ []) first ≡ cond (own who) (counted e (row_so_far accepted seen first)) (row_so_far accepted seen first)
+  row_counts (Accepted n moment lane flow packet) id who of_id found same =
+      let e : Event = Accepted n moment lane flow packet in
+      let one = sum_more (λ x. cond (own x) 1 0) acceptance_of seen e ∙ ap (λ (b : Acceptance). count_by own (acceptances seen) + (0 + cond (own b) 1 0)) (same (record { id = n; moment = moment; lane = lane; flow = flow; packet = packet }) refl) in
+      grown (own who) _ _ _ _ _ _ _ _ _ (one_more (own who) _ _ one) (none_more (own who) _ _ (sum_more (λ x. cond (named_own x) 1 0) sent_of seen e)) (none_more (own who) _ _ (sum_more (λ x. cond (named_own x) 1 0) dropped_of seen e))
+  row_counts (Sent n moment ecn mark) id who of_id found same =
+      let e : Event = Sent n moment ecn mark in
+      grown (own who) _ _ _ _ _ _ _ _ _ (none_more (own who) _ _ (sum_more (λ x. cond (own x) 1 0) acceptance_of seen e)) (own_more who id sent_of e found (let is : n ≡ id = cc in ap (λ m. m ∷ []) is)) (none_more (own who) _ _ (sum_more (λ x. cond (named_own x) 1 0) dropped_of seen e))
+  row_counts (Dropped n moment cause) id who of_id found same =
+      let e : Event = Dropped n moment cause in
+      grown (own who) _ _ _ _ _ _ _ _ _ (none_more (own who) _ _ (sum_more (λ x. cond (own x) 1 0) acceptance_of seen e)) (none_more (own who) _ _ (sum_more (λ x. cond (named_own x) 1 0) sent_of seen e)) (own_more who id dropped_of e found (let is : n ≡ id = cc in ap (λ m. m ∷ []) is))
+  row_counts (Closed moment) id who of_id found same = absurd cc
+
+  -- one that is of no packet changes none
+  row_stays : (e : Event) → packet_id_of e ≡ None → row_so_far accepted (seen ++ e ∷ []) first ≡ row_so_far accepted seen first
+  row_stays (Accepted n moment lane flow packet) none = absurd cc
+  row_stays (Sent n moment ecn mark) none = absurd cc
+  row_stays (Dropped n moment cause) none = absurd cc
+  row_stays (Closed moment) none =
+      let e : Event = Closed moment in
+      grown false _ _ _ 0 0 0 _ _ _ (none_more false _ _ (sum_more (λ x. cond (own x) 1 0) acceptance_of seen e)) (none_more false _ _ (sum_more (λ x. cond (named_own x) 1 0) sent_of seen e)) (none_more false _ _ (sum_more (λ x. cond (named_own x) 1 0) dropped_of seen e))
+
+  -- no count is above the number of events
+  row_few : ((row_so_far accepted seen first).accepted ≤ length seen) × ((row_so_far accepted seen first).sent ≤ length seen) × ((row_so_far accepted seen first).dropped ≤ length seen)
+  row_few = (few acceptance_of own, few sent_of named_own, few dropped_of named_own)
+    where
+      shorter : {X : Type 0} (h : Event → Option X) (events : List Event) → length (filter_map h events) ≤ length events
+      shorter h [] = omega arith
+      shorter h (e ∷ events) = by (h e) (shorter h events)
+        where
+          by : (o : Option _) → length (filter_map h events) ≤ length events → length (cons_option o (filter_map h events)) ≤ length (e ∷ events)
+          by None l = omega arith
+          by (Some x) l = omega arith
+
+      few : {X : Type 0} (h : Event → Option X) (p : X → Bool) → count_by p (filter_map h seen) ≤ length seen
+      few h p = omega (arith, count_by-le-length p (filter_map h seen), shorter h seen)
+
+-- What the laws of a journal say of an event's packet: it is among those accepted, at its id.
+pub record IsOfPacket (accepted : List Acceptance) (e : Event) (id : ℕ) : Type 0 where
   pub who : Acceptance
-  pub found : named (acceptances events) id ≡ Some who
-  pub new : is_among (fate_ids events) id ≡ false
-  pub ids : accepted_ids events ≡ range_with_len 0 (length (acceptances events))
+  pub below : id < length accepted
+  pub found : named accepted id ≡ Some who
+  pub same : (a : Acceptance) → acceptance_of e ≡ Some a → a ≡ who
 
-module _ (tuples : List FiveTuple) (rows : List TupleRow) (places : List ℕ) (events : List Event) (id : ℕ) (h : AreTallied tuples rows places events) (fate : HasNoFate events id) where
-  rises : Rises 0 (acceptances events)
-  rises = Rises-range 0 (length (acceptances events)) (acceptances events) fate.ids
+-- what holds of all that the events tell holds of what one tells
+told_at : {X : Type 0} (h : Event → Option X) (P : X → Type 0) (events : List Event) (place : ℕ) (d : Event) (x : X) → place < length events → h (get_or events place d) ≡ Some x → AllByRecursion P (filter_map h events) → P x
+told_at h P [] place d x low is all = absurd (omega arith)
+told_at h P (e ∷ events) zero d x low is all = (rw is at all).0
+told_at h P (e ∷ events) (suc place) d x low is all = told_at h P events place d x (omega arith) is (rest (h e) all)
+  where
+    rest : (o : Option _) → AllByRecursion P (cons_option o (filter_map h events)) → AllByRecursion P (filter_map h events)
+    rest None all = all
+    rest (Some y) all = all.1
 
-  -- its place is known
-  pub fate_placed : (id < length places) × ((d : ℕ) → slice_get tuples (get_or places id d) ≡ Some (tuple_of fate.who))
-  fate_placed = place_found tuples 0 (length (acceptances events)) id places (acceptances events) fate.who fate.ids h.places_are (subst (λ i. named (acceptances events) i ≡ Some fate.who) zero_more fate.found)
-    where
-      zero_more : id ≡ 0 + id
-      zero_more = omega arith
+module _ (events : List Event) (ids : IdsInOrder events) (follow : FatesFollow events) where
+  -- each fate is of an id that was accepted
+  pub fates_below : AllByRecursion (λ id. id < length (acceptances events)) (fate_ids events)
+  fates_below =
+      let n = length (acceptances events) in
+      let all : All (Contains (accepted_ids events)) (fate_ids events) = subst (λ es. All (Contains (accepted_ids es)) (fate_ids es)) (take_all (length events) events (omega arith)) (follow (length events)) in
+      let below : All (λ id. id < n) (accepted_ids events) = All-map (λ id. id < n) id_of (acceptances events) (All-from_recursion (λ a. a.id < n) (acceptances events) (ids_below n (acceptances events) ids)) in
+      recursion_from_All (λ id. id < n) (fate_ids events) (All-weaker (Contains (accepted_ids events)) (λ id. id < n) (λ id has. All-contains (λ i. i < n) (accepted_ids events) id below has) (fate_ids events) all)
 
-  -- and is that of its row
-  module _ (place : ℕ) (is_place : place ≡ get_or places id place) where
-    at_place : slice_get tuples place ≡ Some (tuple_of fate.who)
-    at_place = subst (λ p. slice_get tuples p ≡ Some (tuple_of fate.who)) (sym is_place) (fate_placed.1 place)
+  of_fate : (e : Event) (id : ℕ) → acceptance_of e ≡ None → id < length (acceptances events) → IsOfPacket (acceptances events) e id
+  of_fate e id none below =
+      let found = named_within (length (acceptances events)) (acceptances events) id ids below in
+      record { who = found.0; below = below; found = found.1; same = λ a is. absurd cc }
 
-    there : slice_get (map tuple_of (firsts_of (acceptances events))) place ≡ Some (tuple_of fate.who)
-    there = ap (λ (ts : List FiveTuple). slice_get ts place) (sym h.tuples_are) ∙ at_place
+  pub event_packet : (place : ℕ) (d e : Event) (id : ℕ) → place < length events → get_or events place d ≡ e → packet_id_of e ≡ Some id → IsOfPacket (acceptances events) e id
+  event_packet place d (Accepted n moment lane flow packet) id low is of_id =
+      let a : Acceptance = record { id = n; moment = moment; lane = lane; flow = flow; packet = packet } in
+      let accepted = acceptances events in
+      let is_id : n ≡ id = cc in
+      let tells = ap acceptance_of is in
+      let known = told_at acceptance_of (λ b. named accepted b.id ≡ Some b) events place d a low tells (named_itself 0 accepted (Rises-range 0 (length accepted) accepted ids)) in
+      let within = told_at acceptance_of (λ b. b.id < length accepted) events place d a low tells (ids_below (length accepted) accepted ids) in
+      record { who = a; below = omega arith; found = ap (named accepted) (sym is_id) ∙ known; same = λ b e. cc }
+  event_packet place d (Sent n moment ecn mark) id low is of_id = of_fate (Sent n moment ecn mark) id refl (told_at fate_of (λ i. i < length (acceptances events)) events place d id low (ap fate_of is ∙ of_id) fates_below)
+  event_packet place d (Dropped n moment cause) id low is of_id = of_fate (Dropped n moment cause) id refl (told_at fate_of (λ i. i < length (acceptances events)) events place d id low (ap fate_of is ∙ of_id) fates_below)
+  event_packet place d (Closed moment) id low is of_id = absurd cc
 
-    pub fate_within : place < length rows
-    fate_within =
-        subst (λ (rs : List TupleRow). place < length rs) (sym h.rows_are) (element_at same_tuple same_tuple-Decides tuple_of (row_of events) (firsts_of (acceptances events)) place (tuple_of fate.who) there).2
+module _ (tuples : List FiveTuple) (rows : List TupleRow) (places : List ℕ) (accepted : List Acceptance) (seen : List Event) (h : AreTallied tuples rows places accepted seen) where
+  pub as_many : length rows ≡ length tuples
+  as_many = ap length h.rows_are ∙ length-map (firsts_of accepted) (row_so_far accepted seen) ∙ sym (ap length h.tuples_are ∙ length-map (firsts_of accepted) tuple_of)
 
-    module _ (row : TupleRow) (is_row : row ≡ get_or rows place row) where
-      -- in which it waits
-      pub fate_waits : 0 < row.queued
-      fate_waits =
-          let found = element_at same_tuple same_tuple-Decides tuple_of (row_of events) (firsts_of (acceptances events)) place (tuple_of fate.who) there in
-          let own : of_one_tuple fate.who found.0 ≡ true = (same_tuple-Decides (tuple_of fate.who) (tuple_of found.0)).1 (sym found.1) in
-          let row_is : row ≡ row_of events found.0 = is_row ∙ ap (λ (rs : List TupleRow). get_or rs place row) h.rows_are ∙ found.3 row in
-          subst (λ (r : TupleRow). 0 < r.queued) (sym row_is)
-          (row_waits (acceptances events) (filter_map sent_of events) (filter_map dropped_of events) (fate_ids events) id fate.who found.0 rises fate.found fate.new own)
+  -- an event that is of no packet
+  pub tallied_stays : (e : Event) → packet_id_of e ≡ None → AreTallied tuples rows places accepted (seen ++ e ∷ [])
+  tallied_stays e none = record {
+    tuples_are = h.tuples_are;
+    apart = h.apart;
+    rows_are = h.rows_are ∙ (λ k. map (λ first. sym (row_stays accepted seen first e none) k) (firsts_of accepted));
+    places_are = h.places_are;
+  }
 
-      -- Its counts are small.
-      pub fate_small : (row.sent ≤ length places) × (row.dropped ≤ length places)
-      fate_small =
-          let small = row_small events (firsts_of (acceptances events)) rows place row h.rows_are fate_within is_row in
-          let all = places_all tuples places (acceptances events) h.places_are in
-          let even : IsBalanced row = subst IsBalanced (sym is_row) (h.balance place row fate_within) in
-          (omega arith, omega arith)
+  -- an event of a packet: its place is known,
+  module _ (ids : map id_of accepted ≡ range_with_len 0 (length accepted)) (e : Event) (id : ℕ) (of_packet : IsOfPacket accepted e id) where
+    pub packet_placed : (d : ℕ) → (id < length places) × (slice_get tuples (get_or places id d) ≡ Some (tuple_of of_packet.who))
+    packet_placed d =
+        let who = of_packet.who in
+        let found = sym of_packet.found ∙ named_at (length accepted) accepted id who ids of_packet.below in
+        let is_who : get_or accepted id who ≡ who = cc in
+        let at = placed_at places accepted id d who of_packet.below h.places_are in
+        (at.0, at.1 ∙ ap (λ a. Some (tuple_of a)) is_who)
+      where
+        placed_at : (some : List ℕ) (more : List Acceptance) (i d : ℕ) (a : Acceptance) → i < length more → ArePlaced tuples some more → (i < length some) × (slice_get tuples (get_or some i d) ≡ Some (tuple_of (get_or more i a)))
+        placed_at [] [] i d a low z = absurd (omega arith)
+        placed_at [] (b ∷ more) i d a low z = absurd z
+        placed_at (p ∷ some) [] i d a low z = absurd z
+        placed_at (p ∷ some) (b ∷ more) zero d a low z = (omega arith, z.0)
+        placed_at (p ∷ some) (b ∷ more) (suc i) d a low z = let rest = placed_at some more i d a (omega arith) z.1 in let within = rest.0 in (omega arith, rest.1)
 
-      -- It is sent.
-      pub tallied_sends : (moment : ℕ) (ecn : Ecn) (mark : Mark) → AreTallied tuples (set rows place (one_sent row)) places (events ++ Sent id moment ecn mark ∷ [])
-      tallied_sends moment ecn mark =
-          let e : Event = Sent id moment ecn mark in
-          let waits = fate_waits in
-          tallied_fate tuples rows places events e one_sent (tuple_of fate.who) place row refl at_place is_row
-          (λ first.
-          (λ k. row_by (filter_map_same acceptance_of events e refl k) (filter_map_push sent_of events e id refl k) (filter_map_same dropped_of events e refl k) (filter_map_push fate_of events e id refl k) first)
-          ∙ row_sends (acceptances events) (filter_map sent_of events) (filter_map dropped_of events) (fate_ids events) id fate.who first rises fate.found fate.new)
-          (λ even. omega arith) h
+    -- and so is its row, which changes
+    module _ (place : ℕ) (at : slice_get tuples place ≡ Some (tuple_of of_packet.who)) where
+      pub packet_within : place < length rows
+      packet_within = let within = slice_get_within tuples place (tuple_of of_packet.who) at in omega (arith, as_many)
 
-      -- It is dropped.
-      pub tallied_drops : (moment : ℕ) (why : Cause) → AreTallied tuples (set rows place (one_dropped row)) places (events ++ Dropped id moment why ∷ [])
-      tallied_drops moment why =
-          let e : Event = Dropped id moment why in
-          let waits = fate_waits in
-          tallied_fate tuples rows places events e one_dropped (tuple_of fate.who) place row refl at_place is_row
-          (λ first.
-          (λ k. row_by (filter_map_same acceptance_of events e refl k) (filter_map_same sent_of events e refl k) (filter_map_push dropped_of events e id refl k) (filter_map_push fate_of events e id refl k) first)
-          ∙ row_drops (acceptances events) (filter_map sent_of events) (filter_map dropped_of events) (fate_ids events) id fate.who first rises fate.found fate.new)
-          (λ even. omega arith) h
+      module _ (row : TupleRow) (is : row ≡ get_or rows place row) where
+        is_row : row ≡ get_or (map (row_so_far accepted seen) (firsts_of accepted)) place row
+        is_row = is ∙ ap (λ rs. get_or rs place row) h.rows_are
 
--- What is known where a packet is accepted: the fates so far are of accepted packets, and none is of its id.
-pub record IsNewId (events : List Event) (id : ℕ) : Type 0 where
-  pub sent : AreFound (acceptances events) (filter_map sent_of events)
-  pub dropped : AreFound (acceptances events) (filter_map dropped_of events)
-  pub apart : AllByRecursion (λ fated. fated ≢ id) (fate_ids events)
+        pub packet_few : (row.accepted ≤ length seen) × (row.sent ≤ length seen) × (row.dropped ≤ length seen)
+        packet_few =
+            let within = packet_within in
+            let len = ap length h.rows_are ∙ length-map (firsts_of accepted) (row_so_far accepted seen) in
+            let is_first = is_row ∙ get_or-map (row_so_far accepted seen) (firsts_of accepted) place of_packet.who row (omega arith) in
+            subst (λ (r : TupleRow). (r.accepted ≤ length seen) × (r.sent ≤ length seen) × (r.dropped ≤ length seen)) (sym is_first) (row_few accepted seen (get_or (firsts_of accepted) place of_packet.who))
 
-module _ (events : List Event) (a : Acceptance) (new : IsNewId events a.id) where
-  -- the first acceptances with this one, which goes last where its five-tuple is new
-  abbrev firsts_with : Bool → List Acceptance
-  firsts_with known = cond known (firsts_of (acceptances events)) (firsts_of (acceptances events) ++ a ∷ [])
-
-  tuples_with : (known : Bool) → cond known (map tuple_of (firsts_of (acceptances events))) (map tuple_of (firsts_of (acceptances events)) ++ tuple_of a ∷ []) ≡ map tuple_of (firsts_with known)
-  tuples_with true = refl
-  tuples_with false = sym (map-append tuple_of (firsts_of (acceptances events)) (a ∷ []))
-
-  -- where it is new, none of its packets was counted
-  row_is_empty : has_tuple (map tuple_of (firsts_of (acceptances events))) (tuple_of a) ≡ false → row_of events a ≡ empty_row (tuple_of a) a.flow
-  row_is_empty unknown =
-      row_none (acceptances events) (filter_map sent_of events) (filter_map dropped_of events) (fate_ids events) a
-      (none_has (tuple_of a) (acceptances events) (sym (firsts_have same_tuple same_tuple-Decides tuple_of (tuple_of a) (acceptances events)) ∙ unknown))
-
-  rows_with : (known : Bool) → has_tuple (map tuple_of (firsts_of (acceptances events))) (tuple_of a) ≡ known
-      → cond known (tuple_rows events) (tuple_rows events ++ empty_row (tuple_of a) a.flow ∷ []) ≡ map (row_of events) (firsts_with known)
-  rows_with true is = refl
-  rows_with false is =
-      ap (λ (r : TupleRow). tuple_rows events ++ r ∷ []) (sym (row_is_empty is)) ∙ sym (map-append (row_of events) (firsts_of (acceptances events)) (a ∷ []))
-
--- A packet is accepted.
-module _ (tuples : List FiveTuple) (rows : List TupleRow) (places : List ℕ) (events : List Event) (id moment lane flow : ℕ) (packet : PacketParts) (new : IsNewId events id) (h : AreTallied tuples rows places events) where
-  abbrev a : Acceptance
-  a = record { id = id; moment = moment; lane = lane; flow = flow; packet = packet }
-
-  abbrev e : Event
-  e = Accepted id moment lane flow packet
-
-  abbrev tuples' : List FiveTuple
-  tuples' = with_tuple tuples packet.tuple
-
-  abbrev rows' : List TupleRow
-  rows' = with_row tuples rows packet.tuple flow
-
-  firsts_are : firsts_of (acceptances events ++ a ∷ []) ≡ firsts_with events a new (has_tuple (map tuple_of (firsts_of (acceptances events))) packet.tuple)
-  firsts_are = firsts_push same_tuple same_tuple-Decides tuple_of (acceptances events) a
-
-  tuples_are : tuples' ≡ map tuple_of (firsts_of (acceptances events ++ a ∷ []))
-  tuples_are =
-      ap (λ (ts : List FiveTuple). with_tuple ts packet.tuple) h.tuples_are ∙ tuples_with events a new (has_tuple (map tuple_of (firsts_of (acceptances events))) packet.tuple) ∙ ap (map tuple_of) (sym firsts_are)
-
-  rows_are : rows' ≡ map (row_of events) (firsts_of (acceptances events ++ a ∷ []))
-  rows_are =
-      ap (λ (ts : List FiveTuple). with_row ts rows packet.tuple flow) h.tuples_are ∙ ap (λ (rs : List TupleRow). with_row (map tuple_of (firsts_of (acceptances events))) rs packet.tuple flow) h.rows_are
-      ∙ rows_with events a new (has_tuple (map tuple_of (firsts_of (acceptances events))) packet.tuple) refl ∙ ap (map (row_of events)) (sym firsts_are)
-
-  places_are : map (slice_get tuples') places ≡ map some_tuple (acceptances events)
-  places_are = by_case (has_tuple tuples packet.tuple)
-    where
-      by_case : (b : Bool) → map (slice_get (cond b tuples (tuples ++ packet.tuple ∷ []))) places ≡ map some_tuple (acceptances events)
-      by_case true = h.places_are
-      by_case false = places_stay tuples (packet.tuple ∷ []) places (acceptances events) h.places_are
-
-  balance : All IsBalanced rows'
-  balance = by_case (has_tuple tuples packet.tuple)
-    where
-      by_case : (b : Bool) → All IsBalanced (cond b rows (rows ++ empty_row packet.tuple flow ∷ []))
-      by_case true = h.balance
-      by_case false = All-push IsBalanced rows (empty_row packet.tuple flow) h.balance refl
-
-  module _ (place : ℕ) (at : slice_get tuples' place ≡ Some packet.tuple) where
-    stands : slice_get (map tuple_of (firsts_of (acceptances events ++ a ∷ []))) place ≡ Some packet.tuple
-    stands = ap (λ (ts : List FiveTuple). slice_get ts place) (sym tuples_are) ∙ at
-
-    -- its row is stands
-    pub accept_within : place < length rows'
-    accept_within =
-        subst (λ (rs : List TupleRow). place < length rs) (sym rows_are) (element_at same_tuple same_tuple-Decides tuple_of (row_of events) (firsts_of (acceptances events ++ a ∷ [])) place packet.tuple stands).2
-
-    -- has counts that are small
-    pub accept_small : (row : TupleRow) → row ≡ get_or rows' place row → (row.accepted ≤ length places) × (row.queued ≤ length places)
-    accept_small row is_row =
-        let small = row_small events (firsts_of (acceptances events ++ a ∷ [])) rows' place row rows_are accept_within is_row in
-        let all = places_all tuples places (acceptances events) h.places_are in
-        let even : IsBalanced row = subst IsBalanced (sym is_row) (balance place row accept_within) in
-        (omega arith, omega arith)
-
-    -- and counts it
-    pub tallied_accepts : (row : TupleRow) → row ≡ get_or rows' place row → AreTallied tuples' (set rows' place (one_accepted row)) (places ++ place ∷ []) (events ++ e ∷ [])
-    tallied_accepts row row_is =
-        let accepted = filter_map_push acceptance_of events e a refl in
-        let even : IsBalanced row = subst IsBalanced (sym row_is) (balance place row accept_within) in
-        let one = change_at same_tuple same_tuple-Decides tuple_of (row_of events) (row_of (events ++ e ∷ [])) one_accepted packet.tuple (firsts_of (acceptances events ++ a ∷ [])) place row
-        (firsts_apart same_tuple same_tuple-Decides tuple_of (acceptances events ++ a ∷ [])) stands
-        (λ first.
-        (λ k. row_by (accepted k) (filter_map_same sent_of events e refl k) (filter_map_same dropped_of events e refl k) (filter_map_same fate_of events e refl k) first)
-        ∙ row_accepts (acceptances events) (filter_map sent_of events) (filter_map dropped_of events) (fate_ids events) a first new.sent new.dropped new.apart) in
-        record {
-          tuples_are = tuples_are ∙ ap (λ (bs : List Acceptance). map tuple_of (firsts_of bs)) (sym accepted);
+        pub tallied_counts : packet_id_of e ≡ Some id → AreTallied tuples (set rows place (counted e row)) places accepted (seen ++ e ∷ [])
+        tallied_counts of_id = record {
+          tuples_are = h.tuples_are;
+          apart = h.apart;
           rows_are =
-              ap (λ (r : TupleRow). set rows' place (one_accepted r)) row_is ∙ ap (λ (rs : List TupleRow). set rs place (one_accepted (get_or rs place row))) rows_are ∙ one
-              ∙ ap (λ (bs : List Acceptance). map (row_of (events ++ e ∷ [])) (firsts_of bs)) (sym accepted);
-          places_are =
-              map-append (slice_get tuples') places (place ∷ []) ∙ (λ k. places_are k ++ at k ∷ []) ∙ sym (map-append some_tuple (acceptances events) (a ∷ [])) ∙ ap (map some_tuple) (sym accepted);
-          balance = All-set IsBalanced rows' place (one_accepted row) (omega arith) balance;
+              ap (λ rs. set rs place (counted e row)) h.rows_are
+              ∙ change_at (row_so_far accepted seen) (row_so_far accepted (seen ++ e ∷ [])) (counted e) (firsts_of accepted) of_packet.who place row (subst (IsDistinct same_tuple) h.tuples_are h.apart)
+              (ap (λ ts. slice_get ts place) (sym h.tuples_are) ∙ at) is_row (λ first. row_counts accepted seen first e id of_packet.who of_id of_packet.found of_packet.same);
+          places_are = h.places_are;
         }
+
+-- Where all events are counted, what was accepted and is neither sent nor dropped has no fate.
+module _ (events : List Event) (ids : IdsInOrder events) (once : AreDistinct (fate_ids events)) where
+  abbrev whole : Acceptance → TupleRow
+  whole first = row_so_far (acceptances events) events first
+
+  row_adds_up : (first : Acceptance) → (row_of events first).queued + ((whole first).sent + (whole first).dropped) ≡ (whole first).accepted
+  row_adds_up first = by (λ a. of_one_tuple a first)
+    where
+      by : (own : Acceptance → Bool) → count_by own (without_fate events)
+          + (count_by (passes own (acceptances events)) (filter_map sent_of events) + count_by (passes own (acceptances events)) (filter_map dropped_of events)) ≡ count_by own (acceptances events)
+      by own =
+          let accepted = acceptances events in
+          let all = sum_left (λ a. cond (own a) 1 0) 0 accepted (fate_ids events) (Rises-range 0 (length accepted) accepted ids) once in
+          omega (arith, all, count_fated own accepted (fate_ids events), sum_fates (λ id. cond (passes own accepted id) 1 0) events)
+
+  settled_rows : (firsts : List Acceptance) → map settled (map whole firsts) ≡ map (row_of events) firsts
+  settled_rows [] = refl
+  settled_rows (first ∷ firsts) =
+      let all = row_adds_up first in
+      let queued : (whole first).accepted - (whole first).sent - (whole first).dropped ≡ (row_of events first).queued = omega arith in
+      λ k. record (whole first) { queued = queued k } ∷ settled_rows firsts k
+
+  module _ (tuples : List FiveTuple) (rows : List TupleRow) (places : List ℕ) (h : AreTallied tuples rows places (acceptances events) events) where
+    pub rows_settle : All (λ row. row.sent + row.dropped ≤ row.accepted) rows
+    rows_settle =
+        rw h.rows_are (All-map (λ row. row.sent + row.dropped ≤ row.accepted) whole (firsts_of (acceptances events)) (λ i d low. omega (arith, row_adds_up (get_or (firsts_of (acceptances events)) i d))))
+
+    pub rows_are_settled : map settled rows ≡ tuple_rows events
+    rows_are_settled = ap (map settled) h.rows_are ∙ settled_rows (firsts_of (acceptances events))
+
+  pub rows_are_balanced : All IsBalanced (tuple_rows events)
+  rows_are_balanced = All-map IsBalanced (row_of events) (firsts_of (acceptances events)) (λ i d low. omega (arith, row_adds_up (get_or (firsts_of (acceptances events)) i d)))

@@ -1,26 +1,16 @@
 -- What waits is what has no fate: the numbers of packets and bytes in the queues are those of the journal.
 use Rattle.std.proofs.Common.{◌≡◌, ◌≢◌, ℕ, suc, ◌+◌, ◌<◌, ◌≤◌, Bool, true, false, not, List, [], ◌∷◌, map, filter, eqb, get_or, length, sum_by, refl, ap, ◌∙◌, inl, inr, arith}
 use Rattle.std.specs.List.{AllByRecursion}
-use Rattle.std.proofs.lemmas.Bool.{cases_Bool, cases_eq, eq-eqb, ne_eqb}
+use Rattle.std.proofs.lemmas.Bool.{cases_eq, eq-eqb, ne_eqb}
+use Rattle.std.proofs.lemmas.List.Filters.{sum_by-filter_both}
 use Rattle.std.proofs.lemmas.List.Sums.{sum_by-cons}
 use Rattle.packet_core.specs.declared.packet.Waiting.{Waiting}
 use Rattle.journal_core.specs.Happened.{Acceptance, waiting_of}
 use Rattle.journal_core.proofs.ListLemmas.{ByRecursion-both, ByRecursion-filter, ByRecursion-passes, ByRecursion-weaker, ByRecursion-all, filter_within}
 
--- the elements that pass and those that don't
-sum_by_parts : {X : Type 0} (f : X → ℕ) (p : X → Bool) (xs : List X) → sum_by f xs ≡ sum_by f (filter p xs) + sum_by f (filter (λ x. not (p x)) xs)
-sum_by_parts f p [] = refl
-sum_by_parts f p (x ∷ xs) =
-    let ih = sum_by_parts f p xs in
-    let whole = sum_by-cons f x xs in
-    elim (cases_Bool (p x)) [
-      | inl t ↦ let one = sum_by-cons f x (filter p xs) in rw t (omega arith)
-      | inr t ↦ let one = sum_by-cons f x (filter (λ x. not (p x)) xs) in rw t (omega arith)
-    ]
-
 sum_by-map : {X Y : Type 0} (f : X → Y) (h : Y → ℕ) (xs : List X) → sum_by h (map f xs) ≡ sum_by (λ x. h (f x)) xs
 sum_by-map f h [] = refl
-sum_by-map f h (x ∷ xs) = let ih = sum_by-map f h xs in let one = sum_by-cons h (f x) (map f xs) in let two = sum_by-cons (λ x. h (f x)) x xs in omega arith
+sum_by-map f h (x ∷ xs) = omega (arith, sum_by-map f h xs, sum_by-cons h (f x) (map f xs), sum_by-cons (λ x. h (f x)) x xs)
 
 -- the acceptances into that flow
 abbrev into : ℕ → Acceptance → Bool
@@ -49,7 +39,7 @@ module _ (h : Waiting → ℕ) where
       (ByRecursion-filter (λ a. (k ≤ a.flow) × (a.flow < k + length (q ∷ queues))) (λ a. not (into k a)) accepted among) (ByRecursion-passes (λ a. not (into k a)) accepted)) in
       let rest = by_queues (suc k) queues others hold' among' in
       let first : sum_by h q ≡ sum_by (λ a. h (waiting_of a)) (filter (into k) accepted) = ap (sum_by h) here ∙ sum_by-map waiting_of h (filter (into (k + 0)) accepted) ∙ ap (λ n. sum_by (λ a. h (waiting_of a)) (filter (into n) accepted)) k_is in
-      let parts = sum_by_parts (λ a. h (waiting_of a)) (into k) accepted in
+      let parts = sum_by-filter_both (into k) (λ a. not (into k a)) (λ _. refl) (λ a. h (waiting_of a)) accepted in
       let whole = sum_by-cons (λ q. sum_by h q) q queues in
       omega arith
     where

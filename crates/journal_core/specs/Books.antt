@@ -15,7 +15,16 @@ pub record Book : Type 0 where
   pub room : ℕ
 
 abbrev pub no_counts : Counts
-no_counts = record { accepted = 0; accepted_bytes = 0; sent = 0; sent_bytes = 0; dropped_codel = 0; dropped_overflow = 0; dropped_bytes = 0; marked = 0 }
+no_counts = record {
+  accepted = 0;
+  accepted_bytes = 0;
+  sent = 0;
+  sent_bytes = 0;
+  dropped_codel = 0;
+  dropped_overflow = 0;
+  dropped_bytes = 0;
+  marked = 0;
+}
 
 -- one event more, and these counts
 abbrev pub with_event : Book → Event → Counts → Book
@@ -32,7 +41,11 @@ marks_of CodelMark = 1
 
 -- one sent
 abbrev pub count_sent : Counts → ℕ → Mark → Counts
-count_sent c len mark = record c { sent = c.sent + 1; sent_bytes = c.sent_bytes + len; marked = c.marked + marks_of mark }
+count_sent c len mark = record c {
+  sent = c.sent + 1;
+  sent_bytes = c.sent_bytes + len;
+  marked = c.marked + marks_of mark;
+}
 
 -- how many drops by CoDel that is, and how many by overflow
 abbrev pub codel_drops_of : Cause → ℕ

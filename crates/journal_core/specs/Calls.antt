@@ -21,7 +21,8 @@ pub record Standing (Q : Type 0) : Type 0 where
   pub events : List Event
 
 -- The step is not refused. It is made, and its events stand at the journal's end.
-pub record Advances {Q : Type 0} (d : Discipline Q) (old : Standing Q) (step : Step) (answer : Answer) (new : Standing Q) : Type 0 where
+pub record Advances {Q : Type 0} (d : Discipline Q) (old : Standing Q) (step : Step) (answer : Answer)
+    (new : Standing Q) : Type 0 where
   pub fits : refusal_of old.state step ≡ None
   pub made : List Event
   pub makes : Makes d old.state step answer made new.state
@@ -33,10 +34,16 @@ admitted_at d old moment packet = record { id = old.next_id; moment = moment; fl
 
 -- the packet that is given, with its field as sent
 abbrev pub sent_at : ℕ → Given → Sent
-sent_at moment g = record { id = g.waiting.id; moment = moment; packet = record g.waiting.packet { ecn = sent_ecn g.mark g.waiting.packet.ecn }; mark = g.mark }
+sent_at moment g = record {
+  id = g.waiting.id;
+  moment = moment;
+  packet = record g.waiting.packet { ecn = sent_ecn g.mark g.waiting.packet.ecn };
+  mark = g.mark;
+}
 
 -- A dequeue is made, and the packet that it gives is answered.
-pub record Gives {Q : Type 0} (d : Discipline Q) (old : Standing Q) (moment : ℕ) (sent : Option Sent) (new : Standing Q) : Type 0 where
+pub record Gives {Q : Type 0} (d : Discipline Q) (old : Standing Q) (moment : ℕ) (sent : Option Sent)
+    (new : Standing Q) : Type 0 where
   pub fits : refusal_of old.state (Dequeue moment) ≡ None
   pub given : Option Given
   pub made : List Event

@@ -58,12 +58,12 @@ given_packet (Some g) = g.waiting ∷ []
 
 -- The discipline drops from heads alone: what an acceptance loses, batch by batch, and what a dequeue drops of one
 -- flow's queue, and then it gives the packet behind those. It takes a packet in at the tail of its flow's queue,
--- and it marks only packets that may be. The laws of the journal
--- hold of every such discipline.
+-- and it marks only packets that may be. The laws of the journal hold of every such discipline.
 pub record IsFifoByFlow {Q : Type 0} (d : Discipline Q) (queue_of : Q → ℕ → List Waiting) : Type 0 where
   pub opens : (f : ℕ) → queue_of d.opening f ≡ []
   pub admits : (old : Q) (w : Waiting) (lost : List Waiting) (new : Q) → d.admits old w lost new
-      → (batches : List Batch) × (lost ≡ packets_of batches) × LeaveHeads (with_arrival (queue_of old) (d.flow_of w.packet.tuple) w) batches (queue_of new)
+      → (batches : List Batch) × (lost ≡ packets_of batches)
+      × LeaveHeads (with_arrival (queue_of old) (d.flow_of w.packet.tuple) w) batches (queue_of new)
   pub serves : (old : Q) (moment : ℕ) (dropped : List Waiting) (given : Option Given) (new : Q)
       → d.serves old moment dropped given new
       → ((flow : ℕ) × LeavesHead (queue_of old) flow (dropped ++ given_packet given) (queue_of new))

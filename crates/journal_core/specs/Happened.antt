@@ -19,7 +19,8 @@ abbrev pub waiting_of : Acceptance → Waiting
 waiting_of a = record { id = a.id; stamp = a.moment; packet = a.packet }
 
 abbrev pub acceptance_of : Event → Option Acceptance
-acceptance_of (Accepted id moment lane flow packet) = Some (record { id = id; moment = moment; lane = lane; flow = flow; packet = packet })
+acceptance_of (Accepted id moment lane flow packet) =
+    Some (record { id = id; moment = moment; lane = lane; flow = flow; packet = packet })
 acceptance_of (Sent id moment ecn mark) = None
 acceptance_of (Dropped id moment cause) = None
 acceptance_of (Closed moment) = None
@@ -30,6 +31,13 @@ fate_of (Accepted id moment lane flow packet) = None
 fate_of (Sent id moment ecn mark) = Some id
 fate_of (Dropped id moment cause) = Some id
 fate_of (Closed moment) = None
+
+-- the id of the packet that the event is of; a close is of none
+abbrev pub packet_id_of : Event → Option ℕ
+packet_id_of (Accepted id moment lane flow packet) = Some id
+packet_id_of (Sent id moment ecn mark) = Some id
+packet_id_of (Dropped id moment cause) = Some id
+packet_id_of (Closed moment) = None
 
 abbrev pub moment_of : Event → ℕ
 moment_of (Accepted id moment lane flow packet) = moment

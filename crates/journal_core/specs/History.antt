@@ -19,7 +19,8 @@ pub record IsLine (flow : ℕ) (waiting : List Waiting) (accepted : List Accepta
 
 -- What a step keeps true of the journal, the queues by flow, the next id, the last moment and the close: the
 -- journal's laws in the form that the next event carries on.
-pub record IsHistory (flow_of : FiveTuple → ℕ) (queue_of : ℕ → List Waiting) (events : List Event) (next_id last : ℕ) (closed : Bool) : Type 0 where
+pub record IsHistory (flow_of : FiveTuple → ℕ) (queue_of : ℕ → List Waiting) (events : List Event) (next_id last : ℕ)
+    (closed : Bool) : Type 0 where
   pub ids : accepted_ids events ≡ range_with_len 0 next_id
   pub flows : FlowsAreNamed flow_of events
   pub rises : MomentsRise events
@@ -32,7 +33,8 @@ pub record IsHistory (flow_of : FiveTuple → ℕ) (queue_of : ℕ → List Wait
   pub closed_for_good : IsClosedForGood events
   pub honest : All (IsHonest (acceptances events)) events
   pub left : length (without_fate events) + length (fate_ids events) ≡ next_id
-  pub left_bytes : sum_by length_of (without_fate events) + bytes_named (acceptances events) (fate_ids events) ≡ sum_by length_of (acceptances events)
+  pub left_bytes : sum_by length_of (without_fate events) + bytes_named (acceptances events) (fate_ids events)
+      ≡ sum_by length_of (acceptances events)
 
 -- the counts that run along are the statistics
 pub record AreCounts (counts : Counts) (events : List Event) : Type 0 where

@@ -18,9 +18,10 @@ with_drops book moment cause ws = record {
   room = book.room - length ws;
 }
 
--- Those packets are taken, one after another: each is dropped at that moment, for that cause, and nothing else changed. It is the same
--- borrow.
-pub record RecordsDrops (moment : ℕ) (cause : Cause) (old : MutBor Book) (ws : List Waiting) (moment' : ℕ) (cause' : Cause) (new : MutBor Book) : Type 0 where
+-- Those packets are taken, one after another: each is dropped at that moment, for that cause, and nothing else changed.
+-- It is the same borrow.
+pub record RecordsDrops (moment : ℕ) (cause : Cause) (old : MutBor Book) (ws : List Waiting)
+    (moment' : ℕ) (cause' : Cause) (new : MutBor Book) : Type 0 where
   pub same_moment : moment' ≡ moment
   pub same_cause : cause' ≡ cause
   pub same_reference : new.ghost_name ≡ old.ghost_name
@@ -28,19 +29,25 @@ pub record RecordsDrops (moment : ℕ) (cause : Cause) (old : MutBor Book) (ws :
 
 -- no drop
 pub drops_none : (book : Book) (moment : ℕ) (cause : Cause) → book ≡ with_drops book moment cause []
-drops_none book moment cause = λ i. record { events = sym (append-nil book.events) i; counts = book.counts; room = sym (sub-zero book.room) i }
+drops_none book moment cause =
+    λ i. record { events = sym (append-nil book.events) i; counts = book.counts; room = sym (sub-zero book.room) i }
 
 -- the counts of one more, behind others
-count_drops_push : (cause : Cause) (c : Counts) (ws : List Waiting) (w : Waiting) → count_dropped (count_drops cause c ws) w.packet.len cause ≡ count_drops cause c (ws ++ w ∷ [])
+count_drops_push : (cause : Cause) (c : Counts) (ws : List Waiting) (w : Waiting)
+    → count_dropped (count_drops cause c ws) w.packet.len cause ≡ count_drops cause c (ws ++ w ∷ [])
 count_drops_push cause c [] w = refl
 count_drops_push cause c (v ∷ ws) w = count_drops_push cause (count_dropped c v.packet.len cause) ws w
 
 -- a drop behind others
-pub drops_more : (book : Book) (moment : ℕ) (cause : Cause) (ws : List Waiting) (w : Waiting) → with_drops (with_drops book moment cause ws) moment cause (w ∷ []) ≡ with_drops book moment cause (ws ++ w ∷ [])
+pub drops_more : (book : Book) (moment : ℕ) (cause : Cause) (ws : List Waiting) (w : Waiting)
+    → with_drops (with_drops book moment cause ws) moment cause (w ∷ []) ≡ with_drops book moment cause (ws ++ w ∷ [])
 drops_more book moment cause ws w =
-    let told = map (drop_event moment cause) ws in
-    let events : (book.events ++ told) ++ drop_event moment cause w ∷ [] ≡ book.events ++ map (drop_event moment cause) (ws ++ w ∷ []) = append_assoc book.events told (drop_event moment cause w ∷ []) ∙ ap (λ (es : List Event). book.events ++ es) (sym (map-append (drop_event moment cause) ws (w ∷ []))) in
-    let room : (book.room - length ws) - 1 ≡ book.room - length (ws ++ w ∷ []) = sym (sub-add-eq book.room (length ws) 1) ∙ ap (λ (n : ℕ). book.room - n) (sym (length_push ws w)) in
+    let tell = drop_event moment cause in
+    let events : (book.events ++ map tell ws) ++ tell w ∷ [] ≡ book.events ++ map tell (ws ++ w ∷ []) =
+    append_assoc book.events (map tell ws) (tell w ∷ [])
+    ∙ ap (λ (es : List Event). book.events ++ es) (sym (map-append tell ws (w ∷ []))) in
+    let room : (book.room - length ws) - 1 ≡ book.room - length (ws ++ w ∷ []) =
+    sym (sub-add-eq book.room (length ws) 1) ∙ ap (λ (n : ℕ). book.room - n) (sym (length_push ws w)) in
     λ i. record { events = events i; counts = count_drops_push cause book.counts ws w i; room = room i }
 
 -- none is taken
@@ -53,8 +60,10 @@ records_none moment cause a = record {
 }
 
 -- one is taken behind others
-pub records_more : (moment : ℕ) (cause : Cause) (a : MutBor Book) (moment' : ℕ) (cause' : Cause) (b : MutBor Book) (moment'' : ℕ) (cause'' : Cause) (c : MutBor Book) (ws : List Waiting) (w : Waiting)
-    → RecordsDrops moment cause a ws moment' cause' b → RecordsDrops moment' cause' b (w ∷ []) moment'' cause'' c → RecordsDrops moment cause a (ws ++ w ∷ []) moment'' cause'' c
+pub records_more : (moment : ℕ) (cause : Cause) (a : MutBor Book) (moment' : ℕ) (cause' : Cause) (b : MutBor Book)
+    (moment'' : ℕ) (cause'' : Cause) (c : MutBor Book) (ws : List Waiting) (w : Waiting)
+    → RecordsDrops moment cause a ws moment' cause' b → RecordsDrops moment' cause' b (w ∷ []) moment'' cause'' c
+    → RecordsDrops moment cause a (ws ++ w ∷ []) moment'' cause'' c
 records_more moment cause a moment' cause' b moment'' cause'' c ws w first then' = record {
   same_moment = then'.same_moment ∙ first.same_moment;
   same_cause = then'.same_cause ∙ first.same_cause;

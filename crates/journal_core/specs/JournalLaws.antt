@@ -63,7 +63,8 @@ IsClosedForGood (e ∷ events) = (is_closed e ≡ true → list_any is_barred ev
 -- takes part.
 abbrev pub IsHonest : List Acceptance → Event → Type 0
 IsHonest accepted (Accepted id moment lane flow packet) = Unit {0}
-IsHonest accepted (Sent id moment ecn mark) = IsSomeAnd (named accepted id) (λ a. (ecn ≡ sent_ecn mark a.packet.ecn) × MayHave mark a.packet.ecn)
+IsHonest accepted (Sent id moment ecn mark) =
+    IsSomeAnd (named accepted id) (λ a. (ecn ≡ sent_ecn mark a.packet.ecn) × MayHave mark a.packet.ecn)
 IsHonest accepted (Dropped id moment cause) = Unit {0}
 IsHonest accepted (Closed moment) = Unit {0}
 
@@ -82,4 +83,5 @@ pub record JournalLaws (flow_of : FiveTuple → ℕ) (events : List Event) : Typ
 -- The packets that wait in a flow are those accepted into it that have no fate, in order, each stamped with the
 -- moment of its acceptance.
 abbrev pub WaitWithoutFate : (ℕ → List Waiting) → List Event → Type 0
-WaitWithoutFate queue_of events = (flow : ℕ) → queue_of flow ≡ map waiting_of (filter (λ a. a.flow == flow) (without_fate events))
+WaitWithoutFate queue_of events =
+    (flow : ℕ) → queue_of flow ≡ map waiting_of (filter (λ a. a.flow == flow) (without_fate events))

@@ -28,7 +28,8 @@ abbrev pub Runs : {Q : Type 0} → Discipline Q → State Q → List Step → Li
 Runs d old [] [] new = new ≡ old
 Runs d old [] (m ∷ made) new = ⊥
 Runs d old (step ∷ steps) [] new = ⊥
-Runs {Q} d old (step ∷ steps) (m ∷ made) new = (mid : State Q) × Steps d old step m.answer m.events mid × Runs d mid steps made new
+Runs {Q} d old (step ∷ steps) (m ∷ made) new =
+    (mid : State Q) × Steps d old step m.answer m.events mid × Runs d mid steps made new
 
 -- whether a step was refused
 abbrev pub is_refused : Answer → Bool
@@ -42,7 +43,8 @@ is_refused (answer.Refused r) = true
 abbrev pub steps_made : List Step → List Made → List Step
 steps_made [] made = []
 steps_made (step ∷ steps) [] = []
-steps_made (step ∷ steps) (m ∷ made) = if is_refused m.answer then steps_made steps made else step ∷ steps_made steps made
+steps_made (step ∷ steps) (m ∷ made) =
+    if is_refused m.answer then steps_made steps made else step ∷ steps_made steps made
 
 -- what they gave
 abbrev pub given_by_made : List Made → List Made
@@ -56,16 +58,19 @@ journal_of made = flat_map (λ m. m.events) made
 abbrev pub outcomes_from : ℕ → List Made → List Outcome
 outcomes_from at [] = []
 outcomes_from at (m ∷ made) =
-    record { answer = m.answer; first_event = at; end_event = at + length m.events } ∷ outcomes_from (at + length m.events) made
+    let end = at + length m.events in
+    record { answer = m.answer; first_event = at; end_event = end } ∷ outcomes_from end made
 
 -- One step, refused or not: its events stand at the journal's end.
-pub record Takes {Q : Type 0} (d : Discipline Q) (old : Standing Q) (step : Step) (said : Answer) (new : Standing Q) : Type 0 where
+pub record Takes {Q : Type 0} (d : Discipline Q) (old : Standing Q) (step : Step) (said : Answer)
+    (new : Standing Q) : Type 0 where
   pub made : List Event
   pub steps : Steps d old.state step said made new.state
   pub journal : new.events ≡ old.events ++ made
 
 -- A scheduler and the outcomes are those of the run of the steps: state, journal, and one outcome for each step.
-pub record IsRun {Q : Type 0} (d : Discipline Q) (steps : List Step) (sched : Standing Q) (outcomes : List Outcome) : Type 0 where
+pub record IsRun {Q : Type 0} (d : Discipline Q) (steps : List Step) (sched : Standing Q)
+    (outcomes : List Outcome) : Type 0 where
   pub made : List Made
   pub runs : Runs d (opening_state d.opening) steps made sched.state
   pub journal : sched.events ≡ journal_of made

@@ -44,13 +44,16 @@ id_refusal_of old = if nat_le (2 ^ 40) old.next_id then Some Exhausted else None
 
 -- why an enqueue at that moment is refused, if it is, apart from want of memory: the tests in their order
 abbrev pub enqueue_refusal_of : {Q : Type 0} → State Q → ℕ → Option Refusal
-enqueue_refusal_of old moment = first_of_two (option_map Moment (moment_fault_of moment old.last)) (first_of_two (closed_refusal_of old) (id_refusal_of old))
+enqueue_refusal_of old moment =
+    first_of_two (option_map Moment (moment_fault_of moment old.last))
+    (first_of_two (closed_refusal_of old) (id_refusal_of old))
 
 -- and why a step is
 abbrev pub refusal_of : {Q : Type 0} → State Q → Step → Option Refusal
 refusal_of old (Enqueue moment lane packet) = enqueue_refusal_of old moment
 refusal_of old (Dequeue moment) = option_map Moment (moment_fault_of moment old.last)
-refusal_of old (Close moment) = first_of_two (option_map Moment (moment_fault_of moment old.last)) (closed_refusal_of old)
+refusal_of old (Close moment) =
+    first_of_two (option_map Moment (moment_fault_of moment old.last)) (closed_refusal_of old)
 
 -- A test answers Err exactly where there is a refusal, and then with it.
 abbrev pub Tests : {E : Type 0} → Option E → Result Unit E → Type 0

@@ -29,16 +29,19 @@ dequeue_answer (Some g) = answer.Sent
 
 -- An enqueue that is not refused: the packet waits under the next id, and what the discipline loses is dropped
 -- as overflow.
-pub record Admits {Q : Type 0} (d : Discipline Q) (old : State Q) (moment lane : ℕ) (packet : PacketParts) (events : List Event) (new : State Q) : Type 0 where
+pub record Admits {Q : Type 0} (d : Discipline Q) (old : State Q) (moment lane : ℕ) (packet : PacketParts)
+    (events : List Event) (new : State Q) : Type 0 where
   pub lost : List Waiting
   pub queues : d.admits old.queues (arrival old moment packet) lost new.queues
-  pub told : events ≡ event.Accepted old.next_id moment lane (d.flow_of packet.tuple) packet ∷ map (drop_event moment cause.Overflow) lost
+  pub told : events ≡ event.Accepted old.next_id moment lane (d.flow_of packet.tuple) packet
+      ∷ map (drop_event moment cause.Overflow) lost
   pub next_id : new.next_id ≡ old.next_id + 1
   pub last : new.last ≡ moment
   pub closed : new.closed ≡ old.closed
 
 -- A dequeue that is not refused: what the discipline drops is dropped by CoDel, and then a packet is given or not.
-pub record Serves {Q : Type 0} (d : Discipline Q) (old : State Q) (moment : ℕ) (given : Option Given) (events : List Event) (new : State Q) : Type 0 where
+pub record Serves {Q : Type 0} (d : Discipline Q) (old : State Q) (moment : ℕ) (given : Option Given)
+    (events : List Event) (new : State Q) : Type 0 where
   pub dropped : List Waiting
   pub queues : d.serves old.queues moment dropped given new.queues
   pub told : events ≡ map (drop_event moment cause.Codel) dropped ++ sent_events moment given
@@ -53,11 +56,14 @@ pub record Closes {Q : Type 0} (old : State Q) (moment : ℕ) (events : List Eve
 
 -- what a step does that is not refused: its answer, its events in order, and the new state
 abbrev pub Makes : {Q : Type 0} → Discipline Q → State Q → Step → Answer → List Event → State Q → Type 0
-Makes d old (Enqueue moment lane packet) said events new = (said ≡ answer.Accepted) × Admits d old moment lane packet events new
-Makes d old (Dequeue moment) said events new = (given : Option Given) × (said ≡ dequeue_answer given) × Serves d old moment given events new
+Makes d old (Enqueue moment lane packet) said events new =
+    (said ≡ answer.Accepted) × Admits d old moment lane packet events new
+Makes d old (Dequeue moment) said events new =
+    (given : Option Given) × (said ≡ dequeue_answer given) × Serves d old moment given events new
 Makes d old (Close moment) said events new = (said ≡ answer.Closed) × Closes old moment events new
 
 -- what a step does: one that is refused has no events and changes nothing, the last moment included
 abbrev pub Steps : {Q : Type 0} → Discipline Q → State Q → Step → Answer → List Event → State Q → Type 0
 Steps d old step said events new =
-    MatchOption (refusal_of old step) (Makes d old step said events new) (λ r. (said ≡ answer.Refused r) × (events ≡ []) × (new ≡ old))
+    MatchOption (refusal_of old step) (Makes d old step said events new)
+    (λ r. (said ≡ answer.Refused r) × (events ≡ []) × (new ≡ old))

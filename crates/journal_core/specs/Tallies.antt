@@ -1,12 +1,14 @@
-use Rattle.std.specs.Prelude.{◌≡◌, ℕ, ◌+◌, ◌-◌, Bool, All, List, [], ◌∷◌, ◌++◌, map, Some, slice_get, if◌then◌else◌}
-use Rattle.std.specs.List.{list_any}
+use Rattle.std.specs.Prelude.{◌≡◌, ℕ, ◌+◌, ◌-◌, Bool, List, [], ◌∷◌, ◌++◌, map, count_by, Some, slice_get, if◌then◌else◌}
+use Rattle.std.specs.List.{AllZip, IsDistinct, filter_map, list_any}
 use Rattle.packet_core.specs.Packets.{same_tuple}
 use Rattle.packet_core.specs.declared.packet.FiveTuple.{FiveTuple}
 use Rattle.journal_core.specs.declared.event.Event.{Event}
+use Rattle.journal_core.specs.declared.event.Event.TheVariants.{Accepted, Sent, Dropped, Closed}
 use Rattle.journal_core.specs.declared.tuple_rows.Tally.{Tally}
 use Rattle.journal_core.specs.declared.tuple_rows.TupleRow.{TupleRow}
-use Rattle.journal_core.specs.Happened.{Acceptance, acceptances}
-use Rattle.journal_core.specs.TupleRows.{first_of_each, of_one_tuple, tuple_rows}
+use Rattle.journal_core.specs.Happened.{Acceptance, acceptances, passes}
+use Rattle.journal_core.specs.Statistics.{sent_of, dropped_of}
+use Rattle.journal_core.specs.TupleRows.{first_of_each, of_one_tuple}
 
 -- the five-tuple of an accepted packet
 abbrev pub tuple_of : Acceptance → FiveTuple
@@ -16,38 +18,49 @@ tuple_of a = a.packet.tuple
 abbrev pub IsBalanced : TupleRow → Type 0
 IsBalanced row = row.accepted ≡ row.sent + row.dropped + row.queued
 
--- What a tally of those events keeps: the five-tuples in order of first acceptance, their rows, and for each packet the place of its five-tuple.
-pub record AreTallied (tuples : List FiveTuple) (rows : List TupleRow) (places : List ℕ) (events : List Event) : Type 0 where
-  pub tuples_are : tuples ≡ map tuple_of (first_of_each of_one_tuple (acceptances events))
-  pub rows_are : rows ≡ tuple_rows events
-  pub places_are : map (slice_get tuples) places ≡ map (λ a. Some (tuple_of a)) (acceptances events)
-  pub balance : All IsBalanced rows
-
--- The tally is that of the events.
-abbrev pub IsTallied : Tally → List Event → Type 0
-IsTallied tally events = AreTallied tally.tuples.keys tally.rows.items tally.places.items events
-
--- whether the five-tuple is among those
-abbrev pub has_tuple : List FiveTuple → FiveTuple → Bool
-has_tuple tuples tuple = list_any (same_tuple tuple) tuples
-
 -- the row of a five-tuple of which nothing is counted yet
 abbrev pub empty_row : FiveTuple → ℕ → TupleRow
 empty_row tuple flow = record { tuple = tuple; flow = flow; accepted = 0; sent = 0; dropped = 0; queued = 0 }
 
--- the five-tuples with one more, which goes last where it is new, and their rows with one for it
-abbrev pub with_tuple : List FiveTuple → FiveTuple → List FiveTuple
-with_tuple tuples tuple = if has_tuple tuples tuple then tuples else tuples ++ tuple ∷ []
+-- a row with one event more
+abbrev pub counted : Event → TupleRow → TupleRow
+counted (Accepted id moment lane flow packet) row = record row { accepted = row.accepted + 1 }
+counted (Sent id moment ecn mark) row = record row { sent = row.sent + 1 }
+counted (Dropped id moment cause) row = record row { dropped = row.dropped + 1 }
+counted (Closed moment) row = row
 
+-- a row with the packets that wait, once all events are counted
+abbrev pub settled : TupleRow → TupleRow
+settled row = record row { queued = row.accepted - row.sent - row.dropped }
+
+-- The row of the five-tuple whose first acceptance that is, where only the events seen so far are counted, and
+-- what waits is not.
+abbrev pub row_so_far : List Acceptance → List Event → Acceptance → TupleRow
+row_so_far accepted seen first =
+    let is_own : Acceptance → Bool = λ a. of_one_tuple a first in
+    record {
+      tuple = tuple_of first;
+      flow = first.flow;
+      accepted = count_by is_own (acceptances seen);
+      sent = count_by (passes is_own accepted) (filter_map sent_of seen);
+      dropped = count_by (passes is_own accepted) (filter_map dropped_of seen);
+      queued = 0;
+    }
+
+-- What a tally of those acceptances keeps where the events seen are counted: the five-tuples in order of first
+-- acceptance, their rows, and for each packet the place of its five-tuple.
+pub record AreTallied (tuples : List FiveTuple) (rows : List TupleRow) (places : List ℕ)
+    (accepted : List Acceptance) (seen : List Event) : Type 0 where
+  pub tuples_are : tuples ≡ map tuple_of (first_of_each of_one_tuple accepted)
+  pub apart : IsDistinct same_tuple tuples
+  pub rows_are : rows ≡ map (row_so_far accepted seen) (first_of_each of_one_tuple accepted)
+  pub places_are : AllZip (λ place a. slice_get tuples place ≡ Some (tuple_of a)) places accepted
+
+-- The tally is that of the acceptances and the events.
+abbrev pub IsTallied : Tally → List Acceptance → List Event → Type 0
+IsTallied tally accepted seen = AreTallied tally.tuples.keys tally.rows.items tally.places.items accepted seen
+
+-- the rows with one more for a five-tuple that is new
 abbrev pub with_row : List FiveTuple → List TupleRow → FiveTuple → ℕ → List TupleRow
-with_row tuples rows tuple flow = if has_tuple tuples tuple then rows else rows ++ empty_row tuple flow ∷ []
-
--- a row with one packet more that was accepted and waits, that no longer waits and was sent, or that no longer waits and was dropped
-abbrev pub one_accepted : TupleRow → TupleRow
-one_accepted row = record row { accepted = row.accepted + 1; queued = row.queued + 1 }
-
-abbrev pub one_sent : TupleRow → TupleRow
-one_sent row = record row { sent = row.sent + 1; queued = row.queued - 1 }
-
-abbrev pub one_dropped : TupleRow → TupleRow
-one_dropped row = record row { dropped = row.dropped + 1; queued = row.queued - 1 }
+with_row tuples rows tuple flow =
+    if list_any (same_tuple tuple) tuples then rows else rows ++ empty_row tuple flow ∷ []

@@ -1,10 +1,11 @@
 //! What became of the packets of each five-tuple.
 
-ghost use Rattle.std.specs.Prelude.{◌≡◌, ◌<◌, All, ◌+◌, IfOk, OnOk, length, take, [], slice_get, Some};
-ghost use Rattle.journal_core.specs.Happened.{fate_ids};
+ghost use Rattle.std.specs.Prelude.{◌≡◌, ◌<◌, ◌≤◌, All, ◌+◌, IfOk, OnOk, length, map, take, [], slice_get, Some};
+ghost use Rattle.packet_core.specs.Packets.{same_tuple};
+ghost use Rattle.journal_core.specs.Happened.{acceptances, fate_ids};
 ghost use Rattle.journal_core.specs.JournalLaws.{AreDistinct, FatesFollow, IdsInOrder};
-ghost use Rattle.journal_core.specs.Tallies.{IsBalanced, IsTallied, one_accepted, one_dropped, one_sent, with_row, with_tuple};
-ghost use Rattle.journal_core.specs.TupleRows.{tuple_rows};
+ghost use Rattle.journal_core.specs.Tallies.{IsBalanced, IsTallied, counted, settled, with_row};
+ghost use Rattle.journal_core.specs.TupleRows.{tuple_rows, with_new};
 
 use crate::event::Event;
 use crate::step::Memory;
@@ -30,34 +31,27 @@ pub struct TupleRow {
 }
 
 impl TupleRow {
-    /// One packet more was accepted, and waits.
-    fn accept(&mut self)
+    /// Counts the event, which is of one of its packets.
+    fn count(&mut self, event: &Event)
         requires accepted { self.old.accepted < u64.MAX }
-        requires queued { self.old.queued < u64.MAX }
-        ensures { self.new ≡ one_accepted self.old }
-    {
-        self.accepted += 1;
-        self.queued += 1;
-    }
-
-    /// One that waited was sent.
-    fn send(&mut self)
         requires sent { self.old.sent < u64.MAX }
-        requires queued { 0 < self.old.queued }
-        ensures { self.new ≡ one_sent self.old }
+        requires dropped { self.old.dropped < u64.MAX }
+        ensures { self.new ≡ counted event.now self.old }
     {
-        self.sent += 1;
-        self.queued -= 1;
+        match event {
+            Event::Accepted { .. } => self.accepted += 1,
+            Event::Sent { .. } => self.sent += 1,
+            Event::Dropped { .. } => self.dropped += 1,
+            Event::Closed { .. } => {}
+        }
     }
 
-    /// One that waited was dropped.
-    fn drop(&mut self)
-        requires dropped { self.old.dropped < u64.MAX }
-        requires queued { 0 < self.old.queued }
-        ensures { self.new ≡ one_dropped self.old }
+    /// Packets that were accepted and are neither sent nor dropped wait.
+    fn settle(&mut self)
+        requires { self.old.sent + self.old.dropped ≤ self.old.accepted }
+        ensures { self.new ≡ settled self.old }
     {
-        self.dropped += 1;
-        self.queued -= 1;
+        self.queued = self.accepted - self.sent - self.dropped;
     }
 }
 
@@ -74,7 +68,7 @@ struct Tally {
 impl Tally {
     /// The rows of no event.
     fn new(alloc: Global) -> Tally
-        ensures { IsTallied result [] }
+        ensures { IsTallied result [] [] }
     {
         Tally {
             tuples: IndexSet::new(alloc),
@@ -83,30 +77,26 @@ impl Tally {
         }
     }
 
-    /// Counts the event at that place in the journal, where those before it are counted.
-    fn count(&mut self, events: &[Event], place: usize) -> Result<(), Memory>
-        requires within { place < length events.now }
-        requires ids { IdsInOrder events.now }
-        requires follow { FatesFollow events.now }
-        requires once { AreDistinct (fate_ids events.now) }
-        requires before { IsTallied self.old (take place events.now) }
-        ensures { OnOk result (IsTallied self.new (take (place + 1) events.now)) }
+    /// A row for each five-tuple of an accepted packet, with nothing counted.
+    fn open(alloc: Global, events: &[Event]) -> Result<Tally, Memory>
+        ensures { IfOk result (λ tally. IsTallied tally (acceptances events.now) []) }
     {
-        match events[place] {
-            Event::Accepted { flow, packet, .. } => {
-                let row = self.place_of(packet.tuple(), flow)?;
-                self.places.push(row)?;
-                self.rows[row].accept();
-            }
-            Event::Sent { id, .. } => {
-                let row = self.places[id as usize];
-                self.rows[row].send();
-            }
-            Event::Dropped { id, .. } => {
-                let row = self.places[id as usize];
-                self.rows[row].drop();
-            }
-            Event::Closed { .. } => {}
+        let mut tally = Tally::new(alloc);
+        for place in 0..events.len() {
+            tally.add(events, place)?;
+        }
+        Ok(tally)
+    }
+
+    /// Gives a row to the packet that the event at that place accepts, where those before it have theirs.
+    fn add(&mut self, events: &[Event], place: usize) -> Result<(), Memory>
+        requires within { place < length events.now }
+        requires before { IsTallied self.old (acceptances (take place events.now)) [] }
+        ensures { OnOk result (IsTallied self.new (acceptances (take (place + 1) events.now)) []) }
+    {
+        if let Event::Accepted { flow, packet, .. } = events[place] {
+            let row = self.place_of(packet.tuple(), flow)?;
+            self.places.push(row)?;
         }
         Ok(())
     }
@@ -115,8 +105,10 @@ impl Tally {
     fn place_of(&mut self, tuple: FiveTuple, flow: u32) -> Result<usize, Memory>
         requires { length self.old.rows.items ≡ length self.old.tuples.keys }
         ensures place { IfOk result (λ place. slice_get self.new.tuples.keys place ≡ Some tuple) }
-        ensures tuples { OnOk result (self.new.tuples.keys ≡ with_tuple self.old.tuples.keys tuple) }
-        ensures rows { OnOk result (self.new.rows.items ≡ with_row self.old.tuples.keys self.old.rows.items tuple flow) }
+        ensures tuples { OnOk result (self.new.tuples.keys ≡ with_new same_tuple self.old.tuples.keys tuple) }
+        ensures rows {
+            OnOk result (self.new.rows.items ≡ with_row self.old.tuples.keys self.old.rows.items tuple flow)
+        }
         ensures places { self.new.places ≡ self.old.places }
     {
         let (place, is_new) = self.tuples.insert_full(tuple)?;
@@ -132,6 +124,44 @@ impl Tally {
         }
         Ok(place)
     }
+
+    /// Counts the events.
+    fn count_all(&mut self, events: &[Event])
+        requires ids { IdsInOrder events.now }
+        requires follow { FatesFollow events.now }
+        requires before { IsTallied self.old (acceptances events.now) [] }
+        ensures { IsTallied self.new (acceptances events.now) events.now }
+    {
+        for place in 0..events.len() {
+            self.count(events, place);
+        }
+    }
+
+    /// Counts the event at that place in the row of its packet, where those before it are counted.
+    fn count(&mut self, events: &[Event], place: usize)
+        requires within { place < length events.now }
+        requires few { place < u64.MAX }
+        requires ids { IdsInOrder events.now }
+        requires follow { FatesFollow events.now }
+        requires before { IsTallied self.old (acceptances events.now) (take place events.now) }
+        ensures { IsTallied self.new (acceptances events.now) (take (place + 1) events.now) }
+    {
+        let event = &events[place];
+        if let Some(id) = event.packet_id() {
+            let row = self.places[id as usize];
+            self.rows[row].count(event);
+        }
+    }
+
+    /// Sets in each row how many packets wait.
+    fn settle(&mut self)
+        requires { All (λ row. row.sent + row.dropped ≤ row.accepted) self.old.rows.items }
+        ensures { self.new.rows.items ≡ map settled self.old.rows.items }
+    {
+        for place in 0..self.rows.len() {
+            self.rows[place].settle();
+        }
+    }
 }
 
 /// The rows of a journal.
@@ -142,9 +172,8 @@ pub fn gather_rows(alloc: Global, events: &[Event]) -> Result<Vec<TupleRow>, Mem
     ensures rows { IfOk result (λ rows. rows.items ≡ tuple_rows events.now) }
     ensures balance { IfOk result (λ rows. All IsBalanced rows.items) }
 {
-    let mut tally = Tally::new(alloc);
-    for place in 0..events.len() {
-        tally.count(events, place)?;
-    }
+    let mut tally = Tally::open(alloc, events)?;
+    tally.count_all(events);
+    tally.settle();
     Ok(tally.rows)
 }
