@@ -1,12 +1,14 @@
-ghost use Rattle.std.specs.Prelude.{◌≡◌, ◌+◌, IfOk, IfSome, nat_lt, if◌then◌else◌, slice_get, vec_len};
+//! How long the rounds of a workload take.
+
+ghost use Rattle.std.specs.Prelude.{◌≡◌, ◌+◌, [], IfOk, IfSome, nat_lt, if◌then◌else◌, slice_get, vec_len};
 ghost use Rattle.bench.specs.Traffic.{GoesTo, GoInTurn};
 ghost use Rattle.packet_core.specs.Params.{standard_fields};
 
-use crate::workload::{ROUNDS, Round, Workload};
+use crate::workload::{Keeper, ROUNDS, Round, Workload};
 use packet_core::{
     Ecn, FiveTuple, Ip, LengthOutOfRange, Packet, ParamFields, ParamName, Params, Seed,
 };
-use sched_core::Sched;
+use sched_core::{Keeps, Sched, Stored, Unstored};
 use std::alloc::{AllocError, Global};
 use std::io;
 use std::time::Instant;
@@ -101,7 +103,8 @@ impl Traffic {
     /// The next packet, which goes to the next flow.
     fn packet(&mut self) -> Option<Packet>
         ensures packet { result ≡ slice_get self.old.packets.items self.old.next }
-        ensures next { IfSome result (λ _. self.new.next ≡ (if nat_lt (self.old.next + 1) (vec_len self.old.packets) then self.old.next + 1 else 0)) }
+        ensures next { IfSome result (λ _. self.new.next
+            ≡ (if nat_lt (self.old.next + 1) (vec_len self.old.packets) then self.old.next + 1 else 0)) }
         ensures packets { self.new.packets ≡ self.old.packets }
     {
         let packet = *self.packets.get(self.next)?;
@@ -157,10 +160,26 @@ pub fn least_nanoseconds(rt: &HostRuntime, workload: &Workload) -> Result<u128, 
     Ok(least)
 }
 
-/// The time that the rounds took once, in nanoseconds. What makes the packets and fills the queues before isn't counted.
+/// The time that the rounds took once, in nanoseconds.
 fn nanoseconds(rt: &HostRuntime, workload: &Workload) -> Result<u128, Fault> {
+    match workload.keeper {
+        Keeper::Stored => nanoseconds_over(rt, workload, Stored::new(rt.alloc())),
+        Keeper::Unstored => nanoseconds_over(rt, workload, Unstored::new()),
+    }
+}
+
+/// The same with a journal that tells its events to that keeper. What makes the packets and fills the queues before
+/// isn't counted.
+fn nanoseconds_over<K: Keeps>(
+    rt: &HostRuntime,
+    workload: &Workload,
+    keeper: K,
+) -> Result<u128, Fault>
+    requires { K.events keeper ≡ [] }
+{
     let mut traffic = Traffic::try_new(rt.alloc(), workload)?;
-    let mut sched = Sched::try_new(rt.alloc(), params_of(workload)?, Seed([0; 16]))?;
+    let mut sched =
+        Sched::try_with_keeper(rt.alloc(), params_of(workload)?, Seed([0; 16]), keeper)?;
     let waiting = workload.waiting_in_all();
     fill(&mut sched, &mut traffic, waiting)?;
     if matches!(workload.round, Round::Enqueue | Round::TwoEnqueuesDequeue) {
@@ -177,7 +196,8 @@ fn nanoseconds(rt: &HostRuntime, workload: &Workload) -> Result<u128, Fault> {
 
 /// The workload's parameters, and otherwise the standard ones.
 fn params_of(workload: &Workload) -> Result<Params, ParamName>
-    ensures { IfOk result (λ p. p ≡ record standard_fields { limit = workload.now.limit; ecn = workload.now.ecn_use; classify = workload.now.classify }) }
+    ensures { IfOk result (λ p. p ≡ record standard_fields {
+        limit = workload.now.limit; ecn = workload.now.ecn_use; classify = workload.now.classify }) }
 {
     Params::try_new(ParamFields {
         limit: workload.limit,
@@ -188,7 +208,11 @@ fn params_of(workload: &Workload) -> Result<Params, ParamName>
 }
 
 /// That many packets come before the first round.
-fn fill(sched: &mut Sched, traffic: &mut Traffic, packets: u64) -> Result<(), Refused> {
+fn fill<K: Keeps>(
+    sched: &mut Sched<K>,
+    traffic: &mut Traffic,
+    packets: u64,
+) -> Result<(), Refused> {
     for _ in 0..packets {
         enqueue(sched, traffic, START / 1_000)?;
     }
@@ -196,7 +220,11 @@ fn fill(sched: &mut Sched, traffic: &mut Traffic, packets: u64) -> Result<(), Re
 }
 
 /// All rounds of a workload.
-fn rounds(sched: &mut Sched, traffic: &mut Traffic, workload: &Workload) -> Result<(), Refused> {
+fn rounds<K: Keeps>(
+    sched: &mut Sched<K>,
+    traffic: &mut Traffic,
+    workload: &Workload,
+) -> Result<(), Refused> {
     let mut clock = Clock::of(workload);
     // A loop for each kind of round, so that the kind isn't asked in the time that is measured.
     match workload.round {
@@ -235,7 +263,11 @@ fn rounds(sched: &mut Sched, traffic: &mut Traffic, workload: &Workload) -> Resu
 }
 
 /// The next packet comes, at a moment in microseconds.
-fn enqueue(sched: &mut Sched, traffic: &mut Traffic, moment: u64) -> Result<(), Refused> {
+fn enqueue<K: Keeps>(
+    sched: &mut Sched<K>,
+    traffic: &mut Traffic,
+    moment: u64,
+) -> Result<(), Refused> {
     let packet = traffic.packet().ok_or(Refused)?;
     if sched.enqueue(moment, 0, packet).is_err() {
         return Err(Refused);
@@ -244,7 +276,7 @@ fn enqueue(sched: &mut Sched, traffic: &mut Traffic, moment: u64) -> Result<(), 
 }
 
 /// The device takes a packet, at a moment in microseconds.
-fn dequeue(sched: &mut Sched, moment: u64) -> Result<(), Refused> {
+fn dequeue<K: Keeps>(sched: &mut Sched<K>, moment: u64) -> Result<(), Refused> {
     if sched.dequeue(moment).is_err() {
         return Err(Refused);
     }

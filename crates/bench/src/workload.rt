@@ -1,3 +1,5 @@
+//! The workloads: what comes, what waits and what a round does.
+
 ghost use Rattle.std.specs.Prelude.{◌≡◌, ◌*◌};
 
 use packet_core::{Classify, Ecn, EcnUse};
@@ -16,6 +18,15 @@ pub enum Round {
     Enqueue,
     /// Two enqueues, one dequeue.
     TwoEnqueuesDequeue,
+}
+
+/// What the journal tells its events to.
+#[derive(Clone, Copy, Debug, PartialEq, Eq)]
+pub enum Keeper {
+    /// One that stores them all.
+    Stored,
+    /// One that stores none.
+    Unstored,
 }
 
 /// A workload: packets of 1,000 bytes that come to some flows in turn. Before its rounds as many packets wait in
@@ -42,6 +53,8 @@ pub struct Workload {
     pub ecn_use: EcnUse,
     /// How a packet's flow is found.
     pub classify: Classify,
+    /// What the journal tells its events to.
+    pub keeper: Keeper,
 }
 
 impl Workload {
@@ -65,6 +78,7 @@ const OVERLOAD: Workload = Workload {
     ecn: Ecn::NotEct,
     ecn_use: EcnUse::Drop,
     classify: Classify::Dport,
+    keeper: Keeper::Stored,
 };
 
 /// One flow in which ten packets wait.
@@ -106,7 +120,7 @@ const CODEL: Workload = Workload {
 };
 
 /// All workloads.
-pub const WORKLOADS: [Workload; 11] = [
+pub const WORKLOADS: [Workload; 15] = [
     ONE,
     FEW,
     MANY,
@@ -147,5 +161,29 @@ pub const WORKLOADS: [Workload; 11] = [
         about: "as many, with flows chosen by the hash",
         classify: Classify::Hash,
         ..MANY
+    },
+    Workload {
+        name: "one_unstored",
+        about: "as one, with a journal that stores no event",
+        keeper: Keeper::Unstored,
+        ..ONE
+    },
+    Workload {
+        name: "few_unstored",
+        about: "as few, with a journal that stores no event",
+        keeper: Keeper::Unstored,
+        ..FEW
+    },
+    Workload {
+        name: "many_unstored",
+        about: "as many, with a journal that stores no event",
+        keeper: Keeper::Unstored,
+        ..MANY
+    },
+    Workload {
+        name: "codel_unstored",
+        about: "as codel, with a journal that stores no event",
+        keeper: Keeper::Unstored,
+        ..CODEL
     },
 ];

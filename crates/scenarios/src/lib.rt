@@ -3,6 +3,8 @@
 #![tactic(auto)]
 
 #[cfg(test)]
+mod keepers;
+#[cfg(test)]
 mod overflows;
 #[cfg(test)]
 mod schedulers;

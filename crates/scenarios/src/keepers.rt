@@ -1,0 +1,33 @@
+//! Schedulers whose journals tell their events to different keepers.
+
+use crate::schedulers::{four_flows, packet, scheduler};
+use packet_core::{Ecn, Params, Seed};
+use sched_core::{Keeps, Sched, Unstored};
+use std::process::Abort;
+use std::test::Fail;
+
+/// Makes a million steps: three enqueues and a dequeue every 100 microseconds, to four flows in turn.
+fn make_steps<K: Keeps>(sched: &mut Sched<K>) -> Result<(), Fail> {
+    for round in 0..250_000 {
+        for dport in 0..3 {
+            sched.enqueue(100 * round, 0, packet(dport, 1_000, Ecn::NotEct)?)?;
+        }
+        sched.dequeue(100 * round)?;
+    }
+    Ok(())
+}
+
+#[test]
+fn totals_without_stored_events(rt: HostRuntime) -> Result<(), Fail> {
+    let mut stored = scheduler(&rt, four_flows())?;
+    make_steps(&mut stored)?;
+    let params = Params::try_new(four_flows())?;
+    let mut unstored =
+        Sched::try_with_keeper(rt.alloc(), params, Seed([0; 16]), Unstored::new())?;
+    make_steps(&mut unstored)?;
+    assert_eq!(rt; unstored.totals(), stored.totals());
+    assert_eq!(rt; unstored.totals().accepted, 750_000);
+    assert!(rt; unstored.totals().dropped_codel > 0);
+    assert!(rt; unstored.totals().dropped_overflow > 0);
+    Ok(())
+}
