@@ -160,9 +160,7 @@ impl<K: Keeps> Sched<K> {
             lane,
             packet,
         })?;
-        if self.room == 0 {
-            self.reserve(1)?;
-        }
+        self.reserve(1)?;
         Ok(self.admit(moment, lane, packet))
     }
 

@@ -1,8 +1,10 @@
 use Rattle.std.proofs.Common.{◌∙◌}
-use Rattle.sched_core.proofs.KeptScheduler.{kept_queued}
+use Rattle.sched_core.specs.Kept.{scheduler_of}
+use Rattle.sched_core.proofs.KeptScheduler.{waits_at}
 use Rattle.sched_core.proofs.sched.Sched.queued.Goals as goal
 
 pub returns-clause-journal : goal.returns-clause-journal
 returns-clause-journal g c =
     let s = c.self.inside in
-    rw (← c.self.view_is) (c.waiting.ensures.value ∙ kept_queued s.params s.seed s.backlog s.journal s.last_moment s.room s.is_closed c.self.invariant)
+    let h = c.self.invariant in
+    rw (← c.self.view_is) (c.waiting.ensures.value ∙ waits_at s.params s.seed ((scheduler_of s).standing.state) s.journal.events h.some h.flows h.history)
