@@ -31,11 +31,13 @@ use Rattle.journal_core.specs.JournalDrops.{with_drops}
 use Rattle.fair_core.specs.FqCodel.{fq_codel, fq_codel_policy}
 use Rattle.journal_core.specs.Happened.{Acceptance, acceptance_of, acceptances, fate_ids, fate_of, is_among, without_fate}
 use Rattle.journal_core.specs.History.{AreCounts, IsHistory}
-use Rattle.sched_core.specs.Kept.{IsBookKept, closes_left}
+use Rattle.journal_core.specs.JournalLaws.{JournalLaws, WaitWithoutFate}
+use Rattle.sched_core.specs.declared.sched.Sched.TheInside.{Inside}
+use Rattle.sched_core.specs.Kept.{IsBookKept, IsKept, closes_left, scheduler_of}
 use Rattle.fair_core.specs.Overflow.{Overflow}
-use Rattle.sched_core.specs.Schedulers.{ComparesFew, IsServed, Scheduler}
+use Rattle.sched_core.specs.Schedulers.{ComparesFew, IsServed, Scheduler, discipline_of, flows_of}
 use Rattle.journal_core.specs.State.{State, arrival, refusal_of}
-use Rattle.journal_core.specs.Statistics.{length_named}
+use Rattle.journal_core.specs.Statistics.{length_named, statistics}
 use Rattle.journal_core.specs.Steps.{Makes, Serves, dequeue_answer, drop_event, sent_events}
 use Rattle.fair_core.specs.Turns.{Service}
 use Rattle.flow_core.proofs.ReadLemmas.{length-at}
@@ -44,7 +46,7 @@ use Rattle.journal_core.proofs.EventLemmas.{all_found}
 use Rattle.journal_core.proofs.HistoryEvents.{history_accepts}
 use Rattle.journal_core.proofs.HistoryRuns.{keeps_makes}
 use Rattle.journal_core.proofs.KnownPackets.{waiting_known}
-use Rattle.journal_core.proofs.LawsOfHistory.{waits_of_history}
+use Rattle.journal_core.proofs.LawsOfHistory.{laws_of_history, waits_of_history}
 use Rattle.journal_core.proofs.ListLemmas.{ByRecursion-append, ByRecursion-parts, length_as_sum}
 use Rattle.journal_core.proofs.RefusalLemmas.{close_open, dequeue_next, enqueue_open}
 use Rattle.journal_core.proofs.WaitingPackets.{by_queues}
@@ -116,6 +118,9 @@ module _ (p : ParamFields) (seed : Seed) where
       ∙ by_queues (λ _. 1) 0 queues (without_fate events) (λ i under. rw (let e : 0 + i ≡ i = omega arith in e) (waits i))
       (recursion_from_All Among (without_fate events) (All-filter (λ a. not (is_among (fate_ids events) a.id)) Among (acceptances events) among))
       ∙ sym (length_as_sum (without_fate events))
+
+  pub kept_queued : {s : State FairQueues} {spare room : ℕ} {book : Book} → IsBookKept p seed s spare book room → waiting_in s.queues.lists ≡ length (without_fate book.events)
+  kept_queued {s} {book = book} h = waits_at s book.events h.some h.flows h.history
 
   -- a step that is made, whose events took their room and are counted
   kept_on : {old new : State FairQueues} {spare spare' room room' : ℕ} {book book' : Book} (step : Step) (said : Answer) → IsBookKept p seed old spare book room
@@ -388,3 +393,13 @@ module _ (p : ParamFields) (seed : Seed) where
   pub kept_counted : (held : Held) (book : Book) (last room comparisons : ℕ) (closed : Bool) → IsBookKept p seed (state_of held last closed) held.room book room
       → IsBookKept p seed (state_of (record held { comparisons = comparisons }) last closed) held.room book room
   kept_counted held book last room comparisons closed h = h
+
+-- what a scheduler's invariant says of the scheduler as callers see it
+pub seen_laws : {K : Type 0} (s : Inside K) (v : Scheduler) → scheduler_of s ≡ v → IsKept s → JournalLaws (discipline_of v).flow_of v.standing.events
+seen_laws s v e h = rw (← e) (laws_of_history (fq_codel s.params s.seed).flow_of (queue_of s.backlog.queues) s.journal.events s.backlog.arrived s.last_moment s.is_closed h.history)
+
+pub seen_waits : {K : Type 0} (s : Inside K) (v : Scheduler) → scheduler_of s ≡ v → IsKept s → WaitWithoutFate (queue_of (flows_of v)) v.standing.events
+seen_waits s v e h = rw (← e) (waits_of_history (fq_codel s.params s.seed).flow_of (queue_of s.backlog.queues) s.journal.events s.backlog.arrived s.last_moment s.is_closed h.history)
+
+pub seen_queued : {K : Type 0} (s : Inside K) (v : Scheduler) → scheduler_of s ≡ v → IsKept s → (statistics v.standing.events).queued ≡ waiting_in (flows_of v).lists
+seen_queued s v e h = rw (← e) (sym (kept_queued s.params s.seed h))

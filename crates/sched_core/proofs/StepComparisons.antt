@@ -1,9 +1,10 @@
 -- The comparisons of two flows' bytes in a whole step.
 use Rattle.std.proofs.Common.{◌≡◌, ℕ, zero, suc, ◌+◌, ◌-◌, ◌*◌, ◌^◌, ◌≤◌, length, inl, inr, arith}
-use Rattle.std.proofs.Math.Nat.{mul_comm, pow-le-pow_right}
+use Rattle.std.proofs.Math.Nat.{mul_comm}
 use Rattle.std.proofs.lemmas.Bool.{cases_lt}
 use Rattle.std.proofs.lemmas.Nat.{pow_below}
 use Rattle.flow_core.specs.Winners.{CountsFew, IsLevels}
+use Rattle.flow_core.proofs.NodeLemmas.{levels_least}
 use Rattle.sched_core.specs.Schedulers.{ComparesFew, Scheduler}
 
 -- a number is below the power of two by it
@@ -16,24 +17,13 @@ levels_from : (flows enough : ℕ) → flows ≤ 2 ^ enough → (levels : ℕ) �
 levels_from flows zero is = (0, record { enough = is; least = λ fewer few. omega arith })
 levels_from flows (suc n) is =
     elim (cases_lt (2 ^ n) flows) [
-      | inl short ↦ (suc n, record { enough = is; least = λ fewer few. above flows n fewer short few })
+      | inl short ↦ (suc n, levels_least flows (suc n) is (omega arith))
       | inr less ↦ levels_from flows n less
     ]
-  where
-    above : (flows n fewer : ℕ) → suc (2 ^ n) ≤ flows → flows ≤ 2 ^ fewer → suc n ≤ fewer
-    above flows n fewer short few =
-        elim (cases_lt n fewer) [
-          | inl under ↦ under
-          | inr past ↦ let power = pow-le-pow_right {n = 2} (omega arith) {i = fewer} {j = n} past in absurd (omega arith)
-        ]
 
 -- A step whose comparisons are few for so many changes, and which has as many events.
 pub few_compared : (old new : Scheduler) (changes : ℕ) → length new.standing.events ≡ length old.standing.events + changes → CountsFew old.params.flows changes 0 new.comparisons → ComparesFew old new
 few_compared old new changes events few =
     let tree = levels_from old.params.flows old.params.flows (below_power old.params.flows) in
-    record { levels = tree.0; over_flows = tree.1; most = few_told tree.0 (few.most tree.0 tree.1) }
-  where
-    few_told : (levels : ℕ) → new.comparisons ≤ 0 + changes * levels → new.comparisons ≤ levels * (length new.standing.events - length old.standing.events)
-    few_told levels most =
-        let made : length new.standing.events - length old.standing.events ≡ changes = omega arith in
-        rw made (omega (arith, most, mul_comm levels changes))
+    let made : length new.standing.events - length old.standing.events ≡ changes = omega arith in
+    record { levels = tree.0; over_flows = tree.1; most = rw made (omega (arith, few.most tree.0 tree.1, mul_comm tree.0 changes)) }

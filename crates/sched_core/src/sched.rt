@@ -307,6 +307,7 @@ impl<K: Keeps> Sched<K> {
     }
 
     /// The laws of the journal at every moment, whether its events are stored or not.
+    #[tactic(auto, using(crate::proofs::KeptScheduler::seen_waits))]
     pub fn journal_laws(&self)
         ensures laws { JournalLaws (discipline_of self.now).flow_of self.now.standing.events }
         ensures waiting { WaitWithoutFate (queue_of (flows_of self.now)) self.now.standing.events }
@@ -337,6 +338,7 @@ impl<K: Keeps> Sched<K> {
     }
 
     /// How many packets wait.
+    #[tactic(auto, using(crate::proofs::KeptScheduler::seen_queued))]
     pub fn queued(&self) -> u64
         ensures value { result ≡ waiting_in (flows_of self.now).lists }
         ensures journal { result ≡ (statistics self.now.standing.events).queued }
