@@ -1,10 +1,12 @@
 -- How an acceptance, a dequeue and a close keep the flows and their journal.
-use Rattle.std.proofs.Common.{◌≡◌, ℕ, suc, ◌+◌, ◌-◌, ◌<◌, ◌≤◌, ◌^◌, Bool, true, false, not, All, List, [], ◌∷◌, ◌++◌, map, get_or, set, length, sum_by, Option, Some, None, option_map, refl, sym, ap, subst, ◌∙◌, arith, append_assoc, append-nil, length-append}
+use Rattle.std.proofs.Common.{◌≡◌, ℕ, zero, suc, ◌+◌, ◌-◌, ◌*◌, ◌<◌, ◌≤◌, ◌^◌, Bool, true, false, not, All, List, [], ◌∷◌, ◌++◌, map, get_or, set, length, sum_by, Option, Some, None, option_map, refl, sym, ap, subst, ◌∙◌, inl, inr, arith, append_assoc, append-nil, length-append}
 use Rattle.std.specs.List.{AllByRecursion, flat_map}
-use Rattle.std.proofs.lemmas.Bool.{eq-eqb}
+use Rattle.std.proofs.Math.Nat.{mul_comm}
+use Rattle.std.proofs.lemmas.Bool.{cases_lt, eq-eqb}
 use Rattle.std.proofs.lemmas.List.{length-map, length-set}
 use Rattle.std.proofs.lemmas.List.Elements.{All-filter, filter_map-append, recursion_from_All}
 use Rattle.std.proofs.lemmas.List.FromFn.{length-range_with_len}
+use Rattle.std.proofs.lemmas.Nat.{pow_below}
 use Rattle.packet_core.specs.Packets.{PacketParts}
 use Rattle.packet_core.specs.declared.flow.Seed.{Seed}
 use Rattle.packet_core.specs.declared.packet.Waiting.{Waiting}
@@ -12,7 +14,7 @@ use Rattle.packet_core.specs.declared.params.ParamFields.{ParamFields}
 use Rattle.codel_core.specs.Verdict.{sent_ecn}
 use Rattle.codel_core.specs.declared.served.Served.{Served}
 use Rattle.flow_core.specs.FlowLists.{queue_at, waiting_in}
-use Rattle.flow_core.specs.Winners.{CountsFew}
+use Rattle.flow_core.specs.Winners.{CountsFew, IsLevels}
 use Rattle.journal_core.specs.declared.event.Cause.{Cause}
 use Rattle.journal_core.specs.declared.event.Cause.TheVariants as cause
 use Rattle.journal_core.specs.declared.event.Event.{Event}
@@ -40,6 +42,7 @@ use Rattle.journal_core.specs.State.{State, arrival, refusal_of}
 use Rattle.journal_core.specs.Statistics.{length_named, statistics}
 use Rattle.journal_core.specs.Steps.{Makes, Serves, dequeue_answer, drop_event, sent_events}
 use Rattle.fair_core.specs.Turns.{Service}
+use Rattle.flow_core.proofs.NodeLemmas.{levels_least}
 use Rattle.flow_core.proofs.ReadLemmas.{length-at}
 use Rattle.journal_core.proofs.CountLemmas.{counts_accept, counts_close, counts_drops, counts_send}
 use Rattle.journal_core.proofs.EventLemmas.{all_found}
@@ -56,7 +59,27 @@ use Rattle.fair_core.proofs.FqCodelPolicy.{policy_drops}
 use Rattle.fair_core.proofs.NewFlowsFirst.{new_flows_first}
 use Rattle.fair_core.proofs.ServingChains.{chain_bound}
 use Rattle.sched_core.proofs.FqCodelRuns.{flow_below, steps_as_many}
-use Rattle.sched_core.proofs.StepComparisons.{few_compared}
+
+-- a number is below the power of two by it
+below_power : (n : ℕ) → n ≤ 2 ^ n
+below_power zero = omega arith
+below_power (suc n) = omega (arith, below_power n, pow_below n (suc n) (omega arith))
+
+-- the least number of doublings, looked for from one that is enough
+levels_from : (flows enough : ℕ) → flows ≤ 2 ^ enough → (levels : ℕ) × IsLevels flows levels
+levels_from flows zero is = (0, record { enough = is; least = λ fewer few. omega arith })
+levels_from flows (suc n) is =
+    elim (cases_lt (2 ^ n) flows) [
+      | inl short ↦ (suc n, levels_least flows (suc n) is (omega arith))
+      | inr less ↦ levels_from flows n less
+    ]
+
+-- A step whose comparisons are few for so many changes, and which has as many events.
+pub few_compared : (old new : Scheduler) (changes : ℕ) → length new.standing.events ≡ length old.standing.events + changes → CountsFew old.params.flows changes 0 new.comparisons → ComparesFew old new
+few_compared old new changes events few =
+    let tree = levels_from old.params.flows old.params.flows (below_power old.params.flows) in
+    let made : length new.standing.events - length old.standing.events ≡ changes = omega arith in
+    record { levels = tree.0; over_flows = tree.1; most = rw made (omega (arith, few.most tree.0 tree.1, mul_comm tree.0 changes)) }
 
 -- the state of flows at that moment
 abbrev pub state_of : Held → ℕ → Bool → State FairQueues
@@ -69,35 +92,12 @@ standing_of s book = record { state = s; events = book.events }
 abbrev IsNamed : List Event → Waiting → Type 0
 IsNamed events w = length_named (acceptances events) w.id ≡ w.packet.len
 
--- Each event of a step that is made is a fate, the acceptance or the close.
-record Adds {Q : Type 0} (old new : State Q) (made : List Event) : Type 0 where
-  each : length made + old.next_id + closes_left new.closed ≡ length (fate_ids made) + new.next_id + closes_left old.closed
-  few : old.next_id ≤ 2 ^ 40 → new.next_id ≤ 2 ^ 40
-  soon : new.last < 2 ^ 60
-
 -- each drop is a fate, and so is what is sent
 all_fates : (moment : ℕ) (why : Cause) (ws : List Waiting) (given : Option Given) → let made = map (drop_event moment why) ws ++ sent_events moment given in
     length (fate_ids made) ≡ length made
 all_fates moment why [] None = refl
 all_fates moment why [] (Some g) = refl
 all_fates moment why (w ∷ ws) given = ap suc (all_fates moment why ws given)
-
-step_adds : {Q : Type 0} (d : Discipline Q) (old new : State Q) (step : Step) (said : Answer) (made : List Event)
-    → refusal_of old step ≡ None → Makes d old step said made new → Adds old new made
-step_adds d old new (Enqueue moment lane packet) said made fits m =
-    let open' = enqueue_open old moment lane packet fits in
-    let still = ap closes_left m.1.closed in
-    let fates : length (fate_ids (map (drop_event moment cause.Overflow) m.1.lost)) ≡ length (map (drop_event moment cause.Overflow) m.1.lost) =
-        rw append-nil at (all_fates moment cause.Overflow m.1.lost None) in
-    rw m.1.told (record { each = omega (arith, m.1.next_id); few = λ few. omega (arith, m.1.next_id, open'.1); soon = rw m.1.last open'.0.next.soon })
-step_adds d old new (Dequeue moment) said made fits m =
-    let still = ap closes_left m.2.closed in
-    let fates = all_fates moment cause.Codel m.2.dropped m.0 in
-    rw m.2.told (record { each = omega (arith, m.2.next_id); few = λ few. omega (arith, m.2.next_id); soon = rw m.2.last (dequeue_next old moment fits).soon })
-step_adds d old new (Close moment) said made fits m =
-    let open' = close_open old moment fits in
-    let one : closes_left old.closed ≡ 1 = ap closes_left open'.open' in
-    rw (m.1.told, m.1.state) (record { each = omega arith; few = λ few. few; soon = open'.next.soon })
 
 module _ (p : ParamFields) (seed : Seed) where
   abbrev pub fifo : IsFifoByFlow (fq_codel p seed) queue_of
@@ -119,17 +119,14 @@ module _ (p : ParamFields) (seed : Seed) where
       (recursion_from_All Among (without_fate events) (All-filter (λ a. not (is_among (fate_ids events) a.id)) Among (acceptances events) among))
       ∙ sym (length_as_sum (without_fate events))
 
-  pub kept_queued : {s : State FairQueues} {spare room : ℕ} {book : Book} → IsBookKept p seed s spare book room → waiting_in s.queues.lists ≡ length (without_fate book.events)
-  kept_queued {s} {book = book} h = waits_at s book.events h.some h.flows h.history
-
-  -- a step that is made, whose events took their room and are counted
+  -- A step that is made, whose events took their room and are counted: each of them is a fate, the acceptance or the close.
   kept_on : {old new : State FairQueues} {spare spare' room room' : ℕ} {book book' : Book} (step : Step) (said : Answer) → IsBookKept p seed old spare book room
       → (a : Advances (fq_codel p seed) (standing_of old book) step said (standing_of new book')) → book'.room ≡ book.room - length a.made → AreCounts book'.counts book'.events
+      → length a.made + old.next_id + closes_left new.closed ≡ length (fate_ids a.made) + new.next_id + closes_left old.closed → new.next_id ≤ 2 ^ 40 → new.last < 2 ^ 60
       → room' ≤ spare' → room' + new.next_id ≡ room + old.next_id → IsBookKept p seed new spare' book' room'
-  kept_on {old} {new} {spare} {spare'} {room} {room'} {book} {book'} step said h a taken counts reserved rooms =
+  kept_on {old} {new} {spare} {spare'} {room} {room'} {book} {book'} step said h a taken counts each few soon reserved rooms =
       let d = fq_codel p seed in
       let events = book.events ++ a.made in
-      let adds = step_adds d old new step said a.made a.fits a.makes in
       let flows = steps_as_many (fq_codel_policy p) (policy_drops p) p.flows d.flow_of old new step said a.made (rw a.fits a.makes) ∙ h.flows in
       let before = h.history in
       let after = keeps_makes d queue_of fifo old new step said a.made book.events a.fits a.makes before in
@@ -142,12 +139,12 @@ module _ (p : ParamFields) (seed : Seed) where
       record {
         some = h.some;
         flows = flows;
-        space = omega (arith, h.space, adds.each, before.left, after.left, taken);
+        space = omega (arith, h.space, before.left, after.left);
         reserved = reserved;
-        long = omega (arith, h.long, adds.each, before.left, after.left);
+        long = omega (arith, h.long, before.left, after.left);
         accepted = accepted ∙ ids;
-        few = adds.few h.few;
-        soon = adds.soon;
+        few = few;
+        soon = soon;
         history = rw a.journal after;
         counts = counts;
       }
@@ -155,9 +152,11 @@ module _ (p : ParamFields) (seed : Seed) where
   -- a close
   pub kept_closes : {s : State FairQueues} {spare room : ℕ} {book : Book} (moment : ℕ) → refusal_of s (Close moment) ≡ None
       → IsBookKept p seed s spare book room → IsBookKept p seed (record s { last = moment; closed = true }) spare (with_event book (Closed moment) book.counts) room
-  kept_closes {book = book} moment fits h =
+  kept_closes {s} {book = book} moment fits h =
+      let open' = close_open s moment fits in
+      let one : closes_left s.closed ≡ 1 = ap closes_left open'.open' in
       kept_on (Close moment) answer.Closed h (record { fits = fits; made = Closed moment ∷ []; makes = (refl, record { told = refl; state = refl }); journal = refl })
-      refl (counts_close book.counts book.events moment h.counts) h.reserved refl
+      refl (counts_close book.counts book.events moment h.counts) (omega arith) h.few open'.next.soon h.reserved refl
 
 -- what holds at the heads of all queues holds of each batch that leaves them
 all_in_batches : (P : Waiting → Type 0) (batches : List Batch)
@@ -237,7 +236,11 @@ module _ {p : ParamFields} {seed : Seed} {held mid new : Held} {book book' : Boo
       let each = length-map lost (drop_event moment cause.Overflow) in
       let room_is : new.room ≡ mid.room = ap (λ (x : Held). x.room) a.drops.rest in
       let next : new.arrived ≡ held.arrived + 1 = ap (λ (h : Held). h.arrived) a.drops.rest ∙ a.arrived in
-      kept_on p seed (Enqueue moment lane packet) answer.Accepted h advances (omega arith) (rw a.drops.journal counts) (omega (arith, h.reserved, a.reserved)) (omega (arith, a.some))
+      let open' = enqueue_open (state_of held last closed) moment lane packet a.fits in
+      let drops = map (drop_event moment cause.Overflow) lost in
+      let fates : length (fate_ids drops) ≡ length drops = rw append-nil at (all_fates moment cause.Overflow lost None) in
+      kept_on p seed (Enqueue moment lane packet) answer.Accepted h advances (omega arith) (rw a.drops.journal counts)
+      (omega arith) (omega (arith, open'.1)) open'.0.next.soon (omega (arith, h.reserved, a.reserved)) (omega (arith, a.some))
 
   -- the comparisons since the arrival, and the events
   pub few_admitted : CountsFew p.flows (1 + length lost) 0 new.comparisons
@@ -334,7 +337,8 @@ module _ (p : ParamFields) (seed : Seed) where
       let waiting = waiting_known (fq_codel p seed).flow_of (queue_of held.queues) book.events held.arrived last closed h.history left.0 in
       let named = (ByRecursion-parts (IsNamed book.events) (packets_in s.service) (queue_of held'.queues left.0) (rw left.1 at waiting)).0 in
       kept_on p seed (Dequeue moment) (dequeue_answer (given_in s.service)) h (record { fits = fits; made = served_events moment s.service; makes = (given_in s.service, refl, served s last closed arrived); journal = journal_is s })
-      (rw (book_is s) (served_room book moment s.service)) (rw (book_is s) (served_counts book moment s.service named h.counts)) (rw same_room h.reserved) (ap (λ n. room + n) arrived)
+      (rw (book_is s) (served_room book moment s.service)) (rw (book_is s) (served_counts book moment s.service named h.counts))
+      (omega (arith, all_fates moment cause.Codel (dropped_in s.service) (given_in s.service))) (rw arrived h.few) (dequeue_next (state_of held last closed) moment fits).soon (rw same_room h.reserved) (ap (λ n. room + n) arrived)
 
   -- what is answered to a dequeue
   pub is_served : (held held' : Held) (book book' : Book) (last moment turns0 turns before after room : ℕ) (closed : Bool) (answer : Option Served) (s : ServesChain p moment held book turns answer held' book')
@@ -402,4 +406,4 @@ pub seen_waits : {K : Type 0} (s : Inside K) (v : Scheduler) → scheduler_of s 
 seen_waits s v e h = rw (← e) (waits_of_history (fq_codel s.params s.seed).flow_of (queue_of s.backlog.queues) s.journal.events s.backlog.arrived s.last_moment s.is_closed h.history)
 
 pub seen_queued : {K : Type 0} (s : Inside K) (v : Scheduler) → scheduler_of s ≡ v → IsKept s → (statistics v.standing.events).queued ≡ waiting_in (flows_of v).lists
-seen_queued s v e h = rw (← e) (sym (kept_queued s.params s.seed h))
+seen_queued s v e h = rw (← e) (sym (waits_at s.params s.seed ((scheduler_of s).standing.state) s.journal.events h.some h.flows h.history))

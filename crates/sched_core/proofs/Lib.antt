@@ -1,4 +1,3 @@
-pub mod StepComparisons
 pub mod KeptScheduler
 pub mod FqCodelRuns
 pub mod ShortPackets

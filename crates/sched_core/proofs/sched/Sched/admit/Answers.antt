@@ -1,7 +1,6 @@
 use Rattle.std.proofs.Common.{◌≡◌, refl, ap, ◌∙◌, arith}
 use Rattle.packet_core.specs.FlowNumber.{flow_number}
-use Rattle.sched_core.proofs.KeptScheduler.{Accepts, advances, few_admitted, grown, kept_admits}
-use Rattle.sched_core.proofs.StepComparisons.{few_compared}
+use Rattle.sched_core.proofs.KeptScheduler.{Accepts, advances, few_admitted, few_compared, grown, kept_admits}
 use Rattle.sched_core.proofs.sched.Sched.admit.Given as given
 use Rattle.sched_core.proofs.sched.Sched.admit.Goals.{After-overflow}
 use Rattle.sched_core.proofs.sched.Sched.admit.Goals as goal

@@ -1,7 +1,6 @@
 use Rattle.std.proofs.lemmas.List.{length_push}
 use Rattle.fair_core.proofs.ComparisonLemmas.{counts_idle}
-use Rattle.sched_core.proofs.StepComparisons.{few_compared}
-use Rattle.sched_core.proofs.KeptScheduler.{kept_closes}
+use Rattle.sched_core.proofs.KeptScheduler.{few_compared, kept_closes}
 use Rattle.sched_core.proofs.sched.Sched.close.Goals as goal
 
 pub invariant_of-self : goal.invariant_of-self
