@@ -1,12 +1,11 @@
 -- How an acceptance, a dequeue and a close keep the flows and their journal.
-use Rattle.std.proofs.Common.{◌≡◌, ℕ, zero, suc, ◌+◌, ◌-◌, ◌*◌, ◌<◌, ◌≤◌, ◌^◌, Bool, true, false, not, All, List, [], ◌∷◌, ◌++◌, map, get_or, set, length, sum_by, Option, Some, None, option_map, refl, sym, ap, subst, ◌∙◌, inl, inr, arith, append_assoc, append-nil, length-append}
+use Rattle.std.proofs.Common.{◌≡◌, ℕ, zero, suc, ◌+◌, ◌-◌, ◌<◌, ◌≤◌, ◌^◌, Bool, true, false, not, All, List, [], ◌∷◌, ◌++◌, map, get_or, length, sum_by, Option, Some, None, option_map, refl, sym, ap, subst, ◌∙◌, inl, inr, arith, append_assoc, append-nil, length-append}
 use Rattle.std.specs.List.{AllByRecursion, flat_map}
-use Rattle.std.proofs.Math.Nat.{mul_comm}
+use Rattle.std.proofs.Math.Nat.{mul_comm, one-le-pow, pow-suc}
 use Rattle.std.proofs.lemmas.Bool.{cases_lt, eq-eqb}
 use Rattle.std.proofs.lemmas.List.{length-map, length-set}
 use Rattle.std.proofs.lemmas.List.Elements.{All-filter, filter_map-append, recursion_from_All}
 use Rattle.std.proofs.lemmas.List.FromFn.{length-range_with_len}
-use Rattle.std.proofs.lemmas.Nat.{pow_below}
 use Rattle.packet_core.specs.Packets.{PacketParts}
 use Rattle.packet_core.specs.declared.flow.Seed.{Seed}
 use Rattle.packet_core.specs.declared.packet.Waiting.{Waiting}
@@ -26,7 +25,7 @@ use Rattle.journal_core.specs.declared.step.Step.TheVariants.{Enqueue, Dequeue, 
 use Rattle.fair_core.specs.Backlogs.{DropsOverflow, Held, ServesChain, leaving, shown_service, with_arrival_listed}
 use Rattle.journal_core.specs.Books.{Book, count_accepted, count_drops, count_sent, with_event}
 use Rattle.journal_core.specs.Calls.{Advances, Standing, sent_at}
-use Rattle.journal_core.specs.Disciplines.{Batch, Discipline, Given, IsFifoByFlow, given_packet, heads, packets_of, with_arrival}
+use Rattle.journal_core.specs.Disciplines.{Batch, Given, IsFifoByFlow, given_packet, heads, packets_of, with_arrival}
 use Rattle.fair_core.specs.FairQueueing.{Arrives, ServesNext, dropped_in, given_in}
 use Rattle.fair_core.specs.FairQueues.{AreSound, FairQueues, queue_of}
 use Rattle.journal_core.specs.JournalDrops.{with_drops}
@@ -40,7 +39,7 @@ use Rattle.fair_core.specs.Overflow.{Overflow}
 use Rattle.sched_core.specs.Schedulers.{ComparesFew, IsServed, Scheduler, discipline_of, flows_of}
 use Rattle.journal_core.specs.State.{State, arrival, refusal_of}
 use Rattle.journal_core.specs.Statistics.{length_named, statistics}
-use Rattle.journal_core.specs.Steps.{Makes, Serves, dequeue_answer, drop_event, sent_events}
+use Rattle.journal_core.specs.Steps.{Serves, dequeue_answer, drop_event, sent_events}
 use Rattle.fair_core.specs.Turns.{Service}
 use Rattle.flow_core.proofs.NodeLemmas.{levels_least}
 use Rattle.flow_core.proofs.ReadLemmas.{length-at}
@@ -60,24 +59,20 @@ use Rattle.fair_core.proofs.NewFlowsFirst.{new_flows_first}
 use Rattle.fair_core.proofs.ServingChains.{chain_bound}
 use Rattle.sched_core.proofs.FqCodelRuns.{flow_below, steps_as_many}
 
--- a number is below the power of two by it
-below_power : (n : ℕ) → n ≤ 2 ^ n
-below_power zero = omega arith
-below_power (suc n) = omega (arith, below_power n, pow_below n (suc n) (omega arith))
-
--- the least number of doublings, looked for from one that is enough
-levels_from : (flows enough : ℕ) → flows ≤ 2 ^ enough → (levels : ℕ) × IsLevels flows levels
-levels_from flows zero is = (0, record { enough = is; least = λ fewer few. omega arith })
-levels_from flows (suc n) is =
-    elim (cases_lt (2 ^ n) flows) [
-      | inl short ↦ (suc n, levels_least flows (suc n) is (omega arith))
-      | inr less ↦ levels_from flows n less
+-- the least number of doublings that gives each flow a leaf
+levels_over : (flows : ℕ) → (levels : ℕ) × IsLevels flows levels
+levels_over zero = (0, record { enough = omega arith; least = λ fewer few. omega arith })
+levels_over (suc n) =
+    let tree = levels_over n in
+    elim (cases_lt (2 ^ tree.0) (suc n)) [
+      | inl full ↦ (suc tree.0, levels_least (suc n) (suc tree.0) (omega (arith, pow-suc 2 tree.0, tree.1.enough, one-le-pow tree.0 2 (omega arith))) (omega (arith, pow-suc 2 tree.0)))
+      | inr wide ↦ (tree.0, record { enough = wide; least = λ fewer few. tree.1.least fewer (omega arith) })
     ]
 
 -- A step whose comparisons are few for so many changes, and which has as many events.
 pub few_compared : (old new : Scheduler) (changes : ℕ) → length new.standing.events ≡ length old.standing.events + changes → CountsFew old.params.flows changes 0 new.comparisons → ComparesFew old new
 few_compared old new changes events few =
-    let tree = levels_from old.params.flows old.params.flows (below_power old.params.flows) in
+    let tree = levels_over old.params.flows in
     let made : length new.standing.events - length old.standing.events ≡ changes = omega arith in
     record { levels = tree.0; over_flows = tree.1; most = rw made (omega (arith, few.most tree.0 tree.1, mul_comm tree.0 changes)) }
 
@@ -111,9 +106,9 @@ module _ (p : ParamFields) (seed : Seed) where
       let waits = waits_of_history (fq_codel p seed).flow_of (queue_of s.queues) events s.next_id s.last s.closed h in
       let Among = λ (a : Acceptance). (0 ≤ a.flow) × (a.flow < 0 + length queues) in
       let among : All Among (acceptances events) = λ i a under.
-          let named = h.flows i a under in
-          let below = flow_below p.classify p.flows seed ((get_or (acceptances events) i a).packet.tuple) some in
-          omega arith in
+      let named = h.flows i a under in
+      let below = flow_below p.classify p.flows seed ((get_or (acceptances events) i a).packet.tuple) some in
+      omega arith in
       (λ j. sum_by (λ q. length_as_sum q j) queues)
       ∙ by_queues (λ _. 1) 0 queues (without_fate events) (λ i under. rw (let e : 0 + i ≡ i = omega arith in e) (waits i))
       (recursion_from_All Among (without_fate events) (All-filter (λ a. not (is_among (fate_ids events) a.id)) Among (acceptances events) among))
@@ -126,26 +121,24 @@ module _ (p : ParamFields) (seed : Seed) where
       → room' ≤ spare' → room' + new.next_id ≡ room + old.next_id → IsBookKept p seed new spare' book' room'
   kept_on {old} {new} {spare} {spare'} {room} {room'} {book} {book'} step said h a taken counts each few soon reserved rooms =
       let d = fq_codel p seed in
-      let events = book.events ++ a.made in
       let flows = steps_as_many (fq_codel_policy p) (policy_drops p) p.flows d.flow_of old new step said a.made (rw a.fits a.makes) ∙ h.flows in
-      let before = h.history in
-      let after = keeps_makes d queue_of fifo old new step said a.made book.events a.fits a.makes before in
-      let waits = waits_at old book.events h.some h.flows before in
-      let waits' = waits_at new events h.some flows after in
-      let fates = ap length (filter_map-append fate_of book.events a.made) ∙ length-append (fate_ids book.events) (fate_ids a.made) in
+      let history : IsHistory d.flow_of (queue_of new.queues) book'.events new.next_id new.last new.closed =
+      rw a.journal (keeps_makes d queue_of fifo old new step said a.made book.events a.fits a.makes h.history) in
+      let waits = waits_at old book.events h.some h.flows h.history in
+      let waits' = waits_at new book'.events h.some flows history in
+      let fates = ap (λ (es : List Event). length (fate_ids es)) a.journal ∙ ap length (filter_map-append fate_of book.events a.made) ∙ length-append (fate_ids book.events) (fate_ids a.made) in
       let grown = ap length a.journal ∙ length-append book.events a.made in
-      let accepted : book'.counts.accepted ≡ length (acceptances events) = rw a.journal at counts.accepted in
-      let ids = sym (length-map (acceptances events) (λ (a : Acceptance). a.id)) ∙ ap length after.ids ∙ length-range_with_len 0 new.next_id in
+      let ids = sym (length-map (acceptances book'.events) (λ (a : Acceptance). a.id)) ∙ ap length history.ids ∙ length-range_with_len 0 new.next_id in
       record {
         some = h.some;
         flows = flows;
-        space = omega (arith, h.space, before.left, after.left);
+        space = omega (arith, h.space, h.history.left, history.left);
         reserved = reserved;
-        long = omega (arith, h.long, before.left, after.left);
-        accepted = accepted ∙ ids;
+        long = omega (arith, h.long, h.history.left, history.left);
+        accepted = counts.accepted ∙ ids;
         few = few;
         soon = soon;
-        history = rw a.journal after;
+        history = history;
         counts = counts;
       }
 
@@ -164,8 +157,7 @@ all_in_batches : (P : Waiting → Type 0) (batches : List Batch)
 all_in_batches P [] each = tt
 all_in_batches P (b ∷ batches) each =
     let parts = λ (f : ℕ). ByRecursion-parts P (heads b.flow b.gone f) (flat_map (λ (c : Batch). heads c.flow c.gone f) batches) (each f) in
-    let first = (parts b.flow).0 in
-    ByRecursion-append P b.gone (packets_of batches) (rw (eq-eqb b.flow b.flow refl) at first) (all_in_batches P batches (λ f. (parts f).1))
+    ByRecursion-append P b.gone (packets_of batches) (rw (eq-eqb b.flow b.flow refl) at ((parts b.flow).0)) (all_in_batches P batches (λ f. (parts f).1))
 
 -- the event of an acceptance, and the journal with it
 abbrev accepted : ParamFields → Seed → Held → ℕ → ℕ → PacketParts → Event
@@ -246,7 +238,7 @@ module _ {p : ParamFields} {seed : Seed} {held mid new : Held} {book book' : Boo
   pub few_admitted : CountsFew p.flows (1 + length lost) 0 new.comparisons
   few_admitted =
       let flows : length mid.queues.lists.queues ≡ p.flows =
-          ap (λ (s : FairQueues). length s.lists.queues) a.listed ∙ length-set held.queues.lists.queues flow (queue_at held.queues.lists flow ++ w ∷ []) ∙ a.kept.flows in
+      ap (λ (s : FairQueues). length s.lists.queues) a.listed ∙ length-set held.queues.lists.queues flow (queue_at held.queues.lists flow ++ w ∷ []) ∙ a.kept.flows in
       counts_on p.flows 1 (length lost) 0 mid.comparisons new.comparisons (rw a.kept.flows at a.few_comparisons) (rw flows at a.drops.few_comparisons)
 
   pub grown : length book'.events ≡ length book.events + (1 + length lost)
@@ -281,21 +273,20 @@ served_room book moment None = refl
 served_room book moment (Some s) = let many = served_length moment (Some s) in omega arith
 
 -- and which is counted
-acceptances_stay : (events : List Event) (moment : ℕ) (ws : List Waiting) → acceptances (events ++ map (drop_event moment cause.Codel) ws) ≡ acceptances events
-acceptances_stay events moment ws =
-    filter_map-append acceptance_of events (map (drop_event moment cause.Codel) ws) ∙ ap (λ l. acceptances events ++ l) (none ws) ∙ append-nil (acceptances events)
-  where
-    none : (ws : List Waiting) → acceptances (map (drop_event moment cause.Codel) ws) ≡ []
-    none [] = refl
-    none (w ∷ ws) = none ws
-
 served_counts : (book : Book) (moment : ℕ) (service : Option Service) → AllByRecursion (IsNamed book.events) (packets_in service) → AreCounts book.counts book.events
     → AreCounts (served_book book moment service).counts (served_book book moment service).events
 served_counts book moment None named h = counts_drops cause.Codel moment book.counts book.events [] tt h
 served_counts book moment (Some s) named h =
+    let drops = map (drop_event moment cause.Codel) s.dropped in
     let parts = ByRecursion-parts (IsNamed book.events) s.dropped (s.given.waiting ∷ []) named in
-    counts_send (count_drops cause.Codel book.counts s.dropped) (book.events ++ map (drop_event moment cause.Codel) s.dropped) s.given.waiting.id moment (sent_ecn s.given.mark s.given.waiting.packet.ecn) s.given.mark s.given.waiting.packet.len
-    (rw (acceptances_stay book.events moment s.dropped) parts.1.0) (counts_drops cause.Codel moment book.counts book.events s.dropped parts.0 h)
+    let same : acceptances (book.events ++ drops) ≡ acceptances book.events =
+    filter_map-append acceptance_of book.events drops ∙ ap (λ l. acceptances book.events ++ l) (none s.dropped) ∙ append-nil (acceptances book.events) in
+    counts_send (count_drops cause.Codel book.counts s.dropped) (book.events ++ drops) s.given.waiting.id moment (sent_ecn s.given.mark s.given.waiting.packet.ecn) s.given.mark s.given.waiting.packet.len
+    (rw same parts.1.0) (counts_drops cause.Codel moment book.counts book.events s.dropped parts.0 h)
+  where
+    none : (ws : List Waiting) → acceptances (map (drop_event moment cause.Codel) ws) ≡ []
+    none [] = refl
+    none (w ∷ ws) = none ws
 
 -- a packet that is given
 one_given : (served : Served) (service : Option Service) → Some served ≡ option_map shown_service service → length (given_packet (given_in service)) ≡ 1
@@ -325,8 +316,7 @@ module _ (p : ParamFields) (seed : Seed) where
     left_head : (flow : ℕ) × (queue_of held.queues flow ≡ packets_in s.service ++ queue_of held'.queues flow)
     left_head =
         let leaves = ((fifo p seed).serves held.queues moment (dropped_in s.service) (given_in s.service) held'.queues served_next).0 in
-        let e = leaves.1 leaves.0 in
-        (leaves.0, rw (eq-eqb leaves.0 leaves.0 refl) at e)
+        (leaves.0, rw (eq-eqb leaves.0 leaves.0 refl) at (leaves.1 leaves.0))
 
   -- a dequeue
   pub kept_serves : (held held' : Held) (book book' : Book) (last moment turns room : ℕ) (closed : Bool) (answer : Option Served) → ServesChain p moment held book turns answer held' book'
@@ -388,10 +378,8 @@ module _ (p : ParamFields) (seed : Seed) where
       let left = left_head s in
       let parts = ap length left.1 ∙ length-append (packets_in s.service) (queue_of held'.queues left.0) in
       let gone = length-append (dropped_in s.service) (given_packet (given_in s.service)) in
-      let one = one_given served s.service s.given in
-      let waits = length-at held.queues.lists.queues left.0 in
       let room_is : book'.room ≡ book.room - length (dropped_in s.service) = ap (λ (b : Book). b.room) s.journal in
-      omega (arith, h.space)
+      omega (arith, h.space, one_given served s.service s.given, length-at held.queues.lists.queues left.0)
 
   -- what is kept says nothing of comparisons
   pub kept_counted : (held : Held) (book : Book) (last room comparisons : ℕ) (closed : Bool) → IsBookKept p seed (state_of held last closed) held.room book room

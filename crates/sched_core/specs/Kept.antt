@@ -16,7 +16,12 @@ scheduler_of s = record {
   params = s.params;
   seed = s.seed;
   standing = record {
-    state = record { queues = s.backlog.queues; next_id = s.backlog.arrived; last = s.last_moment; closed = s.is_closed };
+    state = record {
+      queues = s.backlog.queues;
+      next_id = s.backlog.arrived;
+      last = s.last_moment;
+      closed = s.is_closed;
+    };
     events = s.journal.events;
   };
   turns = s.turns;
@@ -31,7 +36,8 @@ closes_left closed = if closed then 0 else 1
 -- What holds of the state, of how many packets more its flows have memory for, of the journal, and of the room that is
 -- reserved: the journal has room for each waiting packet's fate, for the close, and for the acceptances reserved with
 -- their fates; and it is a history of the state.
-pub record IsBookKept (p : ParamFields) (seed : Seed) (s : State FairQueues) (spare : ℕ) (book : Book) (room : ℕ) : Type 0 where
+pub record IsBookKept (p : ParamFields) (seed : Seed) (s : State FairQueues) (spare : ℕ) (book : Book)
+    (room : ℕ) : Type 0 where
   pub some : 0 < p.flows
   pub flows : length s.queues.lists.queues ≡ p.flows
   pub space : waiting_in s.queues.lists + closes_left s.closed + 2 * room ≤ book.room

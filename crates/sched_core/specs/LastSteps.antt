@@ -28,7 +28,8 @@ is_made said = not (is_refused said)
 
 -- The number is told of the last of these outcomes whose answer passes the test: it holds of its place, of the outcome
 -- and of the number. Where none passes it, the number is 0.
-pub data AtLast (test : Answer → Bool) (outcomes : List Outcome) (n : ℕ) (Holds : ℕ → Outcome → ℕ → Type 0) : Type 0 where
+pub data AtLast (test : Answer → Bool) (outcomes : List Outcome) (n : ℕ)
+    (Holds : ℕ → Outcome → ℕ → Type 0) : Type 0 where
   none : All (λ (o : Outcome). test o.answer ≡ false) outcomes → n ≡ 0 → AtLast test outcomes n Holds
   last : (before behind : List Outcome) (o : Outcome) → outcomes ≡ before ++ o ∷ behind → test o.answer ≡ true
       → All (λ (later : Outcome). test later.answer ≡ false) behind
