@@ -5,10 +5,8 @@ use Rattle.sched_core.proofs.sched.Sched.close.Goals as goal
 
 pub invariant_of-self : goal.invariant_of-self
 invariant_of-self g c =
-    let fits = rw (← c.self.view_is) at c.in_ok-test_close.ensures in
-    rw (c.clear_comparisons.ensures, c.close.ensures) (kept_closes c.self.inside.params c.self.inside.seed c.args.moment fits c.self.invariant)
+    rw (c.clear_comparisons.ensures, c.close.ensures) (kept_closes _ _ c.args.moment (rw (← c.self.view_is) at c.in_ok-test_close.ensures) c.self.invariant)
 
 pub returns-clause-few_comparisons : goal.returns-clause-few_comparisons
 returns-clause-few_comparisons g c =
-    let s = c.self.inside in
-    rw (← c.self.view_is, c.clear_comparisons.ensures, c.close.ensures) (few_compared _ _ 1 (length_push s.journal.events _) (counts_idle s.params.flows 1))
+    rw (← c.self.view_is, c.clear_comparisons.ensures, c.close.ensures) (few_compared _ _ 1 (length_push _ _) (counts_idle _ 1))
