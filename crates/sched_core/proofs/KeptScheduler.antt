@@ -1,206 +1,344 @@
 -- How an acceptance, a dequeue and a close keep the flows and their journal.
-use Rattle.std.proofs.Common.{◌≡◌, ℕ, zero, suc, ◌+◌, ◌-◌, ◌<◌, ◌≤◌, Bool, true, not, List, [], ◌∷◌, ◌++◌, drop, take, map, set, length, sum_by, Option, Some, None, option_map, refl, sym, ap, subst, ◌∙◌, inl, inr, arith, append_assoc, append-nil, length-append}
-use Rattle.std.specs.List.{AllByRecursion}
-use Rattle.std.proofs.lemmas.Bool.{eq-eqb}
-use Rattle.std.proofs.lemmas.List.{length-map, length_push}
-use Rattle.std.proofs.lemmas.List.Elements.{filter_map-append, recursion_from_All}
-use Rattle.std.proofs.lemmas.List.Sums.{sum_by-set}
+use Rattle.std.proofs.Common.{◌≡◌, ℕ, zero, suc, ◌+◌, ◌-◌, ◌<◌, ◌≤◌, ◌^◌, Bool, true, false, not, All, List, [], ◌∷◌, ◌++◌, map, get_or, length, sum_by, Option, Some, None, option_map, refl, sym, ap, subst, ◌∙◌, inl, inr, arith, append_assoc, append-nil, length-append}
+use Rattle.std.specs.List.{AllByRecursion, flat_map}
+use Rattle.std.proofs.Math.Nat.{mul_comm, one-le-pow, pow-suc}
+use Rattle.std.proofs.lemmas.Bool.{cases_lt, eq-eqb}
+use Rattle.std.proofs.lemmas.List.{length-map, length-set}
+use Rattle.std.proofs.lemmas.List.Elements.{All-filter, filter_map-append, recursion_from_All}
+use Rattle.std.proofs.lemmas.List.FromFn.{length-range_with_len}
+use Rattle.packet_core.specs.Packets.{PacketParts}
 use Rattle.packet_core.specs.declared.flow.Seed.{Seed}
 use Rattle.packet_core.specs.declared.packet.Waiting.{Waiting}
 use Rattle.packet_core.specs.declared.params.ParamFields.{ParamFields}
 use Rattle.codel_core.specs.Verdict.{sent_ecn}
 use Rattle.codel_core.specs.declared.served.Served.{Served}
 use Rattle.flow_core.specs.FlowLists.{queue_at, waiting_in}
+use Rattle.flow_core.specs.Winners.{CountsFew, IsLevels}
 use Rattle.journal_core.specs.declared.event.Cause.{Cause}
 use Rattle.journal_core.specs.declared.event.Cause.TheVariants as cause
 use Rattle.journal_core.specs.declared.event.Event.{Event}
-use Rattle.journal_core.specs.declared.event.Event.TheVariants.{Sent, Closed}
+use Rattle.journal_core.specs.declared.event.Event.TheVariants.{Accepted, Sent, Closed}
+use Rattle.journal_core.specs.declared.outcome.Answer.{Answer}
 use Rattle.journal_core.specs.declared.outcome.Answer.TheVariants as answer
-use Rattle.journal_core.specs.declared.step.Step.TheVariants.{Dequeue, Close}
-use Rattle.fair_core.specs.Backlogs.{Held, ServesChain, leaving, shown_service}
-use Rattle.journal_core.specs.Books.{Book, count_drops, count_sent, with_event}
-use Rattle.journal_core.specs.Disciplines.{given_packet, heads}
-use Rattle.fair_core.specs.FairQueueing.{dropped_in, given_in}
+use Rattle.journal_core.specs.declared.step.Step.{Step}
+use Rattle.journal_core.specs.declared.step.Step.TheVariants.{Enqueue, Dequeue, Close}
+use Rattle.fair_core.specs.Backlogs.{DropsOverflow, Held, ServesChain, leaving, shown_service, with_arrival_listed}
+use Rattle.journal_core.specs.Books.{Book, count_accepted, count_drops, count_sent, with_event}
+use Rattle.journal_core.specs.Calls.{Advances, Standing, sent_at}
+use Rattle.journal_core.specs.Disciplines.{Batch, Given, IsFifoByFlow, given_packet, heads, packets_of, with_arrival}
+use Rattle.fair_core.specs.FairQueueing.{Arrives, ServesNext, dropped_in, given_in}
 use Rattle.fair_core.specs.FairQueues.{AreSound, FairQueues, queue_of}
 use Rattle.journal_core.specs.JournalDrops.{with_drops}
 use Rattle.fair_core.specs.FqCodel.{fq_codel, fq_codel_policy}
-use Rattle.journal_core.specs.Happened.{acceptance_of, acceptances, fate_ids, is_among, without_fate}
+use Rattle.journal_core.specs.Happened.{Acceptance, acceptance_of, acceptances, fate_ids, fate_of, is_among, without_fate}
 use Rattle.journal_core.specs.History.{AreCounts, IsHistory}
-use Rattle.sched_core.specs.Kept.{IsBookKept, closes_left}
-use Rattle.journal_core.specs.Calls.{sent_at}
-use Rattle.sched_core.specs.Schedulers.{ComparesFew, IsServed}
-use Rattle.journal_core.specs.State.{State, refusal_of}
-use Rattle.journal_core.specs.Statistics.{length_named}
+use Rattle.journal_core.specs.JournalLaws.{JournalLaws, WaitWithoutFate}
+use Rattle.sched_core.specs.declared.sched.Sched.TheInside.{Inside}
+use Rattle.sched_core.specs.Kept.{IsBookKept, IsKept, closes_left, scheduler_of}
+use Rattle.fair_core.specs.Overflow.{Overflow}
+use Rattle.sched_core.specs.Schedulers.{ComparesFew, IsServed, Scheduler, discipline_of, flows_of}
+use Rattle.journal_core.specs.State.{State, arrival, refusal_of}
+use Rattle.journal_core.specs.Statistics.{length_named, statistics}
 use Rattle.journal_core.specs.Steps.{Serves, dequeue_answer, drop_event, sent_events}
-use Rattle.fair_core.specs.Turns.{Chain, Service, Turn}
-use Rattle.fair_core.specs.Turns.Turn.{used_up, emptied_new, emptied_old, serving}
-use Rattle.fair_core.proofs.FairFifo.{fair_is_fifo, queues_stay, split_at, within_from_packet}
-use Rattle.fair_core.proofs.ServingChains.{chain_bound}
-use Rattle.sched_core.proofs.StepComparisons.{few_compared}
-use Rattle.journal_core.proofs.CountLemmas.{count_drops-accepted, counts_close, counts_drops, counts_send}
-use Rattle.fair_core.proofs.FqCodelPolicy.{policy_drops}
-use Rattle.sched_core.proofs.FqCodelRuns.{chain_as_many, flow_below}
-use Rattle.journal_core.proofs.KnownPackets.{waiting_known}
-use Rattle.journal_core.proofs.ListLemmas.{ByRecursion-all, ByRecursion-filter, ByRecursion-parts, ByRecursion-weaker, length_as_sum, sum_by_agree_on}
+use Rattle.fair_core.specs.Turns.{Service}
+use Rattle.flow_core.proofs.NodeLemmas.{levels_least}
+use Rattle.flow_core.proofs.ReadLemmas.{length-at}
+use Rattle.journal_core.proofs.CountLemmas.{counts_accept, counts_close, counts_drops, counts_send}
+use Rattle.journal_core.proofs.EventLemmas.{all_found}
+use Rattle.journal_core.proofs.HistoryEvents.{history_accepts}
 use Rattle.journal_core.proofs.HistoryRuns.{keeps_makes}
-use Rattle.journal_core.proofs.LawsOfHistory.{waits_of_history}
-use Rattle.fair_core.proofs.NewFlowsFirst.{new_flows_first}
-use Rattle.journal_core.proofs.RefusalLemmas.{close_open, dequeue_next}
+use Rattle.journal_core.proofs.KnownPackets.{waiting_known}
+use Rattle.journal_core.proofs.LawsOfHistory.{laws_of_history, waits_of_history}
+use Rattle.journal_core.proofs.ListLemmas.{ByRecursion-append, ByRecursion-parts, length_as_sum}
+use Rattle.journal_core.proofs.RefusalLemmas.{close_open, dequeue_next, enqueue_open}
 use Rattle.journal_core.proofs.WaitingPackets.{by_queues}
+use Rattle.fair_core.proofs.ComparisonLemmas.{counts_on}
+use Rattle.fair_core.proofs.FairFifo.{fair_is_fifo}
+use Rattle.fair_core.proofs.FqCodelPolicy.{policy_drops}
+use Rattle.fair_core.proofs.NewFlowsFirst.{new_flows_first}
+use Rattle.fair_core.proofs.ServingChains.{chain_bound}
+use Rattle.sched_core.proofs.FqCodelRuns.{flow_below, steps_as_many}
+
+-- the least number of doublings that gives each flow a leaf
+levels_over : (flows : ℕ) → (levels : ℕ) × IsLevels flows levels
+levels_over zero = (0, record { enough = omega arith; least = λ fewer few. omega arith })
+levels_over (suc n) =
+    let tree = levels_over n in
+    elim (cases_lt (2 ^ tree.0) (suc n)) [
+      | inl full ↦ (suc tree.0, levels_least (suc n) (suc tree.0) (omega (arith, pow-suc 2 tree.0, tree.1.enough, one-le-pow tree.0 2 (omega arith))) (omega (arith, pow-suc 2 tree.0)))
+      | inr wide ↦ (tree.0, record { enough = wide; least = λ fewer few. tree.1.least fewer (omega arith) })
+    ]
+
+-- A step whose comparisons are few for so many changes, and which has as many events.
+pub few_compared : (old new : Scheduler) (changes : ℕ) → length new.standing.events ≡ length old.standing.events + changes → CountsFew old.params.flows changes 0 new.comparisons → ComparesFew old new
+few_compared old new changes events few =
+    let tree = levels_over old.params.flows in
+    let made : length new.standing.events - length old.standing.events ≡ changes = omega arith in
+    record { levels = tree.0; over_flows = tree.1; most = rw made (omega (arith, few.most tree.0 tree.1, mul_comm tree.0 changes)) }
 
 -- the state of flows at that moment
 abbrev pub state_of : Held → ℕ → Bool → State FairQueues
 state_of held last closed = record { queues = held.queues; next_id = held.arrived; last = last; closed = closed }
 
--- the journal, once the packet that is served is sent, if one is
+abbrev standing_of : State FairQueues → Book → Standing FairQueues
+standing_of s book = record { state = s; events = book.events }
+
+-- The journal names the packet, with its length.
+abbrev IsNamed : List Event → Waiting → Type 0
+IsNamed events w = length_named (acceptances events) w.id ≡ w.packet.len
+
+-- each drop is a fate, and so is what is sent
+all_fates : (moment : ℕ) (why : Cause) (ws : List Waiting) (given : Option Given) → let made = map (drop_event moment why) ws ++ sent_events moment given in
+    length (fate_ids made) ≡ length made
+all_fates moment why [] None = refl
+all_fates moment why [] (Some g) = refl
+all_fates moment why (w ∷ ws) given = ap suc (all_fates moment why ws given)
+
+module _ (p : ParamFields) (seed : Seed) where
+  abbrev pub fifo : IsFifoByFlow (fq_codel p seed) queue_of
+  fifo = fair_is_fifo (fq_codel_policy p) (policy_drops p) p.flows (fq_codel p seed).flow_of
+
+  -- as many wait as have no fate
+  pub waits_at : (s : State FairQueues) (events : List Event) → 0 < p.flows → length s.queues.lists.queues ≡ p.flows
+      → IsHistory (fq_codel p seed).flow_of (queue_of s.queues) events s.next_id s.last s.closed → waiting_in s.queues.lists ≡ length (without_fate events)
+  waits_at s events some flows h =
+      let queues = s.queues.lists.queues in
+      let waits = waits_of_history (fq_codel p seed).flow_of (queue_of s.queues) events s.next_id s.last s.closed h in
+      let Among = λ (a : Acceptance). (0 ≤ a.flow) × (a.flow < 0 + length queues) in
+      let among : All Among (acceptances events) = λ i a under.
+      let named = h.flows i a under in
+      let below = flow_below p.classify p.flows seed ((get_or (acceptances events) i a).packet.tuple) some in
+      omega arith in
+      (λ j. sum_by (λ q. length_as_sum q j) queues)
+      ∙ by_queues (λ _. 1) 0 queues (without_fate events) (λ i under. rw (let e : 0 + i ≡ i = omega arith in e) (waits i))
+      (recursion_from_All Among (without_fate events) (All-filter (λ a. not (is_among (fate_ids events) a.id)) Among (acceptances events) among))
+      ∙ sym (length_as_sum (without_fate events))
+
+  -- A step that is made, whose events took their room and are counted: each of them is a fate, the acceptance or the close.
+  kept_on : {old new : State FairQueues} {spare spare' room room' : ℕ} {book book' : Book} (step : Step) (said : Answer) → IsBookKept p seed old spare book room
+      → (a : Advances (fq_codel p seed) (standing_of old book) step said (standing_of new book')) → book'.room ≡ book.room - length a.made → AreCounts book'.counts book'.events
+      → length a.made + old.next_id + closes_left new.closed ≡ length (fate_ids a.made) + new.next_id + closes_left old.closed → new.next_id ≤ 2 ^ 40 → new.last < 2 ^ 60
+      → room' ≤ spare' → room' + new.next_id ≡ room + old.next_id → IsBookKept p seed new spare' book' room'
+  kept_on {old} {new} {spare} {spare'} {room} {room'} {book} {book'} step said h a taken counts each few soon reserved rooms =
+      let d = fq_codel p seed in
+      let flows = steps_as_many (fq_codel_policy p) (policy_drops p) p.flows d.flow_of old new step said a.made (rw a.fits a.makes) ∙ h.flows in
+      let history : IsHistory d.flow_of (queue_of new.queues) book'.events new.next_id new.last new.closed =
+      rw a.journal (keeps_makes d queue_of fifo old new step said a.made book.events a.fits a.makes h.history) in
+      let waits = waits_at old book.events h.some h.flows h.history in
+      let waits' = waits_at new book'.events h.some flows history in
+      let fates = ap (λ (es : List Event). length (fate_ids es)) a.journal ∙ ap length (filter_map-append fate_of book.events a.made) ∙ length-append (fate_ids book.events) (fate_ids a.made) in
+      let grown = ap length a.journal ∙ length-append book.events a.made in
+      let ids = sym (length-map (acceptances book'.events) (λ (a : Acceptance). a.id)) ∙ ap length history.ids ∙ length-range_with_len 0 new.next_id in
+      record {
+        some = h.some;
+        flows = flows;
+        space = omega (arith, h.space, h.history.left, history.left);
+        reserved = reserved;
+        long = omega (arith, h.long, h.history.left, history.left);
+        accepted = counts.accepted ∙ ids;
+        few = few;
+        soon = soon;
+        history = history;
+        counts = counts;
+      }
+
+  -- a close
+  pub kept_closes : {s : State FairQueues} {spare room : ℕ} {book : Book} (moment : ℕ) → refusal_of s (Close moment) ≡ None
+      → IsBookKept p seed s spare book room → IsBookKept p seed (record s { last = moment; closed = true }) spare (with_event book (Closed moment) book.counts) room
+  kept_closes {s} {book = book} moment fits h =
+      let open' = close_open s moment fits in
+      let one : closes_left s.closed ≡ 1 = ap closes_left open'.open' in
+      kept_on (Close moment) answer.Closed h (record { fits = fits; made = Closed moment ∷ []; makes = (refl, record { told = refl; state = refl }); journal = refl })
+      refl (counts_close book.counts book.events moment h.counts) (omega arith) h.few open'.next.soon h.reserved refl
+
+-- what holds at the heads of all queues holds of each batch that leaves them
+all_in_batches : (P : Waiting → Type 0) (batches : List Batch)
+    → ((f : ℕ) → AllByRecursion P (flat_map (λ (b : Batch). heads b.flow b.gone f) batches)) → AllByRecursion P (packets_of batches)
+all_in_batches P [] each = tt
+all_in_batches P (b ∷ batches) each =
+    let parts = λ (f : ℕ). ByRecursion-parts P (heads b.flow b.gone f) (flat_map (λ (c : Batch). heads c.flow c.gone f) batches) (each f) in
+    ByRecursion-append P b.gone (packets_of batches) (rw (eq-eqb b.flow b.flow refl) at ((parts b.flow).0)) (all_in_batches P batches (λ f. (parts f).1))
+
+-- the event of an acceptance, and the journal with it
+abbrev accepted : ParamFields → Seed → Held → ℕ → ℕ → PacketParts → Event
+accepted p seed held moment lane packet = Accepted held.arrived moment lane ((fq_codel p seed).flow_of packet.tuple) packet
+
+abbrev recorded : ParamFields → Seed → Held → Book → ℕ → ℕ → PacketParts → Book
+recorded p seed held book moment lane packet = with_event book (accepted p seed held moment lane packet) (count_accepted book.counts packet.len)
+
+-- What the code does with a packet that is accepted: it arrives, which is recorded, and what overflows is dropped.
+pub record Accepts (p : ParamFields) (seed : Seed) (held mid new : Held) (book book' : Book) (last moment lane room : ℕ) (packet : PacketParts) (closed : Bool) : Type 0 where
+  pub fits : refusal_of (state_of held last closed) (Enqueue moment lane packet) ≡ None
+  pub some : 0 < room
+  pub kept : IsBookKept p seed (state_of held last closed) held.room book room
+  pub listed : mid.queues ≡ with_arrival_listed p held.queues ((fq_codel p seed).flow_of packet.tuple) (arrival (state_of held last closed) moment packet)
+  pub arrived : mid.arrived ≡ held.arrived + 1
+  pub reserved : mid.room + 1 ≡ held.room
+  pub few_comparisons : CountsFew (length held.queues.lists.queues) 1 0 mid.comparisons
+  pub drops : DropsOverflow p.limit moment mid (recorded p seed held book moment lane packet) new book'
+
+module _ {p : ParamFields} {seed : Seed} {held mid new : Held} {book book' : Book} {last moment lane room : ℕ} {packet : PacketParts} {closed : Bool}
+    (a : Accepts p seed held mid new book book' last moment lane room packet closed) where
+  abbrev flow : ℕ
+  flow = (fq_codel p seed).flow_of packet.tuple
+
+  abbrev w : Waiting
+  w = arrival (state_of held last closed) moment packet
+
+  abbrev lost : List Waiting
+  lost = packets_of a.drops.batches
+
+  pub arrives : Arrives (fq_codel_policy p) held.queues flow w lost new.queues
+  arrives = record {
+    within = rw a.kept.flows (flow_below p.classify p.flows seed packet.tuple a.kept.some);
+    batches = a.drops.batches;
+    overflow = subst (λ (s : FairQueues). Overflow p.limit s.lists.queues a.drops.batches new.queues.lists.queues) a.listed a.drops.overflow;
+    lost_in_order = refl;
+    rest = ap (λ (h : Held). h.queues) a.drops.rest ∙ ap (λ (s : FairQueues). record s { lists = record (s.lists) { queues = new.queues.lists.queues } }) a.listed;
+  }
+
+  abbrev pub advances : Advances (fq_codel p seed) (standing_of (state_of held last closed) book) (Enqueue moment lane packet) answer.Accepted (standing_of (state_of new moment closed) book')
+  advances = record {
+    fits = a.fits;
+    made = accepted p seed held moment lane packet ∷ map (drop_event moment cause.Overflow) lost;
+    makes = (refl, record { lost = lost; queues = arrives; told = refl; next_id = ap (λ (h : Held). h.arrived) a.drops.rest ∙ a.arrived; last = refl; closed = refl });
+    journal = ap (λ (b : Book). b.events) a.drops.journal
+        ∙ append_assoc book.events (accepted p seed held moment lane packet ∷ []) (map (drop_event moment cause.Overflow) lost);
+  }
+
+  -- the journal names what overflows
+  named : AllByRecursion (IsNamed (recorded p seed held book moment lane packet).events) lost
+  named =
+      let events = (recorded p seed held book moment lane packet).events in
+      let known = (enqueue_open (state_of held last closed) moment lane packet a.fits).0 in
+      let before = rw known.open' at a.kept.history in
+      let history = history_accepts (fq_codel p seed).flow_of book.events held.arrived last (queue_of held.queues) moment lane packet before known.next.later in
+      let waiting = waiting_known (fq_codel p seed).flow_of (with_arrival (queue_of held.queues) flow w) events (held.arrived + 1) moment false history in
+      let leave = (fifo p seed).admits held.queues w lost new.queues arrives in
+      rw leave.1 (all_in_batches (IsNamed events) leave.0
+      (λ f. (ByRecursion-parts (IsNamed events) _ (queue_of new.queues f) (subst (AllByRecursion (IsNamed events)) (leave.2 f) (waiting f))).0))
+
+  pub kept_admits : IsBookKept p seed (state_of new moment closed) new.room book' (room - 1)
+  kept_admits =
+      let h = a.kept in
+      let found = all_found (acceptances book.events) held.arrived (fate_ids book.events) h.history.ids (recursion_from_All (λ id. id < held.arrived) (fate_ids book.events) h.history.known) in
+      let first = counts_accept book.counts book.events held.arrived moment lane flow packet found h.counts in
+      let counts = counts_drops cause.Overflow moment _ _ lost named first in
+      let left = ap (λ (b : Book). b.room) a.drops.journal in
+      let each = length-map lost (drop_event moment cause.Overflow) in
+      let room_is : new.room ≡ mid.room = ap (λ (x : Held). x.room) a.drops.rest in
+      let next : new.arrived ≡ held.arrived + 1 = ap (λ (h : Held). h.arrived) a.drops.rest ∙ a.arrived in
+      let open' = enqueue_open (state_of held last closed) moment lane packet a.fits in
+      let drops = map (drop_event moment cause.Overflow) lost in
+      let fates : length (fate_ids drops) ≡ length drops = rw append-nil at (all_fates moment cause.Overflow lost None) in
+      kept_on p seed (Enqueue moment lane packet) answer.Accepted h advances (omega arith) (rw a.drops.journal counts)
+      (omega arith) (omega (arith, open'.1)) open'.0.next.soon (omega (arith, h.reserved, a.reserved)) (omega (arith, a.some))
+
+  -- the comparisons since the arrival, and the events
+  pub few_admitted : CountsFew p.flows (1 + length lost) 0 new.comparisons
+  few_admitted =
+      let flows : length mid.queues.lists.queues ≡ p.flows =
+      ap (λ (s : FairQueues). length s.lists.queues) a.listed ∙ length-set held.queues.lists.queues flow (queue_at held.queues.lists flow ++ w ∷ []) ∙ a.kept.flows in
+      counts_on p.flows 1 (length lost) 0 mid.comparisons new.comparisons (rw a.kept.flows at a.few_comparisons) (rw flows at a.drops.few_comparisons)
+
+  pub grown : length book'.events ≡ length book.events + (1 + length lost)
+  grown = omega (arith, ap length advances.journal, length-append book.events advances.made, length-map lost (drop_event moment cause.Overflow))
+
+-- The dequeue: the journal, once the packet that is served is sent, if one is.
 abbrev pub with_sent : Book → ℕ → Option Served → Book
 with_sent book moment None = book
 with_sent book moment (Some s) = with_event book (Sent s.waiting.id moment s.waiting.packet.ecn s.mark) (count_sent book.counts s.waiting.packet.len s.mark)
 
--- how many packets leave
-module _ (p : ParamFields) where
-  gone_of : Option Service → List Waiting
-  gone_of service = dropped_in service ++ given_packet (given_in service)
+abbrev served_book : Book → ℕ → Option Service → Book
+served_book book moment service = with_sent (with_drops book moment cause.Codel (dropped_in service)) moment (option_map shown_service service)
 
-  turn_waiting : (now : ℕ) (old : FairQueues) (s : Service) (new : FairQueues) → Turn (fq_codel_policy p) now old (Some s) new → waiting_in new.lists + (length s.dropped + 1) ≡ waiting_in old.lists
-  turn_waiting now old s new (used_up head at credits none e) = absurd cc
-  turn_waiting now old s new (emptied_new head at from credits empty mark codel verdict none e) = absurd cc
-  turn_waiting now old s new (emptied_old head at from credits empty mark codel verdict none e) = absurd cc
-  turn_waiting now old s new (serving head at credits drops mark codel verdict w found some e) =
-      let q = queue_at old.lists head.flow in
-      let same : s ≡ record { dropped = take drops q; given = record { waiting = w; mark = mark } } = cc in
-      let gone : s.dropped ≡ take drops q = ap (λ (s : Service). s.dropped) same in
-      let within = within_from_packet old.lists.queues head.flow drops w found in
-      let sum = sum_by-set length old.lists.queues head.flow (drop (drops + 1) q) [] within in
-      let parts : length q ≡ length (take drops q ++ w ∷ []) + length (drop (drops + 1) q) = ap length (split_at q drops w found) ∙ length-append (take drops q ++ w ∷ []) (drop (drops + 1) q) in
-      let head_len = length_push (take drops q) w in
-      let new_is : waiting_in new.lists ≡ sum_by length (set old.lists.queues head.flow (drop (drops + 1) q)) = ap (λ (s : FairQueues). waiting_in s.lists) e in
-      let gone_len = ap length gone in
-      omega arith
+abbrev served_events : ℕ → Option Service → List Event
+served_events moment service = map (drop_event moment cause.Codel) (dropped_in service) ++ sent_events moment (given_in service)
 
-  pub chain_waiting : (turns now : ℕ) (old : FairQueues) (service : Option Service) (new : FairQueues) → Chain (fq_codel_policy p) now old turns service new
-      → waiting_in new.lists + (length (dropped_in service) + length (given_packet (given_in service))) ≡ waiting_in old.lists
-  chain_waiting zero now old service new c = rw (c.1, c.2) (omega arith)
-  chain_waiting (suc more) now old service new (inl c) = rw c.2 (turn_waiting now old c.1 new c.3)
-  chain_waiting (suc more) now old service new (inr c) =
-      let rest = chain_waiting more now c.0 service new c.2 in
-      let same = ap (sum_by length) (queues_stay (fq_codel_policy p) (policy_drops p) now old c.0 c.1) in
-      omega arith
+abbrev packets_in : Option Service → List Waiting
+packets_in service = dropped_in service ++ given_packet (given_in service)
+
+-- one event for each packet that leaves, which took its room
+served_grown : (book : Book) (moment : ℕ) (service : Option Service) → (served_book book moment service).events ≡ book.events ++ served_events moment service
+served_grown book moment None = refl
+served_grown book moment (Some s) = append_assoc book.events (map (drop_event moment cause.Codel) s.dropped) (sent_events moment (Some s.given))
+
+served_length : (moment : ℕ) (service : Option Service) → length (served_events moment service) ≡ leaving service
+served_length moment None = refl
+served_length moment (Some s) =
+    length-append (map (drop_event moment cause.Codel) s.dropped) (sent_events moment (Some s.given)) ∙ ap (λ n. n + 1) (length-map s.dropped (drop_event moment cause.Codel))
+
+served_room : (book : Book) (moment : ℕ) (service : Option Service) → (served_book book moment service).room ≡ book.room - length (served_events moment service)
+served_room book moment None = refl
+served_room book moment (Some s) = let many = served_length moment (Some s) in omega arith
+
+-- and which is counted
+served_counts : (book : Book) (moment : ℕ) (service : Option Service) → AllByRecursion (IsNamed book.events) (packets_in service) → AreCounts book.counts book.events
+    → AreCounts (served_book book moment service).counts (served_book book moment service).events
+served_counts book moment None named h = counts_drops cause.Codel moment book.counts book.events [] tt h
+served_counts book moment (Some s) named h =
+    let drops = map (drop_event moment cause.Codel) s.dropped in
+    let parts = ByRecursion-parts (IsNamed book.events) s.dropped (s.given.waiting ∷ []) named in
+    let same : acceptances (book.events ++ drops) ≡ acceptances book.events =
+    filter_map-append acceptance_of book.events drops ∙ ap (λ l. acceptances book.events ++ l) (none s.dropped) ∙ append-nil (acceptances book.events) in
+    counts_send (count_drops cause.Codel book.counts s.dropped) (book.events ++ drops) s.given.waiting.id moment (sent_ecn s.given.mark s.given.waiting.packet.ecn) s.given.mark s.given.waiting.packet.len
+    (rw same parts.1.0) (counts_drops cause.Codel moment book.counts book.events s.dropped parts.0 h)
+  where
+    none : (ws : List Waiting) → acceptances (map (drop_event moment cause.Codel) ws) ≡ []
+    none [] = refl
+    none (w ∷ ws) = none ws
+
+-- a packet that is given
+one_given : (served : Served) (service : Option Service) → Some served ≡ option_map shown_service service → length (given_packet (given_in service)) ≡ 1
+one_given served None e = absurd cc
+one_given served (Some s) e = refl
 
 module _ (p : ParamFields) (seed : Seed) where
-  -- what the code does in a dequeue is one of the definition
-  abbrev pub serves_of : (held held' : Held) (book book' : Book) (last moment turns : ℕ) (closed : Bool) (answer : Option Served) (s : ServesChain p moment held book turns answer held' book') → held'.arrived ≡ held.arrived
-      → Serves (fq_codel p seed) (state_of held last closed) moment (given_in s.service) (map (drop_event moment cause.Codel) (dropped_in s.service) ++ sent_events moment (given_in s.service)) (state_of held' moment closed)
-  serves_of held held' book book' last moment turns closed answer s arrived = record {
-    dropped = dropped_in s.service;
-    queues = record { turns = turns; service = s.service; chain = s.chain; dropped_by = refl; given_by = refl };
-    told = refl;
-    next_id = arrived;
-    last = refl;
-    closed = refl;
-  }
+  abbrev seen : State FairQueues → Book → ℕ → ℕ → ℕ → Scheduler
+  seen s book turns comparisons room = record { params = p; seed = seed; standing = standing_of s book; turns = turns; comparisons = comparisons; room = room }
 
-  -- the events of a dequeue
-  pub events_of_serve : (book : Book) (moment : ℕ) (service : Option Service) → (with_sent (with_drops book moment cause.Codel (dropped_in service)) moment (option_map shown_service service)).events ≡ book.events ++ (map (drop_event moment cause.Codel) (dropped_in service) ++ sent_events moment (given_in service))
-  events_of_serve book moment None = refl
-  events_of_serve book moment (Some s) = append_assoc book.events (map (drop_event moment cause.Codel) s.dropped) (sent_events moment (Some s.given))
+  module _ {held held' : Held} {book book' : Book} {moment turns : ℕ} {answer : Option Served} (s : ServesChain p moment held book turns answer held' book') where
+    served_next : ServesNext (fq_codel_policy p) moment held.queues (dropped_in s.service) (given_in s.service) held'.queues
+    served_next = record { turns = turns; service = s.service; chain = s.chain; dropped_by = refl; given_by = refl }
 
-  -- the history behind a dequeue
-  history_of_serve : (held held' : Held) (book book' : Book) (last moment turns room : ℕ) (closed : Bool) (answer : Option Served) (s : ServesChain p moment held book turns answer held' book') → held'.arrived ≡ held.arrived → refusal_of (state_of held last closed) (Dequeue moment) ≡ None
-      → IsBookKept p seed held book last closed room
-      → IsHistory (fq_codel p seed).flow_of (queue_of held'.queues) (book.events ++ (map (drop_event moment cause.Codel) (dropped_in s.service) ++ sent_events moment (given_in s.service))) held'.arrived moment closed
-  history_of_serve held held' book book' last moment turns room closed answer s arrived fits h =
-      keeps_makes (fq_codel p seed) queue_of (fair_is_fifo (fq_codel_policy p) (policy_drops p) p.flows (fq_codel p seed).flow_of) (state_of held last closed) (state_of held' moment closed) (Dequeue moment)
-      (dequeue_answer (given_in s.service)) (map (drop_event moment cause.Codel) (dropped_in s.service) ++ sent_events moment (given_in s.service)) book.events fits (given_in s.service, refl, serves_of held held' book book' last moment turns closed answer s arrived) h.history
+    book_is : with_sent book' moment answer ≡ served_book book moment s.service
+    book_is = ap (with_sent book' moment) s.given ∙ ap (λ b. with_sent b moment (option_map shown_service s.service)) s.journal
 
-  -- the counts behind a dequeue
-  head_of_flow : (flow : ℕ) (gone : List Waiting) (old new : List Waiting) → old ≡ heads flow gone flow ++ new → old ≡ gone ++ new
-  head_of_flow flow gone old new e = let same : heads flow gone flow ≡ gone = rw (eq-eqb flow flow refl) refl in e ∙ ap (λ l. l ++ new) same
+    journal_is : (with_sent book' moment answer).events ≡ book.events ++ served_events moment s.service
+    journal_is = ap (λ (b : Book). b.events) book_is ∙ served_grown book moment s.service
 
-  acceptances_stay : (events : List Event) (moment : ℕ) (why : Cause) (ws : List Waiting) → acceptances (events ++ map (drop_event moment why) ws) ≡ acceptances events
-  acceptances_stay events moment why ws = filter_map-append acceptance_of events (map (drop_event moment why) ws) ∙ ap (λ l. acceptances events ++ l) (none ws) ∙ append-nil (acceptances events)
-    where
-      none : (ws : List Waiting) → acceptances (map (drop_event moment why) ws) ≡ []
-      none [] = refl
-      none (w ∷ ws) = none ws
+    -- what the code does in a dequeue is one of the definition
+    served : (last : ℕ) (closed : Bool) → held'.arrived ≡ held.arrived
+        → Serves (fq_codel p seed) (state_of held last closed) moment (given_in s.service) (served_events moment s.service) (state_of held' moment closed)
+    served last closed arrived = record { dropped = dropped_in s.service; queues = served_next; told = refl; next_id = arrived; last = refl; closed = refl }
 
-  counts_of_serve : (book : Book) (moment : ℕ) (service : Option Service) → AllByRecursion (λ w. length_named (acceptances book.events) w.id ≡ w.packet.len) (dropped_in service ++ given_packet (given_in service)) → AreCounts book.counts book.events
-      → AreCounts (with_sent (with_drops book moment cause.Codel (dropped_in service)) moment (option_map shown_service service)).counts (with_sent (with_drops book moment cause.Codel (dropped_in service)) moment (option_map shown_service service)).events
-  counts_of_serve book moment None known h = counts_drops cause.Codel moment book.counts book.events [] tt h
-  counts_of_serve book moment (Some s) known h =
-      let parts = ByRecursion-parts (λ (w : Waiting). length_named (acceptances book.events) w.id ≡ w.packet.len) s.dropped (s.given.waiting ∷ []) known in
-      let dropped = counts_drops cause.Codel moment book.counts book.events s.dropped parts.0 h in
-      counts_send (count_drops cause.Codel book.counts s.dropped) (book.events ++ map (drop_event moment cause.Codel) s.dropped) s.given.waiting.id moment (sent_ecn s.given.mark s.given.waiting.packet.ecn) s.given.mark s.given.waiting.packet.len
-      (rw (acceptances_stay book.events moment cause.Codel s.dropped) parts.1.0) dropped
-
-  -- the number of its events
-  length_of_serve : (book : Book) (moment : ℕ) (service : Option Service) → length ((with_sent (with_drops book moment cause.Codel (dropped_in service)) moment (option_map shown_service service)).events) ≡ length book.events + (length (dropped_in service) + length (given_packet (given_in service)))
-  length_of_serve book moment None = rw (append-nil book.events) (omega arith)
-  length_of_serve book moment (Some s) =
-      let all = length_push (book.events ++ map (drop_event moment cause.Codel) s.dropped) (Sent s.given.waiting.id moment (sent_ecn s.given.mark s.given.waiting.packet.ecn) s.given.mark) in
-      let drops = length-append book.events (map (drop_event moment cause.Codel) s.dropped) in
-      let each = length-map s.dropped (drop_event moment cause.Codel) in
-      omega arith
+    -- what leaves stood at the head of one queue
+    left_head : (flow : ℕ) × (queue_of held.queues flow ≡ packets_in s.service ++ queue_of held'.queues flow)
+    left_head =
+        let leaves = ((fifo p seed).serves held.queues moment (dropped_in s.service) (given_in s.service) held'.queues served_next).0 in
+        (leaves.0, rw (eq-eqb leaves.0 leaves.0 refl) at (leaves.1 leaves.0))
 
   -- a dequeue
-  pub kept_serves : (held held' : Held) (book book' : Book) (last moment turns room : ℕ) (closed : Bool) (answer : Option Served) → ServesChain p moment held book turns answer held' book' → held'.arrived ≡ held.arrived → held'.room ≡ held.room → refusal_of (state_of held last closed) (Dequeue moment) ≡ None
-      → IsBookKept p seed held book last closed room → IsBookKept p seed held' (with_sent book' moment answer) moment closed room
+  pub kept_serves : (held held' : Held) (book book' : Book) (last moment turns room : ℕ) (closed : Bool) (answer : Option Served) → ServesChain p moment held book turns answer held' book'
+      → held'.arrived ≡ held.arrived → held'.room ≡ held.room → refusal_of (state_of held last closed) (Dequeue moment) ≡ None
+      → IsBookKept p seed (state_of held last closed) held.room book room → IsBookKept p seed (state_of held' moment closed) held'.room (with_sent book' moment answer) room
   kept_serves held held' book book' last moment turns room closed answer s arrived same_room fits h =
-      let fifo = fair_is_fifo (fq_codel_policy p) (policy_drops p) p.flows (fq_codel p seed).flow_of in
-      let leaves = (fifo.serves held.queues moment (dropped_in s.service) (given_in s.service) held'.queues (serves_of held held' book book' last moment turns closed answer s arrived).queues).0 in
-      let gone = dropped_in s.service ++ given_packet (given_in s.service) in
-      let of_flow = head_of_flow leaves.0 gone (queue_of held.queues leaves.0) (queue_of held'.queues leaves.0) (leaves.1 leaves.0) in
-      let known = (ByRecursion-parts (λ (w : Waiting). length_named (acceptances book.events) w.id ≡ w.packet.len) gone (queue_of held'.queues leaves.0)
-      (subst (λ l. AllByRecursion (λ (w : Waiting). length_named (acceptances book.events) w.id ≡ w.packet.len) l) of_flow (waiting_known (fq_codel p seed).flow_of (queue_of held.queues) book.events held.arrived last closed h.history leaves.0))).0 in
-      let events = events_of_serve book moment s.service in
-      let history = history_of_serve held held' book book' last moment turns room closed answer s arrived fits h in
-      let counts = counts_of_serve book moment s.service known h.counts in
-      let sent = ap (with_sent book' moment) s.given ∙ ap (λ b. with_sent b moment (option_map shown_service s.service)) s.journal in
-      let waits = chain_waiting p turns moment held.queues s.service held'.queues s.chain in
-      let next = dequeue_next (state_of held last closed) moment fits in
-      let few_events = length_of_serve book moment s.service in
-      let room_left = room_of_serve book moment s.service in
-      let space = h.space in
-      let long = h.long in
-      rw sent (record {
-        some = h.some;
-        flows = flows_stay turns moment held.queues s.service held'.queues s.chain ∙ h.flows;
-        space = omega arith;
-        reserved = rw same_room h.reserved;
-        long = rw arrived (omega arith);
-        accepted = accepted_of_serve book moment s.service ∙ h.accepted ∙ sym arrived;
-        few = rw arrived h.few;
-        soon = next.soon;
-        history = rw events history;
-        counts = counts;
-      })
-    where
-      accepted_of_serve : (book : Book) (moment : ℕ) (service : Option Service) → (with_sent (with_drops book moment cause.Codel (dropped_in service)) moment (option_map shown_service service)).counts.accepted ≡ book.counts.accepted
-      accepted_of_serve book moment None = refl
-      accepted_of_serve book moment (Some s) = count_drops-accepted cause.Codel book.counts s.dropped
-
-      room_of_serve : (book : Book) (moment : ℕ) (service : Option Service) → (with_sent (with_drops book moment cause.Codel (dropped_in service)) moment (option_map shown_service service)).room ≡ book.room - (length (dropped_in service) + length (given_packet (given_in service)))
-      room_of_serve book moment None = omega arith
-      room_of_serve book moment (Some s) = omega arith
-
-      flows_stay : (turns now : ℕ) (old : FairQueues) (service : Option Service) (new : FairQueues) → Chain (fq_codel_policy p) now old turns service new → length new.lists.queues ≡ length old.lists.queues
-      flows_stay turns now old service new c = chain_as_many (fq_codel_policy p) (policy_drops p) turns now old service new c
+      let left = left_head s in
+      let waiting = waiting_known (fq_codel p seed).flow_of (queue_of held.queues) book.events held.arrived last closed h.history left.0 in
+      let named = (ByRecursion-parts (IsNamed book.events) (packets_in s.service) (queue_of held'.queues left.0) (rw left.1 at waiting)).0 in
+      kept_on p seed (Dequeue moment) (dequeue_answer (given_in s.service)) h (record { fits = fits; made = served_events moment s.service; makes = (given_in s.service, refl, served s last closed arrived); journal = journal_is s })
+      (rw (book_is s) (served_room book moment s.service)) (rw (book_is s) (served_counts book moment s.service named h.counts))
+      (omega (arith, all_fates moment cause.Codel (dropped_in s.service) (given_in s.service))) (rw arrived h.few) (dequeue_next (state_of held last closed) moment fits).soon (rw same_room h.reserved) (ap (λ n. room + n) arrived)
 
   -- what is answered to a dequeue
-  pub is_served : (held held' : Held) (book book' : Book) (last moment turns0 turns before after room : ℕ) (closed : Bool) (answer : Option Served) (s : ServesChain p moment held book turns answer held' book') → held'.arrived ≡ held.arrived → AreSound held.queues → 0 < p.quantum → refusal_of (state_of held last closed) (Dequeue moment) ≡ None
-      → IsServed (record { params = p; seed = seed; standing = record { state = state_of held last closed; events = book.events }; turns = turns0; comparisons = before; room = room }) moment (option_map (λ (s : Service). sent_at moment s.given) s.service)
-      (record { params = p; seed = seed; standing = record { state = state_of held' moment closed; events = (with_sent book' moment answer).events }; turns = turns; comparisons = after; room = room })
+  pub is_served : (held held' : Held) (book book' : Book) (last moment turns0 turns before after room : ℕ) (closed : Bool) (answer : Option Served) (s : ServesChain p moment held book turns answer held' book')
+      → held'.arrived ≡ held.arrived → AreSound held.queues → 0 < p.quantum → refusal_of (state_of held last closed) (Dequeue moment) ≡ None
+      → IsServed (seen (state_of held last closed) book turns0 before room) moment (option_map (λ (s : Service). sent_at moment s.given) s.service)
+      (seen (state_of held' moment closed) (with_sent book' moment answer) turns after room)
   is_served held held' book book' last moment turns0 turns before after room closed answer s arrived sound some fits =
-      let sent = ap (with_sent book' moment) s.given ∙ ap (λ b. with_sent b moment (option_map shown_service s.service)) s.journal in
+      let made = served_events moment s.service in
       record {
-        gives = record {
-          fits = fits;
-          given = given_in s.service;
-          made = map (drop_event moment cause.Codel) (dropped_in s.service) ++ sent_events moment (given_in s.service);
-          serves = serves_of held held' book book' last moment turns closed answer s arrived;
-          journal = ap (λ (b : Book). b.events) sent ∙ events_of_serve book moment s.service;
-          told = told s.service;
-        };
+        gives = record { fits = fits; given = given_in s.service; made = made; serves = served s last closed arrived; journal = journal_is s; told = told s.service };
         service = s.service;
         chain = s.chain;
         told = refl;
@@ -216,12 +354,12 @@ module _ (p : ParamFields) (seed : Seed) where
       told (Some s) = refl
 
   -- the comparisons of a dequeue
-  pub few_served : (held held' : Held) (book book' : Book) (last moment turns0 turns before room : ℕ) (closed : Bool) (answer : Option Served) → ServesChain p moment held book turns answer held' book' → length held.queues.lists.queues ≡ p.flows → held.comparisons ≡ 0
-      → ComparesFew (record { params = p; seed = seed; standing = record { state = state_of held last closed; events = book.events }; turns = turns0; comparisons = before; room = room })
-      (record { params = p; seed = seed; standing = record { state = state_of held' moment closed; events = (with_sent book' moment answer).events }; turns = turns; comparisons = held'.comparisons; room = room })
+  pub few_served : (held held' : Held) (book book' : Book) (last moment turns0 turns before room : ℕ) (closed : Bool) (answer : Option Served) → ServesChain p moment held book turns answer held' book'
+      → length held.queues.lists.queues ≡ p.flows → held.comparisons ≡ 0
+      → ComparesFew (seen (state_of held last closed) book turns0 before room) (seen (state_of held' moment closed) (with_sent book' moment answer) turns held'.comparisons room)
   few_served held held' book book' last moment turns0 turns before room closed answer s flows zero_before =
-      let sent = ap (with_sent book' moment) s.given ∙ ap (λ b. with_sent b moment (option_map shown_service s.service)) s.journal in
-      few_compared _ _ (leaving s.service) (ap (λ (b : Book). length b.events) sent ∙ length_of_serve book moment s.service) (rw (flows, zero_before) at s.few_comparisons)
+      let grown = ap length (journal_is s) ∙ length-append book.events (served_events moment s.service) ∙ ap (λ n. length book.events + n) (served_length moment s.service) in
+      few_compared _ _ (leaving s.service) grown (rw (flows, zero_before) at s.few_comparisons)
 
   -- an answer that is there, and one that is not
   pub told_none : (moment : ℕ) (service : Option Service) → None ≡ option_map shown_service service → None ≡ option_map (λ (s : Service). sent_at moment s.given) service
@@ -234,66 +372,26 @@ module _ (p : ParamFields) (seed : Seed) where
   told_some moment (Some s) served e = let same : served ≡ shown_service s = cc in ap (λ (v : Served). Some (record { id = v.waiting.id; moment = moment; packet = v.waiting.packet; mark = v.mark })) same
 
   -- a packet that is given has room for its fate
-  pub room_for_sent : (held held' : Held) (book book' : Book) (last moment turns room : ℕ) (closed : Bool) (served : Served) → ServesChain p moment held book turns (Some served) held' book' → IsBookKept p seed held book last closed room → 0 < book'.room
-  room_for_sent held held' book book' last moment turns room closed served s h = go s.service refl
-    where
-      go : (service : Option Service) → s.service ≡ service → 0 < book'.room
-      go None is = absurd (let e : Some served ≡ None = s.given ∙ ap (option_map shown_service) is in cc)
-      go (Some given) is =
-          let waits = chain_waiting p turns moment held.queues s.service held'.queues s.chain in
-          let left : book'.room ≡ book.room - length (dropped_in s.service) = ap (λ (b : Book). b.room) s.journal in
-          let one : length (given_packet (given_in s.service)) ≡ 1 = ap (λ (o : Option Service). length (given_packet (given_in o))) is in
-          let space = h.space in
-          omega arith
+  pub room_for_sent : (held held' : Held) (book book' : Book) (last moment turns room : ℕ) (closed : Bool) (served : Served) → ServesChain p moment held book turns (Some served) held' book'
+      → IsBookKept p seed (state_of held last closed) held.room book room → 0 < book'.room
+  room_for_sent held held' book book' last moment turns room closed served s h =
+      let left = left_head s in
+      let parts = ap length left.1 ∙ length-append (packets_in s.service) (queue_of held'.queues left.0) in
+      let gone = length-append (dropped_in s.service) (given_packet (given_in s.service)) in
+      let room_is : book'.room ≡ book.room - length (dropped_in s.service) = ap (λ (b : Book). b.room) s.journal in
+      omega (arith, h.space, one_given served s.service s.given, length-at held.queues.lists.queues left.0)
 
   -- what is kept says nothing of comparisons
-  pub kept_counted : (held : Held) (book : Book) (last room comparisons : ℕ) (closed : Bool) → IsBookKept p seed held book last closed room → IsBookKept p seed (record held { comparisons = comparisons }) book last closed room
-  kept_counted held book last room comparisons closed h = record {
-    some = h.some;
-    flows = h.flows;
-    space = h.space;
-    reserved = h.reserved;
-    long = h.long;
-    accepted = h.accepted;
-    few = h.few;
-    soon = h.soon;
-    history = h.history;
-    counts = h.counts;
-  }
+  pub kept_counted : (held : Held) (book : Book) (last room comparisons : ℕ) (closed : Bool) → IsBookKept p seed (state_of held last closed) held.room book room
+      → IsBookKept p seed (state_of (record held { comparisons = comparisons }) last closed) held.room book room
+  kept_counted held book last room comparisons closed h = h
 
-  -- a close
-  pub kept_closes : (held : Held) (book : Book) (last moment room : ℕ) (closed : Bool) → refusal_of (state_of held last closed) (Close moment) ≡ None → IsBookKept p seed held book last closed room
-      → IsBookKept p seed held (with_event book (Closed moment) book.counts) moment true room
-  kept_closes held book last moment room closed fits h =
-      let known = close_open (state_of held last closed) moment fits in
-      let fifo = fair_is_fifo (fq_codel_policy p) (policy_drops p) p.flows (fq_codel p seed).flow_of in
-      let history = keeps_makes (fq_codel p seed) queue_of fifo (state_of held last closed) (state_of held moment true) (Close moment) answer.Closed (Closed moment ∷ []) book.events fits (refl, record { told = refl; state = refl }) h.history in
-      let grown = length_push book.events (Closed moment) in
-      let open' : closes_left closed ≡ 1 = ap closes_left known.open' in
-      let space = h.space in
-      let long = h.long in
-      record {
-        some = h.some;
-        flows = h.flows;
-        space = omega arith;
-        reserved = h.reserved;
-        long = omega arith;
-        accepted = h.accepted;
-        few = h.few;
-        soon = known.next.soon;
-        history = history;
-        counts = counts_close book.counts book.events moment h.counts;
-      }
+-- what a scheduler's invariant says of the scheduler as callers see it
+pub seen_laws : {K : Type 0} (s : Inside K) (v : Scheduler) → scheduler_of s ≡ v → IsKept s → JournalLaws (discipline_of v).flow_of v.standing.events
+seen_laws s v e h = rw (← e) (laws_of_history (fq_codel s.params s.seed).flow_of (queue_of s.backlog.queues) s.journal.events s.backlog.arrived s.last_moment s.is_closed h.history)
 
-  -- as many wait as have no fate
-  pub kept_queued : (held : Held) (book : Book) (last room : ℕ) (closed : Bool) → IsBookKept p seed held book last closed room → waiting_in held.queues.lists ≡ length (without_fate book.events)
-  kept_queued held book last room closed h =
-      let waits = waits_of_history (fq_codel p seed).flow_of (queue_of held.queues) book.events held.arrived last closed h.history in
-      let below = flow_below p.classify p.flows seed in
-      sym (sum_by_agree_on (λ q. sum_by (λ _. 1) q) length held.queues.lists.queues (ByRecursion-all (λ q. sum_by (λ _. 1) q ≡ length q) held.queues.lists.queues (λ q. sym (length_as_sum q))))
-      ∙ by_queues (λ _. 1) 0 held.queues.lists.queues (without_fate book.events) (λ i under. rw (let e : 0 + i ≡ i = omega arith in e) (waits i))
-      (ByRecursion-filter (λ a. (0 ≤ a.flow) × (a.flow < 0 + length held.queues.lists.queues)) (λ a. not (is_among (fate_ids book.events) a.id)) (acceptances book.events)
-      (ByRecursion-weaker (λ a. a.flow ≡ (fq_codel p seed).flow_of a.packet.tuple) (λ a. (0 ≤ a.flow) × (a.flow < 0 + length held.queues.lists.queues)) (acceptances book.events)
-      (λ a e. let low = below a.packet.tuple h.some in let many = h.flows in omega arith)
-      (recursion_from_All (λ a. a.flow ≡ (fq_codel p seed).flow_of a.packet.tuple) (acceptances book.events) h.history.flows)))
-      ∙ sym (length_as_sum (without_fate book.events))
+pub seen_waits : {K : Type 0} (s : Inside K) (v : Scheduler) → scheduler_of s ≡ v → IsKept s → WaitWithoutFate (queue_of (flows_of v)) v.standing.events
+seen_waits s v e h = rw (← e) (waits_of_history (fq_codel s.params s.seed).flow_of (queue_of s.backlog.queues) s.journal.events s.backlog.arrived s.last_moment s.is_closed h.history)
+
+pub seen_queued : {K : Type 0} (s : Inside K) (v : Scheduler) → scheduler_of s ≡ v → IsKept s → (statistics v.standing.events).queued ≡ waiting_in (flows_of v).lists
+seen_queued s v e h = rw (← e) (sym (waits_at s.params s.seed ((scheduler_of s).standing.state) s.journal.events h.some h.flows h.history))

@@ -1,9 +1,6 @@
 -- The turns and the comparisons that a scheduler tells, one step on.
-use Rattle.std.proofs.Common.{◌≡◌, ℕ, zero, suc, ◌+◌, Bool, true, false, List, [], ◌∷◌, ◌++◌, drop, take, length, slice_get, Option, Some, refl, ap, ◌∙◌, arith}
-use Rattle.std.proofs.lemmas.List.{drop-append-le}
+use Rattle.std.proofs.Common.{◌≡◌, ℕ, Bool, true, false, List, [], ◌∷◌, ◌++◌, take, length, slice_get, Option, Some, refl, ap, ◌∙◌, ◌⊎◌, inl, inr, append_assoc}
 use Rattle.std.proofs.lemmas.List.Elements.{All-nil, All-push}
-use Rattle.std.proofs.lemmas.Option.{slice_get_within}
-use Rattle.std.proofs.Math.Seq.{drop-append-add}
 use Rattle.journal_core.specs.declared.outcome.Answer.{Answer}
 use Rattle.journal_core.specs.declared.outcome.Answer.TheVariants as answer
 use Rattle.journal_core.specs.declared.outcome.Outcome.{Outcome}
@@ -16,81 +13,57 @@ use Rattle.sched_core.specs.LastSteps.AtLast.{none as at_none, last as at_last}
 use Rattle.journal_core.specs.Runs.{IsRun}
 use Rattle.sched_core.specs.Schedulers.{ComparesFew, Scheduler}
 
-found_in_front : {X : Type 0} (xs ys : List X) (k : ℕ) (x : X) → slice_get xs k ≡ Some x → slice_get (xs ++ ys) k ≡ Some x
-found_in_front [] ys k x found = absurd cc
-found_in_front (y ∷ xs) ys zero x found = found
-found_in_front (y ∷ xs) ys (suc k) x found = found_in_front xs ys k x found
-
-found_at_end : {X : Type 0} (xs : List X) (x : X) → slice_get (xs ++ x ∷ []) (length xs) ≡ Some x
-found_at_end [] x = refl
-found_at_end (y ∷ xs) x = found_at_end xs x
-
-module _ (test : Answer → Bool) (outcomes : List Outcome) (Otherwise : Type 0) (Holds : ℕ → Outcome → Type 0) (o : Outcome) where
-  -- an outcome that doesn't pass changes nothing
-  pub passed_over : AtLast test outcomes Otherwise Holds → test o.answer ≡ false → AtLast test (outcomes ++ o ∷ []) Otherwise Holds
-  passed_over (at_none none_passes otherwise) fails = at_none (All-push (λ (x : Outcome). test x.answer ≡ false) outcomes o none_passes fails) otherwise
-  passed_over (at_last place x found passes later holds) fails =
-      let within = slice_get_within outcomes place x found in
-      let behind : drop (place + 1) (outcomes ++ o ∷ []) ≡ drop (place + 1) outcomes ++ o ∷ [] = drop-append-le (place + 1) outcomes (o ∷ []) (omega arith) in
-      at_last place x (found_in_front outcomes (o ∷ []) place x found) passes
-      (rw behind (All-push (λ (y : Outcome). test y.answer ≡ false) (drop (place + 1) outcomes) o later fails)) holds
-
-  -- one that passes is the last one
-  pub passes_last : test o.answer ≡ true → Holds (length outcomes) o → AtLast test (outcomes ++ o ∷ []) Otherwise Holds
-  passes_last passes holds =
-      let behind : drop (length outcomes + 1) (outcomes ++ o ∷ []) ≡ [] = drop-append-add outcomes (o ∷ []) 1 in
-      at_last (length outcomes) o (found_at_end outcomes o) passes (rw behind (All-nil (λ (y : Outcome). test y.answer ≡ false))) holds
+-- An outcome that passes is the last one that does, and one that doesn't pass changes nothing.
+one_more : {test : Answer → Bool} {outcomes : List Outcome} {old new : ℕ} {Holds : ℕ → Outcome → ℕ → Type 0} (o : Outcome)
+    → ((test o.answer ≡ true) × Holds (length outcomes) o new) ⊎ ((test o.answer ≡ false) × (new ≡ old))
+    → AtLast test outcomes old Holds → AtLast test (outcomes ++ o ∷ []) new Holds
+one_more {test} {outcomes} o (inl passes) before = at_last outcomes [] o refl passes.0 (All-nil (λ (x : Outcome). test x.answer ≡ false)) passes.1
+one_more {test} {outcomes} o (inr fails) (at_none none_passes zero) = at_none (All-push (λ (x : Outcome). test x.answer ≡ false) outcomes o none_passes fails.0) (fails.1 ∙ zero)
+one_more {test} o (inr fails) (at_last before behind x is passes later holds) =
+    at_last before (behind ++ o ∷ []) x (ap (λ l. l ++ o ∷ []) is ∙ append_assoc before (x ∷ behind) (o ∷ [])) passes
+    (All-push (λ (x : Outcome). test x.answer ≡ false) behind o later fails.0) (rw fails.1 holds)
 
 module _ (steps : List Step) (outcomes : List Outcome) (old new : Scheduler) (step : Step) where
-  dequeued_last : slice_get steps (length outcomes) ≡ Some step → IsRun (fq_codel old.params old.seed) (take (length outcomes) steps) old.standing outcomes
-      → (sent : Option Sent) → IsDequeued old step sent new → IsDequeueOf old.params old.seed steps (length outcomes) new.turns
-  dequeued_last found run sent d = record {
-    moment = d.moment;
-    dequeues = found ∙ ap Some d.dequeues;
-    made = run.made;
-    before = old.standing.state;
-    runs = run.runs;
-    fits = d.serves.gives.fits;
-    service = d.serves.service;
-    behind = new.standing.state.queues;
-    chain = d.serves.chain;
-  }
-
   -- the turns that are told behind one step more are those of the last dequeue
   pub turns_of_last : (o : Outcome) → slice_get steps (length outcomes) ≡ Some step
       → IsRun (fq_codel old.params old.seed) (take (length outcomes) steps) old.standing outcomes
       → GoesOn old step o.answer new
       → AreTurnsOfLast old.params old.seed steps outcomes old.turns → AreTurnsOfLast old.params old.seed steps (outcomes ++ o ∷ []) new.turns
-  turns_of_last o found run g before = go o.answer refl g
+  turns_of_last o found run g = one_more o (told o.answer g)
     where
-      passed : new.turns ≡ old.turns → is_dequeued o.answer ≡ false → AreTurnsOfLast old.params old.seed steps (outcomes ++ o ∷ []) new.turns
-      passed same is = rw same (passed_over is_dequeued outcomes (old.turns ≡ 0) (λ place x. IsDequeueOf old.params old.seed steps place old.turns) o before is)
+      dequeued : (sent : Option Sent) → IsDequeued old step sent new → IsDequeueOf old.params old.seed steps (length outcomes) new.turns
+      dequeued sent d = record {
+        moment = d.moment;
+        dequeues = found ∙ ap Some d.dequeues;
+        made = run.made;
+        before = old.standing.state;
+        runs = run.runs;
+        fits = d.serves.gives.fits;
+        service = d.serves.service;
+        behind = new.standing.state.queues;
+        chain = d.serves.chain;
+      }
 
-      made : (sent : Option Sent) → IsDequeued old step sent new → is_dequeued o.answer ≡ true → AreTurnsOfLast old.params old.seed steps (outcomes ++ o ∷ []) new.turns
-      made sent d is = passes_last is_dequeued outcomes (new.turns ≡ 0) (λ place x. IsDequeueOf old.params old.seed steps place new.turns) o is (dequeued_last found run sent d)
-
-      go : (said : Answer) → o.answer ≡ said → GoesOn old step said new → AreTurnsOfLast old.params old.seed steps (outcomes ++ o ∷ []) new.turns
-      go answer.Accepted is h = passed h.advances.turns (ap is_dequeued is)
-      go answer.Sent is h = made (Some h.0) h.1 (ap is_dequeued is)
-      go answer.Idle is h = made _ h (ap is_dequeued is)
-      go answer.Closed is h = passed h.advances.turns (ap is_dequeued is)
-      go (answer.Refused why) is h = passed (ap (λ (s : Scheduler). s.turns) h.1) (ap is_dequeued is)
+      told : (said : Answer) → GoesOn old step said new
+          → ((is_dequeued said ≡ true) × IsDequeueOf old.params old.seed steps (length outcomes) new.turns) ⊎ ((is_dequeued said ≡ false) × (new.turns ≡ old.turns))
+      told answer.Accepted h = inr (refl, h.advances.turns)
+      told answer.Sent h = inl (refl, dequeued (Some h.0) h.1)
+      told answer.Idle h = inl (refl, dequeued _ h)
+      told answer.Closed h = inr (refl, h.advances.turns)
+      told (answer.Refused why) h = inr (refl, ap (λ (s : Scheduler). s.turns) h.1)
 
   -- and the comparisons those of the last step that wasn't refused
   pub comparisons_of_last : (o : Outcome) → o.first_event ≡ length old.standing.events → o.end_event ≡ length new.standing.events
       → GoesOn old step o.answer new
       → AreFewOfLast old.params outcomes old.comparisons → AreFewOfLast old.params (outcomes ++ o ∷ []) new.comparisons
-  comparisons_of_last o first end g before = go o.answer refl g
+  comparisons_of_last o first end g = one_more o (told o.answer g)
     where
-      few : ComparesFew old new → is_made o.answer ≡ true → AreFewOfLast old.params (outcomes ++ o ∷ []) new.comparisons
-      few c is = passes_last is_made outcomes (new.comparisons ≡ 0) (λ place x. AreFewFor old.params x new.comparisons) o is
-          (record { levels = c.levels; over_flows = c.over_flows; most = rw (first, end) c.most })
+      few : ComparesFew old new → AreFewFor old.params o new.comparisons
+      few c = record { levels = c.levels; over_flows = c.over_flows; most = rw (first, end) c.most }
 
-      go : (said : Answer) → o.answer ≡ said → GoesOn old step said new → AreFewOfLast old.params (outcomes ++ o ∷ []) new.comparisons
-      go answer.Accepted is h = few h.few_comparisons (ap is_made is)
-      go answer.Sent is h = few h.1.few_comparisons (ap is_made is)
-      go answer.Idle is h = few h.few_comparisons (ap is_made is)
-      go answer.Closed is h = few h.few_comparisons (ap is_made is)
-      go (answer.Refused why) is h =
-          let same : new.comparisons ≡ old.comparisons = ap (λ (s : Scheduler). s.comparisons) h.1 in
-          rw same (passed_over is_made outcomes (old.comparisons ≡ 0) (λ place x. AreFewFor old.params x old.comparisons) o before (ap is_made is))
+      told : (said : Answer) → GoesOn old step said new → ((is_made said ≡ true) × AreFewFor old.params o new.comparisons) ⊎ ((is_made said ≡ false) × (new.comparisons ≡ old.comparisons))
+      told answer.Accepted h = inl (refl, few h.few_comparisons)
+      told answer.Sent h = inl (refl, few h.1.few_comparisons)
+      told answer.Idle h = inl (refl, few h.few_comparisons)
+      told answer.Closed h = inl (refl, few h.few_comparisons)
+      told (answer.Refused why) h = inr (refl, ap (λ (s : Scheduler). s.comparisons) h.1)

@@ -1,6 +1,4 @@
-pub mod StepComparisons
 pub mod KeptScheduler
-pub mod KeptAcceptances
 pub mod FqCodelRuns
 pub mod ShortPackets
 pub mod RunExistence

@@ -1,5 +1,5 @@
 -- Of which step of a run a scheduler tells its turns and its comparisons.
-use Rattle.std.specs.Prelude.{◌≡◌, ℕ, ◌+◌, ◌-◌, ◌*◌, ◌≤◌, Bool, true, false, not, List, All, drop, take, slice_get, Option, Some, None}
+use Rattle.std.specs.Prelude.{◌≡◌, ℕ, ◌-◌, ◌*◌, ◌≤◌, Bool, true, false, not, List, ◌∷◌, ◌++◌, All, length, take, slice_get, Option, Some, None}
 use Rattle.packet_core.specs.declared.flow.Seed.{Seed}
 use Rattle.packet_core.specs.declared.params.ParamFields.{ParamFields}
 use Rattle.flow_core.specs.Winners.{IsLevels}
@@ -26,13 +26,15 @@ is_dequeued (answer.Refused why) = false
 abbrev pub is_made : Answer → Bool
 is_made said = not (is_refused said)
 
--- This holds of the last of these outcomes whose answer passes the test and of its place; where none passes it, the other holds.
-pub data AtLast (test : Answer → Bool) (outcomes : List Outcome) (Otherwise : Type 0) (Holds : ℕ → Outcome → Type 0) : Type 0 where
-  none : All (λ (o : Outcome). test o.answer ≡ false) outcomes → Otherwise → AtLast test outcomes Otherwise Holds
-  last : (place : ℕ) (o : Outcome) → slice_get outcomes place ≡ Some o → test o.answer ≡ true
-      → All (λ (later : Outcome). test later.answer ≡ false) (drop (place + 1) outcomes)
-      → Holds place o
-      → AtLast test outcomes Otherwise Holds
+-- The number is told of the last of these outcomes whose answer passes the test: it holds of its place, of the outcome
+-- and of the number. Where none passes it, the number is 0.
+pub data AtLast (test : Answer → Bool) (outcomes : List Outcome) (n : ℕ)
+    (Holds : ℕ → Outcome → ℕ → Type 0) : Type 0 where
+  none : All (λ (o : Outcome). test o.answer ≡ false) outcomes → n ≡ 0 → AtLast test outcomes n Holds
+  last : (before behind : List Outcome) (o : Outcome) → outcomes ≡ before ++ o ∷ behind → test o.answer ≡ true
+      → All (λ (later : Outcome). test later.answer ≡ false) behind
+      → Holds (length before) o n
+      → AtLast test outcomes n Holds
 
 -- At that place stands a dequeue, and behind the run of the steps before it its serving chain has so many turns.
 pub record IsDequeueOf (p : ParamFields) (seed : Seed) (steps : List Step) (place turns : ℕ) : Type 0 where
@@ -49,9 +51,10 @@ pub record IsDequeueOf (p : ParamFields) (seed : Seed) (steps : List Step) (plac
 -- These are the turns of the last dequeue of the run that wasn't refused, and none where there was no such dequeue.
 abbrev pub AreTurnsOfLast : ParamFields → Seed → List Step → List Outcome → ℕ → Type 0
 AreTurnsOfLast p seed steps outcomes turns =
-    AtLast is_dequeued outcomes (turns ≡ 0) (λ place o. IsDequeueOf p seed steps place turns)
+    AtLast is_dequeued outcomes turns (λ place o n. IsDequeueOf p seed steps place n)
 
--- So many comparisons are few for the step of that outcome: for each of its events at most as many as a tree over the flows has levels.
+-- So many comparisons are few for the step of that outcome: for each of its events at most as many as a tree over the
+-- flows has levels.
 pub record AreFewFor (p : ParamFields) (o : Outcome) (comparisons : ℕ) : Type 0 where
   pub levels : ℕ
   pub over_flows : IsLevels p.flows levels
@@ -59,4 +62,4 @@ pub record AreFewFor (p : ParamFields) (o : Outcome) (comparisons : ℕ) : Type 
 
 -- So many comparisons are few for the last step of the run that wasn't refused, and none where there was no such step.
 abbrev pub AreFewOfLast : ParamFields → List Outcome → ℕ → Type 0
-AreFewOfLast p outcomes comparisons = AtLast is_made outcomes (comparisons ≡ 0) (λ place o. AreFewFor p o comparisons)
+AreFewOfLast p outcomes comparisons = AtLast is_made outcomes comparisons (λ place o n. AreFewFor p o n)

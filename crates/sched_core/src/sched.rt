@@ -1,3 +1,5 @@
+//! The scheduler: each call makes one step, or refuses it and changes nothing, and the journal keeps what came of it.
+
 ghost use Rattle.std.specs.Prelude.{◌≡◌, ◌≢◌, ◌+◌, ◌-◌, ◌<◌, ◌≤◌, [], max, All, Some, None, IfOk, IfErr, IsOk, MatchResult, OnOk, OnErr};
 ghost use Rattle.journal_core.specs.State.{moment_fault_of, Tests};
 ghost use Rattle.journal_core.specs.declared.outcome.Answer.TheVariants as answer;
@@ -47,7 +49,12 @@ fn refused(why: Refusal) -> Result<Answer, Memory>
 
 /// What a dequeue at that moment answers of a packet that is served.
 fn sent_of(served: &Served, moment: u64) -> Sent
-    ensures { result ≡ record { id = served.now.waiting.id; moment = moment; packet = served.now.waiting.packet; mark = served.now.mark } }
+    ensures { result ≡ record {
+      id = served.now.waiting.id;
+      moment = moment;
+      packet = served.now.waiting.packet;
+      mark = served.now.mark;
+    } }
 {
     Sent {
         id: served.waiting.id,
@@ -144,7 +151,8 @@ impl<K: Keeps> Sched<K> {
     /// batch from its head (RFC 8290, section 4.1). It refuses a moment of 2^60 or more or before the last one,
     /// then a packet after the close, then one after 2^40 others, and last where a growth is refused.
     pub fn enqueue(&mut self, moment: u64, lane: u32, packet: Packet) -> Result<Admitted, Refusal>
-        ensures admitted { IfOk result (λ a. a ≡ admitted_at (discipline_of self.old) self.old.standing.state moment packet) }
+        ensures admitted { IfOk result
+            (λ a. a ≡ admitted_at (discipline_of self.old) self.old.standing.state moment packet) }
         ensures made { OnOk result (IsAdvanced self.old (Enqueue moment lane packet) answer.Accepted self.new) }
         ensures room { OnOk result (self.new.room ≡ self.old.room - 1) }
         ensures few_comparisons { OnOk result (ComparesFew self.old self.new) }
@@ -152,7 +160,8 @@ impl<K: Keeps> Sched<K> {
 
         // Each refusal comes in its case, want of memory last, and changes nothing.
         ensures refused { IfErr result (IsRefusal (refusal_of self.old.standing.state (Enqueue moment lane packet))) }
-        ensures reserved { 0 < self.old.room → OnErr result (refusal_of self.old.standing.state (Enqueue moment lane packet) ≢ None) }
+        ensures reserved { 0 < self.old.room
+            → OnErr result (refusal_of self.old.standing.state (Enqueue moment lane packet) ≢ None) }
         ensures unchanged { OnErr result (self.new ≡ self.old) }
     {
         self.test(&Step::Enqueue {
@@ -160,9 +169,7 @@ impl<K: Keeps> Sched<K> {
             lane,
             packet,
         })?;
-        if self.room == 0 {
-            self.reserve(1)?;
-        }
+        self.reserve(1)?;
         Ok(self.admit(moment, lane, packet))
     }
 
@@ -225,7 +232,8 @@ impl<K: Keeps> Sched<K> {
         ensures made { OnOk result (IsAdvanced self.old (Close moment) answer.Closed self.new) }
         ensures room { self.new.room ≡ self.old.room }
         ensures few_comparisons { OnOk result (ComparesFew self.old self.new) }
-        ensures refused { IfErr result (λ fault. refusal_of self.old.standing.state (Close moment) ≡ Some (close_refusal fault)) }
+        ensures refused { IfErr result
+            (λ fault. refusal_of self.old.standing.state (Close moment) ≡ Some (close_refusal fault)) }
         ensures unchanged { OnErr result (self.new ≡ self.old) }
     {
         self.test_close(moment)?;
@@ -240,7 +248,8 @@ impl<K: Keeps> Sched<K> {
     /// answer says why. It fails for want of memory alone, and then the step is an enqueue that isn't refused and has
     /// no room. Nothing has changed after either.
     pub fn make(&mut self, step: &Step) -> Result<Answer, Memory>
-        ensures made { IfOk result (λ said. Takes (discipline_of self.old) self.old.standing step.now said self.new.standing) }
+        ensures made { IfOk result
+            (λ said. Takes (discipline_of self.old) self.old.standing step.now said self.new.standing) }
         ensures params { self.new.params ≡ self.old.params }
         ensures seed { self.new.seed ≡ self.old.seed }
         ensures goes_on { IfOk result (λ said. GoesOn self.old step.now said self.new) }
@@ -309,6 +318,7 @@ impl<K: Keeps> Sched<K> {
     }
 
     /// The laws of the journal at every moment, whether its events are stored or not.
+    #[tactic(auto, using(crate::proofs::KeptScheduler::seen_waits))]
     pub fn journal_laws(&self)
         ensures laws { JournalLaws (discipline_of self.now).flow_of self.now.standing.events }
         ensures waiting { WaitWithoutFate (queue_of (flows_of self.now)) self.now.standing.events }
@@ -319,7 +329,8 @@ impl<K: Keeps> Sched<K> {
     /// The statistics of the journal.
     pub fn totals(&self) -> Totals
         ensures value { result ≡ statistics self.now.standing.events }
-        ensures balance { result.accepted ≡ result.sent + result.dropped_codel + result.dropped_overflow + result.queued }
+        ensures balance { result.accepted
+            ≡ result.sent + result.dropped_codel + result.dropped_overflow + result.queued }
     {
         let counts = self.journal.counts();
         Totals {
@@ -339,6 +350,7 @@ impl<K: Keeps> Sched<K> {
     }
 
     /// How many packets wait.
+    #[tactic(auto, using(crate::proofs::KeptScheduler::seen_queued))]
     pub fn queued(&self) -> u64
         ensures value { result ≡ waiting_in (flows_of self.now).lists }
         ensures journal { result ≡ (statistics self.now.standing.events).queued }
@@ -381,7 +393,9 @@ impl<K: Keeps> Sched<K> {
 
     /// Why a close at that moment is refused, if it is.
     fn test_close(&self, moment: u64) -> Result<(), CloseFault>
-        ensures { MatchResult result (λ _. refusal_of self.now.standing.state (Close moment) ≡ None) (λ fault. refusal_of self.now.standing.state (Close moment) ≡ Some (close_refusal fault)) }
+        ensures { MatchResult result
+            (λ _. refusal_of self.now.standing.state (Close moment) ≡ None)
+            (λ fault. refusal_of self.now.standing.state (Close moment) ≡ Some (close_refusal fault)) }
     {
         test_moment(moment, self.last_moment)?;
         if self.is_closed {
@@ -419,7 +433,8 @@ impl Sched<Stored> {
     /// and fails for want of memory alone.
     pub fn tuple_rows(&self) -> Result<Vec<TupleRow>, Memory>
         ensures rows { IfOk result (λ rows. rows.items ≡ tuple_rows self.now.standing.events) }
-        ensures balance { IfOk result (λ rows. All (λ row. row.accepted ≡ row.sent + row.dropped + row.queued) rows.items) }
+        ensures balance { IfOk result
+            (λ rows. All (λ row. row.accepted ≡ row.sent + row.dropped + row.queued) rows.items) }
     {
         gather_rows(self.journal.allocator(), self.events())
     }
