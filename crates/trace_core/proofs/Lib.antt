@@ -1,4 +1,3 @@
-pub mod Digits
 pub mod Fields
 pub mod Lines
 pub mod Records
