@@ -1,5 +1,4 @@
-pub mod Fields
-pub mod Lines
-pub mod Records
+pub mod RecordLemmas
 pub mod ReportLemmas
 pub mod RowLemmas
+pub mod TraceRunLemmas

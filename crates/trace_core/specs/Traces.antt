@@ -145,10 +145,10 @@ pub record HasTaken (text : List ℕ) (rows : TraceRows) (turns : ℕ) (steps : 
 
 -- what was taken next: a row asks for one step more, a blank record for none, and at the end the steps are those of
 -- the text
-abbrev pub Takes : TraceRows → Next → TraceRows → Type 0
-Takes old (next.Row step) new = (text : List ℕ) (turns : ℕ) (steps : List Step)
+abbrev pub TakesNext : TraceRows → Next → TraceRows → Type 0
+TakesNext old (next.Row step) new = (text : List ℕ) (turns : ℕ) (steps : List Step)
     → HasTaken text old turns steps → HasTaken text new (turns + 1) (steps ++ step ∷ [])
-Takes old next.Blank new = (text : List ℕ) (turns : ℕ) (steps : List Step)
+TakesNext old next.Blank new = (text : List ℕ) (turns : ℕ) (steps : List Step)
     → HasTaken text old turns steps → HasTaken text new (turns + 1) steps
-Takes old next.End new = (text : List ℕ) (turns : ℕ) (steps : List Step)
+TakesNext old next.End new = (text : List ℕ) (turns : ℕ) (steps : List Step)
     → HasTaken text old turns steps → steps_of text ≡ Ok steps

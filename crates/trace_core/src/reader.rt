@@ -122,7 +122,7 @@ impl<'a> TraceRows<'a> {
 
     /// What stands next. A fault comes at the row that it stands in.
     pub(crate) fn next(&mut self) -> Result<Next, TraceFault>
-        ensures taken { IfOk result (λ next. Traces.Takes self.old next self.new) }
+        ensures taken { IfOk result (λ next. Traces.TakesNext self.old next self.new) }
         ensures fault { IfErr result (λ fault. (text : List ℕ) (turns : ℕ) (steps : List Step)
             → Traces.HasTaken text self.old turns steps → Traces.IsRowsFault text self.new.records fault) }
     {
@@ -191,11 +191,13 @@ fn next_record(
     row: &mut ByteRecord,
 ) -> Result<bool, TraceFaultKind>
     ensures more { IfOk result (λ found. found ≡ true → (text : List ℕ) (before : List (List (List ℕ)))
-        → Traces.HasRead text reader.old before → Traces.HasRead text reader.new (before ++ fields_of row.new ∷ [])) }
+        → Traces.HasRead text reader.old before
+        → Traces.HasRead text reader.new (before ++ fields_of row.new ∷ [])) }
     ensures end { IfOk result (λ found. found ≡ false → (text : List ℕ) (before : List (List (List ℕ)))
         → Traces.HasRead text reader.old before → records default_config (strip_bom text) ≡ before) }
     ensures fault { IfErr result (λ fault. (fault ≡ TraceFaultKind.Read) ⊎ (fault ≡ TraceFaultKind.Memory)) }
-    ensures failed { IfErr result (λ fault. fault ≡ TraceFaultKind.Read → (text : List ℕ) (before : List (List (List ℕ)))
+    ensures failed { IfErr result (λ fault. fault ≡ TraceFaultKind.Read
+        → (text : List ℕ) (before : List (List (List ℕ)))
         → Traces.HasRead text reader.old before → Traces.FailsBehind text before reader.new) }
 {
     match reader.read_byte_record(row) {

@@ -112,7 +112,7 @@ fn read_packet(row: &ByteRecord) -> Result<Packet, TraceFaultKind>
 }
 
 /// A moment in microseconds. It is refused where it isn't digits with a value below 2^60.
-#[tactic(auto, using(crate::proofs::Fields::below_cut), unfolding(crate::specs::Rows::number_below))]
+#[tactic(auto, using(crate::proofs::RowLemmas::below_cut), unfolding(crate::specs::Rows::number_below))]
 fn read_moment(text: &[u8]) -> Result<u64, TraceFaultKind>
     ensures value { result ≡ number_below (2 ^ 60) text.now }
     ensures fault { IfErr result (λ fault. fault ≢ TraceFaultKind.Read) }
@@ -124,7 +124,7 @@ fn read_moment(text: &[u8]) -> Result<u64, TraceFaultKind>
 }
 
 /// A protocol's number. It is refused where it isn't digits with a value of at most 255.
-#[tactic(auto, using(crate::proofs::Fields::below_cut), unfolding(crate::specs::Rows::number_below))]
+#[tactic(auto, using(crate::proofs::RowLemmas::below_cut), unfolding(crate::specs::Rows::number_below))]
 fn read_u8(text: &[u8]) -> Result<u8, TraceFaultKind>
     ensures value { result ≡ number_below (2 ^ 8) text.now }
     ensures fault { IfErr result (λ fault. fault ≢ TraceFaultKind.Read) }
@@ -134,7 +134,7 @@ fn read_u8(text: &[u8]) -> Result<u8, TraceFaultKind>
 }
 
 /// A port. It is refused where it isn't digits with a value of at most 65,535.
-#[tactic(auto, using(crate::proofs::Fields::below_cut), unfolding(crate::specs::Rows::number_below))]
+#[tactic(auto, using(crate::proofs::RowLemmas::below_cut), unfolding(crate::specs::Rows::number_below))]
 fn read_u16(text: &[u8]) -> Result<u16, TraceFaultKind>
     ensures value { result ≡ number_below (2 ^ 16) text.now }
     ensures fault { IfErr result (λ fault. fault ≢ TraceFaultKind.Read) }
@@ -182,15 +182,15 @@ fn read_address(text: &[u8]) -> Result<Ip, TraceFaultKind>
     ensures value { result ≡ address_of text.now }
     ensures fault { IfErr result (λ fault. fault ≢ TraceFaultKind.Read) }
 {
-    match address(text) {
+    match four_octets(text) {
         Some(ip) => Ok(ip),
         None => Err(TraceFaultKind::BadAddress),
     }
 }
 
-/// The address that the text is, if it is one.
+/// The address of four numbers that are joined by dots, if the text is one.
 #[tactic(auto, unfolding(crate::specs::Rows::four_octets_of))]
-fn address(text: &[u8]) -> Option<Ip>
+fn four_octets(text: &[u8]) -> Option<Ip>
     ensures { result ≡ four_octets_of text.now }
 {
     let (first, text) = cut_at_dot(text)?;
@@ -208,7 +208,7 @@ fn cut_at_dot(text: &[u8]) -> Option<(&[u8], &[u8])>
 }
 
 /// The number from 0 to 255 that the text is, written without leading zeros.
-#[tactic(auto, using(crate::proofs::Fields::below_cut), unfolding(crate::specs::Rows::octet_of))]
+#[tactic(auto, using(crate::proofs::RowLemmas::below_cut), unfolding(crate::specs::Rows::octet_of))]
 fn octet(text: &[u8]) -> Option<u8>
     ensures { result ≡ octet_of text.now }
 {

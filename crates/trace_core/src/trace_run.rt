@@ -101,12 +101,12 @@ pub fn run_between<S: Source, K: Sink>(
     ensures write { IfErr result (λ fault. fault ≡ RunFault.Write → K.HasFailed sink.new) }
 {
     let text = read_text(alloc, source)?;
-    let report = report_of(alloc, &text, params, seed)?;
+    let report = run_text(alloc, &text, params, seed)?;
     write_text(sink, &report)
 }
 
-/// The report of a text's run with a new scheduler of those parameters and that seed.
-fn report_of(alloc: Global, text: &[u8], params: Params, seed: Seed) -> Result<Vec<u8>, RunFault>
+/// Makes the steps of a text with a new scheduler of those parameters and that seed, and gives the report.
+fn run_text(alloc: Global, text: &[u8], params: Params, seed: Seed) -> Result<Vec<u8>, RunFault>
     requires { length text.now ≤ MAX_BYTES }
     ensures report { IfOk result (λ report. IsReportOf params seed text.now report.items) }
     ensures trace { IfErr result (λ fault. (why : TraceFault) → fault ≡ RunFault.Trace why

@@ -1,6 +1,6 @@
 use Rattle.std.proofs.Common.{◌≤◌, length, rules}
 use Rattle.std.proofs.lemmas.Result.{IfErr-weaker}
-use Rattle.trace_core.proofs.Records.{rows_fault, rows_read}
+use Rattle.trace_core.proofs.RecordLemmas.{rows_fault, rows_read}
 use Rattle.trace_core.proofs.reader.read_trace_from.Goals as goal
 
 pub returns-clause-fault : goal.returns-clause-fault

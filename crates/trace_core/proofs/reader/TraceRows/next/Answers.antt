@@ -2,7 +2,7 @@ use Rattle.std.proofs.Common.{◌≡◌, ◌+◌, ◌∙◌, [], ◌∷◌, ◌+
 use Rattle.std.proofs.lemmas.Bool.{le-ltb, lt-ltb}
 use Rattle.csv.specs.Records.{fields_of}
 use Rattle.trace_core.specs.Traces.{with_record}
-use Rattle.trace_core.proofs.Records.{fault_behind, reads_up_to, record_more}
+use Rattle.trace_core.proofs.RecordLemmas.{fault_behind, reads_up_to, record_more}
 use Rattle.trace_core.proofs.reader.TraceRows.next.Goals as goal
 
 pub returns-in-Ok-false-clause-taken : goal.returns-in-Ok-false-clause-taken

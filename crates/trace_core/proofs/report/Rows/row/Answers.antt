@@ -2,7 +2,7 @@ use Rattle.std.proofs.Common.{◌≡◌, ◌≢◌, ◌++◌, ◌∙◌, Bor, Li
 use Rattle.csv.specs.Writing.{writer_setup}
 use Rattle.trace_core.specs.Report.{Adds}
 use Rattle.csv.specs.declared.writer.QuoteStyle.TheVariants as style
-use Rattle.trace_core.proofs.Lines.{row_is}
+use Rattle.trace_core.proofs.ReportLemmas.{row_is}
 use Rattle.trace_core.proofs.report.Rows.row.Goals.{in-Ok, in-Err}
 use Rattle.trace_core.proofs.report.Rows.row.Goals as goal
 

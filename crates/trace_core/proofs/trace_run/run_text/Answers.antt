@@ -2,7 +2,7 @@ use Rattle.std.proofs.Common.{◌≡◌, Err, length, rules}
 use Rattle.std.proofs.lemmas.Bool.{le-ltb}
 use Rattle.journal_core.specs.Runs.{journal_of}
 use Rattle.trace_core.specs.Report.{Adds}
-use Rattle.trace_core.proofs.trace_run.report_of.Goals as goal
+use Rattle.trace_core.proofs.trace_run.run_text.Goals as goal
 
 pub returns-clause-report : goal.returns-clause-report
 unfolding Adds
