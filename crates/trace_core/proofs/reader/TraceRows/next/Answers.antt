@@ -1,7 +1,6 @@
-use Rattle.std.proofs.Common.{◌≡◌, ◌+◌, ◌∙◌, [], ◌∷◌, ◌++◌, Err, Ok, false, length, inl, inr, refl, sym, arith, length-append}
+use Rattle.std.proofs.Common.{◌+◌, ◌∙◌, [], ◌∷◌, ◌++◌, length, inl, inr, refl, sym, arith, length-append}
 use Rattle.std.proofs.lemmas.Bool.{le-ltb, lt-ltb}
 use Rattle.csv.specs.Records.{fields_of}
-use Rattle.trace_core.specs.Traces.{with_record}
 use Rattle.trace_core.proofs.RecordLemmas.{fault_behind, reads_up_to, record_more}
 use Rattle.trace_core.proofs.reader.TraceRows.next.Goals as goal
 
