@@ -1,13 +1,7 @@
 -- What follows from the kinds of error that a command line has.
-use Rattle.std.proofs.Common.{◌≡◌, ◌≢◌, ◌&&◌, not, Bool, true, false, List, [], ◌∷◌, inl, inr, is_some, option_map, Option, Some, None, Result, Ok, Err, String, Global, refl, rules, subst}
-use Rattle.clap.specs.Words.{App, HasKind, IsAmong, Kinds, Row, Text, fault_of, is_simple, is_simple_and_free, kind_of, subcommand_of, has_subcommand, subcommand_rows_of}
-use Rattle.std.specs.List.{list_any}
-use Rattle.clap.specs.Faults.{check_fault, defaults_fault, entered_fault, level_fault, settle_fault, walk_fault}
-use Rattle.clap.specs.Walk.{Held, Names, finished, nothing_held, settled, walk, walk_from}
-use Rattle.clap.specs.Takes.{is_given}
-use Rattle.clap.specs.declared.parser.matches.ArgMatches.{ArgMatches}
-use Rattle.clap.specs.Kinds.{check_kinds, or_else}
-use Rattle.clap.specs.Simple.{Shape, argument_words, built, entered, names_of}
+use Rattle.std.proofs.Common.{◌≡◌, ◌≢◌, true, List, inl, inr, Result, Ok, Err, String, Global, refl, rules, subst}
+use Rattle.clap.specs.Words.{App, HasKind, IsAmong, Kinds, Text, fault_of, is_simple, is_simple_and_free, kind_of}
+use Rattle.clap.specs.Simple.{built}
 use Rattle.clap.proofs.OnLiterals.{clap_on_literals}
 use Rattle.clap.specs.declared.error.Error.{Error}
 use Rattle.clap.specs.declared.error.kind.ErrorKind.{ErrorKind}

@@ -1,9 +1,7 @@
-use Rattle.std.proofs.Common.{rules, ap, sym, subst, codes, map, option_map, unwrap_or, is_some, ◌≡◌, ◌∙◌, List, []}
+use Rattle.std.proofs.Common.{rules, ap, subst, codes, map, unwrap_or, ◌≡◌, ◌∙◌, List, []}
 use Rattle.std.proofs.lemmas.Result.{IfErr-weaker, IfOk-weaker}
 use Rattle.clap.specs.Words.{App, Text, all_of, app_of, fault_of, first_of, is_simple, is_simple_and_free, subcommand_of}
-use Rattle.clap.specs.Simple.{built}
-use Rattle.fqsim.specs.CommandLine.{parameter_words, rows_behind, rows_of_entered, seed_text, trace_rows}
-use Rattle.fqsim.specs.declared.command_line.TraceRequest.{TraceRequest}
+use Rattle.fqsim.specs.CommandLine.{rows_behind, rows_of_entered, trace_rows}
 use Rattle.fqsim.proofs.CommandLineLemmas.{help_asked_of, line_is_free, line_is_simple, memory_is_no_mistake, mistake_made_in}
 use Rattle.fqsim.proofs.command_line.parse.Goals.{In-Ok}
 use Rattle.fqsim.proofs.command_line.parse.Goals as goal

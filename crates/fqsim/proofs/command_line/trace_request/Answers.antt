@@ -1,4 +1,4 @@
-use Rattle.std.proofs.Common.{ap, codes, refl, sym, unwrap_or, ◌≡◌, ◌∙◌, []}
+use Rattle.std.proofs.Common.{ap, codes, refl, unwrap_or, ◌≡◌, ◌∙◌, []}
 use Rattle.clap.specs.Words.{all_of, first_of, found_of, rows_of}
 use Rattle.clap.proofs.WalkLemmas.{first_value-rows, raw_values-rows}
 use Rattle.fqsim.specs.CommandLine.{rows_behind}
