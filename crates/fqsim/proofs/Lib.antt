@@ -1,3 +1,1 @@
-mod Digits
-mod Lines
-mod Matches
+mod CommandLineLemmas

@@ -1,6 +1,5 @@
 -- The command line of the program, in the words of `clap`.
-use Rattle.std.specs.Prelude.{◌≡◌, ◌≢◌, true, List, [], Option, Some, codes, unwrap_or}
-use Rattle.std.specs.Option.{option_map_or}
+use Rattle.std.specs.Prelude.{◌≡◌, ◌≢◌, true, List, [], Option, Some, codes, option_map, unwrap_or}
 use Rattle.clap.specs.Faults.{fault_of}
 use Rattle.clap.specs.Kinds.{IsAmong}
 use Rattle.clap.specs.Simple.{App, new_app, new_rule, on_top, subcommand_of, subcommand_rows_of, with_rule, with_subcommand}
@@ -25,12 +24,14 @@ trace_line = with_rule (with_rule (new_app (codes "trace")) seed_option) paramet
 -- the words behind the program's name: one subcommand, which has to be there
 abbrev pub program_line : App
 program_line =
-    with_subcommand (on_top (λ top. record top { no_binary_name = true; subcommand_required = true; arg_required_else_help = true }) (new_app (codes "fqsim")))
+    with_subcommand
+    (on_top (λ top. record top { no_binary_name = true; subcommand_required = true; arg_required_else_help = true })
+    (new_app (codes "fqsim")))
     trace_line.top
 
 -- what stands behind a subcommand, by its matches and by the words
 abbrev pub rows_of_entered : Option (Text × List Row) → List Row
-rows_of_entered entered = option_map_or (λ found. found.1) entered []
+rows_of_entered entered = unwrap_or (option_map (λ found. found.1) entered) []
 
 abbrev pub rows_behind : ArgMatches → List Row
 rows_behind matches = rows_of_entered (subcommand_rows_of matches)

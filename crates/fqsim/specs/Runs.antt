@@ -10,7 +10,8 @@ use Rattle.fqsim.specs.Seeds.{seed_given}
 
 -- The text of the seed and the parameter words are good, and of the report of the input with that seed and those
 -- parameters this holds.
-pub record IsRunFor (seed_text : Option (List ℕ)) (parameter_words : List (List ℕ)) (input : Option (List ℕ)) (Wrote : List ℕ → Type 0) : Type 0 where
+pub record IsRunFor (seed_text : Option (List ℕ)) (parameter_words : List (List ℕ)) (input : Option (List ℕ))
+    (Wrote : List ℕ → Type 0) : Type 0 where
   pub seed : Seed
   pub params : ParamFields
   pub seed_read : seed_given seed_text ≡ Some seed.0
@@ -24,11 +25,13 @@ BeginsReport seed_text parameter_words input old new =
 
 -- The words ask for a run, and its report was written behind what was there.
 abbrev pub AnswersRun : List (List ℕ) → Option (List ℕ) → Option (List ℕ) → Option (List ℕ) → Type 0
-AnswersRun words input old new = AsksForRun words × IsRunFor (seed_text words) (parameter_words words) input (λ text. Appends old new text)
+AnswersRun words input old new =
+    AsksForRun words × IsRunFor (seed_text words) (parameter_words words) input (λ text. Appends old new text)
 
 -- The words ask for a run, and a front of its report was written behind what was there.
 abbrev pub BeginsRun : List (List ℕ) → Option (List ℕ) → Option (List ℕ) → Option (List ℕ) → Type 0
-BeginsRun words input old new = AsksForRun words × BeginsReport (seed_text words) (parameter_words words) input old new
+BeginsRun words input old new =
+    AsksForRun words × BeginsReport (seed_text words) (parameter_words words) input old new
 
 -- The words ask for help, and a text was written behind what was there.
 abbrev pub AnswersHelp : List (List ℕ) → Option (List ℕ) → Option (List ℕ) → Type 0

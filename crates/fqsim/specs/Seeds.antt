@@ -1,18 +1,11 @@
 -- How a seed is written.
-use Rattle.std.specs.Prelude.{ℕ, ◌+◌, ◌*◌, ◌==◌, ◌&&◌, if◌then◌else◌, length, List, [], ◌∷◌, replicate, Option, Some, None, option_map}
-use Rattle.std.specs.Char.{digit_value, is_digit}
+use Rattle.std.specs.Prelude.{ℕ, List, replicate, Option, Some, None}
+use Rattle.std.specs.Result.{result_ok}
+use Rattle.hex.specs.Hex.{decode_sized}
 
--- the bytes of a text of hexadecimal digits, of either case: two digits a byte, the first of them the high one
-unfoldable pub bytes_of_digits : List ℕ → Option (List ℕ)
-bytes_of_digits [] = Some []
-bytes_of_digits (digit ∷ []) = None
-bytes_of_digits (high ∷ low ∷ rest) =
-    if is_digit high 16 && is_digit low 16 then option_map (λ bytes. (16 * digit_value high + digit_value low) ∷ bytes) (bytes_of_digits rest)
-    else None
-
--- the 16 bytes of a text of 32 such digits
+-- the 16 bytes of a text of 32 hexadecimal digits, of either case: two digits a byte, the first of them the high one
 abbrev pub seed_of : List ℕ → Option (List ℕ)
-seed_of text = if length text == 32 then bytes_of_digits text else None
+seed_of text = result_ok (decode_sized text 16)
 
 -- the bytes of the seed that is given, and zeros where none is
 abbrev pub seed_given : Option (List ℕ) → Option (List ℕ)

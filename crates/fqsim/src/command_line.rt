@@ -1,6 +1,6 @@
 //! The words behind the program's name, read by `clap`.
 ghost use Rattle.std.specs.Prelude.{◌≡◌, ◌≢◌, [], IfErr, IfOk, List, codes, false, map, option_map, true, unwrap_or, ℕ};
-ghost use Rattle.clap.specs.Words.{all_of, app_of, first_of, has_subcommand, kind_of};
+ghost use Rattle.clap.specs.Words.{all_of, app_of, first_of, kind_of};
 ghost use Rattle.clap.specs.declared.builder.command.Command.TheViews.{out-Command as fields_of};
 ghost use Rattle.fqsim.specs.CommandLine.{AsksForHelp, AsksForRun, IsMistake, parameter_words, program_line, rows_behind, seed_text, trace_line};
 
@@ -48,11 +48,16 @@ impl From<AllocError> for CommandFault {
 
 /// Reads the words behind the program's name.
 pub fn parse<'a>(alloc: Global, words: &'a [&'a str]) -> Result<Request<'a>, CommandFault>
-    ensures run { IfOk result (λ r. (trace : _) → r ≡ Request.Trace trace → AsksForRun (map (λ w. w.now) words.entry.now)) }
-    ensures seed { IfOk result (λ r. (trace : _) → r ≡ Request.Trace trace → option_map (λ s. s.now) trace.seed ≡ seed_text (map (λ w. w.now) words.entry.now)) }
-    ensures parameters { IfOk result (λ r. (trace : _) → r ≡ Request.Trace trace → map (λ w. w.now) trace.parameters.items ≡ parameter_words (map (λ w. w.now) words.entry.now)) }
-    ensures help { IfOk result (λ r. (text : _) → r ≡ Request.Help text → AsksForHelp (map (λ w. w.now) words.entry.now)) }
-    ensures mistake { IfErr result (λ fault. (text : _) → fault ≡ CommandFault.Mistake text → IsMistake (map (λ w. w.now) words.entry.now)) }
+    ensures run { IfOk result (λ r. (trace : _) → r ≡ Request.Trace trace
+        → AsksForRun (map (λ w. w.now) words.entry.now)) }
+    ensures seed { IfOk result (λ r. (trace : _) → r ≡ Request.Trace trace
+        → option_map (λ s. s.now) trace.seed ≡ seed_text (map (λ w. w.now) words.entry.now)) }
+    ensures parameters { IfOk result (λ r. (trace : _) → r ≡ Request.Trace trace
+        → map (λ w. w.now) trace.parameters.items ≡ parameter_words (map (λ w. w.now) words.entry.now)) }
+    ensures help { IfOk result (λ r. (text : _) → r ≡ Request.Help text
+        → AsksForHelp (map (λ w. w.now) words.entry.now)) }
+    ensures mistake { IfErr result (λ fault. (text : _) → fault ≡ CommandFault.Mistake text
+        → IsMistake (map (λ w. w.now) words.entry.now)) }
 {
     let command = program_command(alloc)?;
     match command.try_get_matches_from(words) {
@@ -64,8 +69,10 @@ pub fn parse<'a>(alloc: Global, words: &'a [&'a str]) -> Result<Request<'a>, Com
 /// What is answered where there are no matches: help, or a fault.
 fn without_matches<'a>(alloc: Global, error: Error) -> Result<Request<'a>, CommandFault>
     ensures run { IfOk result (λ r. (trace : _) → r ≡ Request.Trace trace → ⊥) }
-    ensures help { IfOk result (λ r. (text : _) → r ≡ Request.Help text → kind_of error ≡ ErrorKind.DisplayHelp) }
-    ensures mistake { IfErr result (λ fault. (text : _) → fault ≡ CommandFault.Mistake text → (kind_of error ≢ ErrorKind.DisplayHelp) × (kind_of error ≢ ErrorKind.OutOfMemory)) }
+    ensures help { IfOk result (λ r. (text : _) → r ≡ Request.Help text
+        → kind_of error ≡ ErrorKind.DisplayHelp) }
+    ensures mistake { IfErr result (λ fault. (text : _) → fault ≡ CommandFault.Mistake text
+        → (kind_of error ≢ ErrorKind.DisplayHelp) × (kind_of error ≢ ErrorKind.OutOfMemory)) }
 {
     match error.kind() {
         ErrorKind::OutOfMemory => Err(CommandFault::Memory),
@@ -79,14 +86,19 @@ fn trace_request<'a>(
     alloc: Global,
     matches: &ArgMatches<'a>,
 ) -> Result<TraceRequest<'a>, AllocError>
-    requires { has_subcommand matches.now ≡ true }
-    ensures seed { IfOk result (λ r. option_map (λ s. s.now) r.seed ≡ first_of (codes "seed") (rows_behind matches.now)) }
-    ensures parameters { IfOk result (λ r. map (λ w. w.now) r.parameters.items ≡ unwrap_or (all_of (codes "PARAM") (rows_behind matches.now)) []) }
+    ensures seed { IfOk result (λ r. option_map (λ s. s.now) r.seed
+        ≡ first_of (codes "seed") (rows_behind matches.now)) }
+    ensures parameters { IfOk result (λ r. map (λ w. w.now) r.parameters.items
+        ≡ unwrap_or (all_of (codes "PARAM") (rows_behind matches.now)) []) }
 {
-    let Some((_, found)) = matches.subcommand() else {
-        unreachable!()
-    };
     let mut parameters = Vec::new(alloc);
+    let Some((_, found)) = matches.subcommand() else {
+        // Words without the subcommand have no matches: `clap` refuses them.
+        return Ok(TraceRequest {
+            seed: None,
+            parameters,
+        });
+    };
     if let Some(words) = found.get_strs("PARAM") {
         parameters.extend_from_slice(words)?;
     }

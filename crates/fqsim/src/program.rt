@@ -1,3 +1,4 @@
+//! The whole program over words and streams: it runs a trace or writes help, and tells a fault with its status.
 ghost use Rattle.std.specs.Prelude.{◌≡◌, ◌≢◌, ◌≤◌, ◌↔◌, ℕ, Err, IfErr, IfOk, IsErr, IsErrOf, None, OnErr, OnOk, Some, map, option_map, take};
 ghost use Rattle.std.specs.Result.{IsOkUnless};
 ghost use Rattle.std.specs.IoError.{error_kind};

@@ -1,6 +1,4 @@
-pub mod Digits
-pub mod Fields
-pub mod Lines
-pub mod Records
+pub mod RecordLemmas
 pub mod ReportLemmas
 pub mod RowLemmas
+pub mod TraceRunLemmas

@@ -1,4 +1,3 @@
 pub mod Report
 pub mod Rows
 pub mod Traces
-pub mod Writes

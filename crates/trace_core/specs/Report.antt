@@ -2,8 +2,10 @@
 use Rattle.std.specs.Prelude.{◌≡◌, ◌<◌, length, ℕ, Bool, true, false, List, [], ◌∷◌, ◌++◌, Some, Ok, map}
 use Rattle.std.specs.Prelude.{codes}
 use Rattle.std.specs.Fmt.{decimal}
-use Rattle.std.specs.List.{flat_map}
-use Rattle.csv.specs.Writing.{default_writer, fields_written, has_written, needs_quotes, text_written, with_flexible, writer_setup}
+use Rattle.std.specs.List.{flat_map, join_with_byte}
+use Rattle.csv.specs.Writing.{default_writer, fields_written, has_written, text_written, with_flexible, with_style, writer_setup}
+use Rattle.csv.specs.declared.writer.QuoteStyle.TheVariants as style
+use Rattle.csv.specs.declared.writer.WriterBuilder.{WriterBuilder}
 use Rattle.journal_core.specs.Runs.{Made, Runs, journal_of}
 use Rattle.journal_core.specs.Statistics.{statistics}
 use Rattle.journal_core.specs.declared.event.Cause.{Cause}
@@ -32,6 +34,10 @@ use Rattle.sched_core.specs.Schedulers.{Scheduler, discipline_of}
 use Rattle.journal_core.specs.Steps.{Steps}
 use Rattle.trace_core.specs.Traces.{steps_of, trace_of}
 use Rattle.trace_core.specs.declared.report.Rows.{Rows}
+
+-- a row: its fields with a comma between each two, and one line feed
+unfoldable pub line_of : List (List ℕ) → List ℕ
+line_of fields = join_with_byte 44 fields ++ 10 ∷ []
 
 -- the digit for an ECN field
 abbrev pub ecn_digit : Ecn → List ℕ
@@ -69,55 +75,50 @@ refusal_row refusal.ClosedAlready = codes "refused" ∷ codes "closed" ∷ []
 refusal_row refusal.Exhausted = codes "refused" ∷ codes "exhausted" ∷ []
 refusal_row refusal.Memory = codes "refused" ∷ codes "memory" ∷ []
 
+-- the row of an event
+abbrev pub event_line : Event → List ℕ
+event_line event = line_of (event_row event)
+
 -- the rows of an answer, beside those of its events: an idle step and a refused one have a row each
-abbrev pub answer_rows : Answer → List (List (List ℕ))
-answer_rows answer.Accepted = []
-answer_rows answer.Sent = []
-answer_rows answer.Closed = []
-answer_rows answer.Idle = (codes "idle" ∷ []) ∷ []
-answer_rows (answer.Refused why) = refusal_row why ∷ []
+abbrev pub answer_lines : Answer → List ℕ
+answer_lines answer.Accepted = []
+answer_lines answer.Sent = []
+answer_lines answer.Closed = []
+answer_lines answer.Idle = line_of (codes "idle" ∷ [])
+answer_lines (answer.Refused why) = line_of (refusal_row why)
 
 -- the rows of what a step gave: one for each event, in order, and then that of its answer
-abbrev pub made_rows : Made → List (List (List ℕ))
-made_rows m = map event_row m.events ++ answer_rows m.answer
+abbrev pub made_lines : Made → List ℕ
+made_lines m = flat_map event_line m.events ++ answer_lines m.answer
 
 -- the fields of the totals' row
 abbrev pub totals_row : Totals → List (List ℕ)
 totals_row t =
-    codes "totals" ∷ decimal t.accepted ∷ decimal t.accepted_bytes ∷ decimal t.sent ∷ decimal t.sent_bytes ∷ decimal t.dropped_codel
-    ∷ decimal t.dropped_overflow ∷ decimal t.dropped_bytes ∷ decimal t.marked ∷ decimal t.queued ∷ decimal t.queued_bytes ∷ state_name t.closed ∷ []
+    codes "totals" ∷ decimal t.accepted ∷ decimal t.accepted_bytes ∷ decimal t.sent ∷ decimal t.sent_bytes
+    ∷ decimal t.dropped_codel ∷ decimal t.dropped_overflow ∷ decimal t.dropped_bytes ∷ decimal t.marked
+    ∷ decimal t.queued ∷ decimal t.queued_bytes ∷ state_name t.closed ∷ []
 
 -- numbers with a dot between each two
 abbrev pub dotted : List ℕ → List ℕ
-dotted [] = []
-dotted (n ∷ []) = decimal n
-dotted (n ∷ next ∷ rest) = decimal n ++ (codes "." ++ dotted (next ∷ rest))
+dotted numbers = join_with_byte 46 (map decimal numbers)
 
 -- the fields of the row of a five-tuple
 abbrev pub tuple_row : TupleRow → List (List ℕ)
 tuple_row row =
-    codes "tuple" ∷ decimal row.tuple.proto ∷ dotted (ip_bytes row.tuple.src) ∷ dotted (ip_bytes row.tuple.dst) ∷ decimal row.tuple.sport ∷ decimal row.tuple.dport
-    ∷ decimal row.flow ∷ decimal row.accepted ∷ decimal row.sent ∷ decimal row.dropped ∷ decimal row.queued ∷ []
+    codes "tuple" ∷ decimal row.tuple.proto ∷ dotted (ip_bytes row.tuple.src) ∷ dotted (ip_bytes row.tuple.dst)
+    ∷ decimal row.tuple.sport ∷ decimal row.tuple.dport ∷ decimal row.flow
+    ∷ decimal row.accepted ∷ decimal row.sent ∷ decimal row.dropped ∷ decimal row.queued ∷ []
 
--- the fields behind a row's first one, each with a comma before it
-unfoldable pub behind : List (List ℕ) → List ℕ
-behind [] = []
-behind (field ∷ rest) = 44 ∷ (field ++ behind rest)
+-- the row of a five-tuple
+abbrev pub tuple_line : TupleRow → List ℕ
+tuple_line row = line_of (tuple_row row)
 
--- a row: its fields with a comma between each two, and one line feed
-unfoldable pub line_of : List (List ℕ) → List ℕ
-line_of [] = 10 ∷ []
-line_of (field ∷ rest) = field ++ behind rest ++ 10 ∷ []
-
--- the rows, one after the other
-abbrev pub lines_of : List (List (List ℕ)) → List ℕ
-lines_of rows = flat_map line_of rows
-
--- The report of a run: the rows of each step, in order, the row of the totals of the whole journal, and the row of each five-tuple, in order
--- of first acceptance.
+-- The report of a run: the rows of each step, in order, the row of the totals of the whole journal, and the row of
+-- each five-tuple, in order of first acceptance.
 abbrev pub report_of : List Made → List ℕ
 report_of made =
-    (lines_of (flat_map made_rows made) ++ line_of (totals_row (statistics (journal_of made)))) ++ lines_of (map tuple_row (tuple_rows (journal_of made)))
+    (flat_map made_lines made ++ line_of (totals_row (statistics (journal_of made))))
+    ++ flat_map tuple_line (tuple_rows (journal_of made))
 
 -- The text is the report of a trace with these bytes: that of the run of its steps with a new scheduler of those
 -- parameters and that seed.
@@ -129,25 +130,21 @@ pub record IsReportOf (p : ParamFields) (seed : Seed) (bytes text : List ℕ) : 
   pub runs : Runs (fq_codel p seed) (opening_state (no_queues p.flows)) steps made last
   pub told : text ≡ report_of made
 
+-- how a report is written: rows have different numbers of fields, and no field has quotes
+abbrev pub report_writer : WriterBuilder
+report_writer = with_style (with_flexible default_writer true) style.Never
+
 -- The rows that were written are this text, and the next row starts at its end.
 pub record HasText (rows : Rows) (text : List ℕ) : Type 0 where
-  pub setup : writer_setup rows.writer ≡ with_flexible default_writer true
+  pub setup : writer_setup rows.writer ≡ report_writer
   pub fields : fields_written rows.writer ≡ 0
   pub wrote : has_written rows.writer ≡ false
   pub written : text_written (λ v. Some v.items) rows.writer ≡ Some text
 
--- a field that `csv` writes without quotes
-abbrev pub IsPlain : List ℕ → Type 0
-IsPlain field = needs_quotes (with_flexible default_writer true) field ≡ false
-
-abbrev pub ArePlain : List (List ℕ) → Type 0
-ArePlain [] = Unit {0}
-ArePlain (field ∷ rest) = IsPlain field × ArePlain rest
-
--- a row of such fields, the first of which isn't empty
-abbrev pub IsPlainRow : List (List ℕ) → Type 0
-IsPlainRow [] = ⊥
-IsPlainRow (field ∷ rest) = (0 < length field) × IsPlain field × ArePlain rest
+-- a row whose first field isn't empty: `csv` writes quotes for one that shows no byte
+abbrev pub IsFilled : List (List ℕ) → Type 0
+IsFilled [] = ⊥
+IsFilled (field ∷ rest) = 0 < length field
 
 -- These bytes are written behind the rows so far, whatever those are.
 unfoldable pub Adds : Rows → Rows → List ℕ → Type 0
@@ -155,19 +152,23 @@ Adds old new more = (text : List ℕ) → HasText old text → HasText new (text
 
 -- A step is made, and the rows of what it gave are written.
 pub record RunsStep (step : Step) (old new : Scheduler) (before after : Rows) : Type 0 where
-  pub said : Answer
-  pub events : List Event
-  pub steps : Steps (discipline_of old) old.standing.state step said events new.standing.state
-  pub journal : new.standing.events ≡ old.standing.events ++ events
+  pub made : Made
+  pub steps : Steps (discipline_of old) old.standing.state step made.answer made.events new.standing.state
+  pub journal : new.standing.events ≡ old.standing.events ++ made.events
   pub params : new.params ≡ old.params
   pub seed : new.seed ≡ old.seed
-  pub told : Adds before after (lines_of (made_rows (record { answer = said; events = events })))
+  pub told : Adds before after (made_lines made)
 
--- The steps of a text are made in turn, and the rows of what they gave are written.
-pub record RunsText (text : List ℕ) (old new : Scheduler) (before after : Rows) : Type 0 where
-  pub steps : List Step
+-- These steps are made in turn, and the rows of what they gave are written.
+pub record RunsSteps (steps : List Step) (old new : Scheduler) (before after : Rows) : Type 0 where
   pub made : List Made
-  pub read : steps_of text ≡ Ok steps
   pub runs : Runs (discipline_of old) old.standing.state steps made new.standing.state
   pub journal : new.standing.events ≡ old.standing.events ++ journal_of made
-  pub told : Adds before after (lines_of (flat_map made_rows made))
+  pub params : new.params ≡ old.params
+  pub seed : new.seed ≡ old.seed
+  pub told : Adds before after (flat_map made_lines made)
+
+-- The same of the steps of a text.
+abbrev pub RunsText : List ℕ → Scheduler → Scheduler → Rows → Rows → Type 0
+RunsText text old new before after =
+    (steps : List Step) × (steps_of text ≡ Ok steps) × RunsSteps steps old new before after

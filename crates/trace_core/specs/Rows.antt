@@ -1,10 +1,10 @@
 -- How a row's fields read, as the step that they ask for or the first fault.
 use Rattle.std.specs.Prelude.{ℕ, ◌+◌, ◌^◌, Bool, List, [], ◌∷◌, Option, Some, None, Result, Ok, Err, option_and_then, option_map, length, get_or, take, drop, nat_lt, nat_le, ◌==◌, ◌&&◌, if◌then◌else◌}
-use Rattle.std.specs.Prelude.{ok_or, codes}
-use Rattle.std.specs.Char.{digit_value}
-use Rattle.std.specs.List.{list_all, position}
+use Rattle.std.specs.Prelude.{ok_or, codes, unwrap_or}
+use Rattle.std.specs.List.{position}
 use Rattle.std.specs.Str.{bytes_eq}
-use Rattle.std.specs.Str.Parse.{digits_value}
+use Rattle.csv.specs.Records.{field_at}
+use Rattle.packet_core.specs.Words.{number_of}
 use Rattle.packet_core.specs.Packets.{PacketParts}
 use Rattle.packet_core.specs.declared.packet.Ecn.{Ecn}
 use Rattle.packet_core.specs.declared.packet.Ecn.TheVariants.{NotEct, Ect1, Ect0, Ce}
@@ -27,21 +27,13 @@ Err fault >>= next = Err fault
 abbrev pub ◌>>?◌ : {A B : Type 0} → Option A → (A → Option B) → Option B
 x >>? next = option_and_then next x
 
--- whether a text is one or more decimal digits
-abbrev pub is_numeral : List ℕ → Bool
-is_numeral text = nat_lt 0 (length text) && list_all (λ byte. nat_lt (digit_value byte) 10) text
-
--- the value of a text of one or more decimal digits
-unfoldable pub numeral_of : List ℕ → Option ℕ
-numeral_of text = if is_numeral text then Some (digits_value 10 text) else None
-
 -- a number, where it is below a bound
 abbrev pub below : ℕ → ℕ → Option ℕ
 below bound n = if nat_lt n bound then Some n else None
 
 -- the number that a text writes, below a bound
-unfoldable pub number_of : ℕ → List ℕ → Result ℕ TraceFaultKind
-number_of bound text = ok_or (numeral_of text >>? below bound) BadNumber
+unfoldable pub number_below : ℕ → List ℕ → Result ℕ TraceFaultKind
+number_below bound text = ok_or (number_of text >>? below bound) BadNumber
 
 -- whether a packet can have this length
 abbrev pub is_length : ℕ → Bool
@@ -49,7 +41,7 @@ is_length len = nat_le 1 len && nat_le len 65535
 
 -- a packet's length
 unfoldable pub length_of : List ℕ → Result ℕ TraceFaultKind
-length_of text = ok_or (numeral_of text) BadNumber >>= λ len. if is_length len then Ok len else Err LengthOutOfRange
+length_of text = ok_or (number_of text) BadNumber >>= λ len. if is_length len then Ok len else Err LengthOutOfRange
 
 -- an ECN field
 unfoldable pub ecn_of : List ℕ → Result Ecn TraceFaultKind
@@ -78,7 +70,7 @@ starts_with_zero text = nat_lt 1 (length text) && (get_or text 0 0 == 48)
 
 -- a number from 0 to 255 without leading zeros
 unfoldable pub octet_of : List ℕ → Option ℕ
-octet_of text = if starts_with_zero text then None else numeral_of text >>? below (2 ^ 8)
+octet_of text = if starts_with_zero text then None else number_of text >>? below (2 ^ 8)
 
 -- four of them, joined by dots
 unfoldable pub four_octets_of : List ℕ → Option Ip
@@ -96,21 +88,25 @@ four_octets_of text =
 unfoldable pub address_of : List ℕ → Result Ip TraceFaultKind
 address_of text = ok_or (four_octets_of text) BadAddress
 
--- the field of a row at a place, from 0
+-- the field of a row at a place, from 0, and an empty one behind the last
 abbrev pub field_of : List (List ℕ) → ℕ → List ℕ
-field_of fields place = get_or fields place []
+field_of fields place = unwrap_or (field_at fields place) []
 
 -- the packet of a row, its fields read from left to right
 unfoldable pub packet_of : List (List ℕ) → Result PacketParts TraceFaultKind
 packet_of fields =
-    number_of (2 ^ 8) (field_of fields 2) >>= λ proto.
+    number_below (2 ^ 8) (field_of fields 2) >>= λ proto.
     address_of (field_of fields 3) >>= λ src.
     address_of (field_of fields 4) >>= λ dst.
-    number_of (2 ^ 16) (field_of fields 5) >>= λ sport.
-    number_of (2 ^ 16) (field_of fields 6) >>= λ dport.
+    number_below (2 ^ 16) (field_of fields 5) >>= λ sport.
+    number_below (2 ^ 16) (field_of fields 6) >>= λ dport.
     length_of (field_of fields 7) >>= λ len.
     ecn_of (field_of fields 8) >>= λ ecn.
-    Ok (record { tuple = record { proto = proto; src = src; dst = dst; sport = sport; dport = dport }; len = len; ecn = ecn })
+    Ok (record {
+      tuple = record { proto = proto; src = src; dst = dst; sport = sport; dport = dport };
+      len = len;
+      ecn = ecn;
+    })
 
 -- how many fields a row has, its first one counted
 abbrev pub fields_of_kind : RowKind → ℕ
@@ -129,5 +125,6 @@ step_of Close moment fields = Ok (step.Close moment)
 unfoldable pub row_of : List (List ℕ) → Result Step TraceFaultKind
 row_of fields =
     kind_of (field_of fields 0) >>= λ kind.
-    if length fields == fields_of_kind kind then (number_of (2 ^ 60) (field_of fields 1) >>= λ moment. step_of kind moment fields)
+    if length fields == fields_of_kind kind
+    then (number_below (2 ^ 60) (field_of fields 1) >>= λ moment. step_of kind moment fields)
     else Err BadFieldCount

@@ -1,6 +1,7 @@
 -- How a trace's text reads, as its steps or the first fault with its row.
-use Rattle.std.specs.Prelude.{◌≡◌, ◌≤◌, ◌⊎◌, ℕ, ◌+◌, Bool, true, false, List, [], ◌∷◌, ◌++◌, length, nat_lt, ◌==◌, ◌&&◌}
+use Rattle.std.specs.Prelude.{◌≡◌, ◌≢◌, ◌≤◌, ◌⊎◌, ℕ, ◌+◌, Bool, true, false, List, [], ◌∷◌, ◌++◌, length, nat_lt, ◌==◌, ◌&&◌}
 use Rattle.std.specs.Prelude.{Option, Some, IfSome, Result, Ok, Err, if◌then◌else◌}
+use Rattle.std.specs.List.{fold}
 use Rattle.std.proofs.Common.{Bor}
 use Rattle.csv.specs.Reading.{ExplainsRead, Reached, Ready, default_config, error_kind, has_failed, is_flexible, is_io}
 use Rattle.csv.specs.Reading.{reader_config, reader_state, reader_trim, records, source_of, strip_bom}
@@ -28,18 +29,23 @@ abbrev pub at_row : {A : Type 0} → ℕ → Result A TraceFaultKind → Result 
 at_row row (Ok x) = Ok x
 at_row row (Err what) = Err (record { row = row; what = what })
 
--- The steps of these records, the first row having that number: there are at most 1,000,000 rows, and the first
--- faulty one is answered.
-unfoldable pub steps_from : ℕ → List (List (List ℕ)) → Result (List Step) TraceFault
-steps_from row [] = Ok []
-steps_from row (fields ∷ records) =
-    if is_blank fields then steps_from row records
-    else if nat_lt 1000000 row then Err (record { row = row; what = TooLarge })
-    else (at_row row (row_of fields) >>= λ step. steps_from (row + 1) records >>= λ steps. Ok (step ∷ steps))
+-- These steps, and that of one row more. There are at most 1,000,000 rows, which are counted from 1.
+abbrev pub with_row : List Step → List (List ℕ) → Result (List Step) TraceFault
+with_row steps fields =
+    if nat_lt 1000000 (1 + length steps) then Err (record { row = 1 + length steps; what = TooLarge })
+    else (at_row (1 + length steps) (row_of fields) >>= λ step. Ok (steps ++ step ∷ []))
 
--- the steps of a text: `csv` cuts it into records, and rows are counted from 1
+-- the same of a record, and of steps that were refused, if there was a faulty row before
+abbrev pub with_record : Result (List Step) TraceFault → List (List ℕ) → Result (List Step) TraceFault
+with_record so_far fields = so_far >>= λ steps. if is_blank fields then Ok steps else with_row steps fields
+
+-- the steps of records, or the fault of the first faulty row
+unfoldable pub steps_of_records : List (List (List ℕ)) → Result (List Step) TraceFault
+steps_of_records records = fold with_record (Ok []) records
+
+-- the steps of a text, which `csv` cuts into records
 abbrev pub steps_of : List ℕ → Result (List Step) TraceFault
-steps_of text = steps_from 1 (records default_config (strip_bom text))
+steps_of text = steps_of_records (records default_config (strip_bom text))
 
 -- the steps of a trace, which has at most 134,217,728 bytes
 abbrev pub trace_of : List ℕ → Result (List Step) TraceFault
@@ -51,7 +57,7 @@ pub record ReadsUpTo (row : ℕ) (text : List ℕ) : Type 0 where
   pub behind : List (List (List ℕ))
   pub cut : records default_config (strip_bom text) ≡ before ++ behind
   pub steps : List Step
-  pub read : steps_from 1 before ≡ Ok steps
+  pub read : steps_of_records before ≡ Ok steps
   pub row_number : row ≡ 1 + length steps
 
 -- a reader of `csv` over a text, and the bytes that such a text has left
@@ -97,7 +103,8 @@ StopsAtRow text fault =
 
 -- The same of a whole trace, whose bytes are read first, as row 0.
 abbrev pub StopsReading : List ℕ → TraceFault → Type 0
-StopsReading bytes fault = ((fault.row ≡ 0) × ((fault.what ≡ Read) ⊎ (fault.what ≡ Memory))) ⊎ StopsAtRow bytes fault
+StopsReading bytes fault =
+    ((fault.row ≡ 0) × ((fault.what ≡ Read) ⊎ (fault.what ≡ Memory))) ⊎ StopsAtRow bytes fault
 
 -- The fault of a trace with these bytes: the first one of the grammar, or reading stopped before there was one.
 abbrev pub IsFaultOf : List ℕ → TraceFault → Type 0
@@ -118,20 +125,30 @@ csv_fault (csv_error.UnequalLengths place expected len) = Read
 csv_fault (csv_error.Serialize why) = Read
 csv_fault (csv_error.Deserialize place why) = Read
 
--- So many records or more of a text were taken, which ask for these steps, and the next row has its number.
+-- The fault of the rows of a text, with their reader of `csv`: the first one of the grammar, or want of memory or a
+-- failed read at a row up to which the text reads.
+abbrev pub IsRowsFault : List ℕ → TextReader → TraceFault → Type 0
+IsRowsFault text reader fault =
+    ((fault.what ≢ Read) × (steps_of text ≡ Err fault))
+    ⊎ ((fault.what ≡ Memory) × ReadsUpTo fault.row text)
+    ⊎ ((fault.what ≡ Read) × FailsAtRow fault.row text reader)
+
+-- So many records or more of a text that is no longer than a trace were taken, which ask for these steps, and the
+-- next row has its number.
 pub record HasTaken (text : List ℕ) (rows : TraceRows) (turns : ℕ) (steps : List Step) : Type 0 where
+  pub small : length text ≤ 134217728
   pub before : List (List (List ℕ))
   pub read : HasRead text rows.records before
   pub many : turns ≤ length before
-  pub asked : steps_from 1 before ≡ Ok steps
+  pub asked : steps_of_records before ≡ Ok steps
   pub next_row : rows.row_number ≡ 1 + length steps
 
--- what was taken next: a row asks for one step more, a blank record for none, and at the end the steps are those of the text
-abbrev pub Takes : TraceRows → Next → TraceRows → Type 0
-Takes old (next.Row step) new = (text : List ℕ) (turns : ℕ) (steps : List Step) → HasTaken text old turns steps → HasTaken text new (turns + 1) (steps ++ step ∷ [])
-Takes old next.Blank new = (text : List ℕ) (turns : ℕ) (steps : List Step) → HasTaken text old turns steps → HasTaken text new (turns + 1) steps
-Takes old next.End new = (text : List ℕ) (turns : ℕ) (steps : List Step) → HasTaken text old turns steps → steps_of text ≡ Ok steps
-
--- The rows stand at the start of this text, which is no longer than a trace may be.
-abbrev pub IsAtStart : List ℕ → TraceRows → Type 0
-IsAtStart text rows = (length text ≤ 134217728) × HasTaken text rows 0 []
+-- what was taken next: a row asks for one step more, a blank record for none, and at the end the steps are those of
+-- the text
+abbrev pub TakesNext : TraceRows → Next → TraceRows → Type 0
+TakesNext old (next.Row step) new = (text : List ℕ) (turns : ℕ) (steps : List Step)
+    → HasTaken text old turns steps → HasTaken text new (turns + 1) (steps ++ step ∷ [])
+TakesNext old next.Blank new = (text : List ℕ) (turns : ℕ) (steps : List Step)
+    → HasTaken text old turns steps → HasTaken text new (turns + 1) steps
+TakesNext old next.End new = (text : List ℕ) (turns : ℕ) (steps : List Step)
+    → HasTaken text old turns steps → steps_of text ≡ Ok steps

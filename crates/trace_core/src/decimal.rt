@@ -1,7 +1,6 @@
 //! Numbers in decimal digits, as a report has them.
 ghost use Rattle.std.specs.Prelude.{◌≡◌};
 ghost use Rattle.std.specs.Fmt.{decimal};
-ghost use Rattle.trace_core.specs.Report.{IsPlain};
 
 use itoa::write_digits;
 use std::marker::Model;
@@ -30,8 +29,7 @@ impl Model for Digits {
 impl Digits {
     /// The digits of a value.
     pub(crate) fn of(value: u64) -> Digits
-        ensures text { result ≡ decimal value }
-        ensures plain { IsPlain result }
+        ensures { result ≡ decimal value }
     {
         let mut bytes = [0; MAX_DIGITS];
         let start = write_digits(value, &mut bytes, MAX_DIGITS);

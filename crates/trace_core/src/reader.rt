@@ -18,7 +18,8 @@ const CHUNK: usize = 65_536;
 /// The steps of the trace that a reader gives, one for each row, in order. It refuses a trace whose bytes
 /// can't be read or are too many, and then the first faulty row.
 pub fn read_trace<R: Read>(alloc: Global, reader: &mut R) -> Result<Vec<Step>, TraceFault>
-    ensures steps { IfOk result (λ steps. IfSome (R.remaining reader.old) (λ bytes. Traces.trace_of bytes ≡ Ok steps.items)) }
+    ensures steps { IfOk result (λ steps.
+        IfSome (R.remaining reader.old) (λ bytes. Traces.trace_of bytes ≡ Ok steps.items)) }
     ensures fault { IfErr result (λ fault. IfSome (R.remaining reader.old) (λ bytes. Traces.IsFaultOf bytes fault)) }
 {
     read_trace_from(alloc, &mut Watched::new(reader))
@@ -27,7 +28,8 @@ pub fn read_trace<R: Read>(alloc: Global, reader: &mut R) -> Result<Vec<Step>, T
 /// The same as `read_trace`, of the trace that a source gives, which tells whether it has failed. `Read` at row 0 is
 /// answered only where it has, and `Read` at a later row only where the reader of `csv` over its text has failed.
 pub fn read_trace_from<S: Source>(alloc: Global, source: &mut S) -> Result<Vec<Step>, TraceFault>
-    ensures steps { IfOk result (λ steps. IfSome (S.remaining source.old) (λ bytes. Traces.trace_of bytes ≡ Ok steps.items)) }
+    ensures steps { IfOk result (λ steps.
+        IfSome (S.remaining source.old) (λ bytes. Traces.trace_of bytes ≡ Ok steps.items)) }
     ensures fault { IfErr result (λ fault. IfSome (S.remaining source.old) (λ bytes. Traces.IsFaultOf bytes fault)) }
 
     // Read comes only where the source or `csv`'s reader of its text has failed.
@@ -57,8 +59,10 @@ pub(crate) fn read_text<S: Source>(alloc: Global, source: &mut S) -> Result<Vec<
 fn read_bytes<S: Source>(alloc: Global, source: &mut S) -> Result<Vec<u8>, TraceFaultKind>
     ensures whole { IfOk result (λ text. IfSome (S.remaining source.old) (λ bytes. text.items ≡ bytes)) }
     ensures bound { IfOk result (λ text. vec_len text ≤ MAX_BYTES) }
-    ensures too_large { IsErrOf result TraceFaultKind.TooLarge → IfSome (S.remaining source.old) (λ bytes. MAX_BYTES < length bytes) }
-    ensures fault { IfErr result (λ fault. (fault ≡ TraceFaultKind.Read) ⊎ (fault ≡ TraceFaultKind.TooLarge) ⊎ (fault ≡ TraceFaultKind.Memory)) }
+    ensures too_large { IsErrOf result TraceFaultKind.TooLarge
+        → IfSome (S.remaining source.old) (λ bytes. MAX_BYTES < length bytes) }
+    ensures fault { IfErr result (λ fault.
+        (fault ≡ TraceFaultKind.Read) ⊎ (fault ≡ TraceFaultKind.TooLarge) ⊎ (fault ≡ TraceFaultKind.Memory)) }
     ensures read { IsErrOf result TraceFaultKind.Read → S.HasFailed source.new }
 {
     let mut text = Vec::new(alloc);
@@ -103,8 +107,8 @@ pub(crate) struct TraceRows<'a> {
 impl<'a> TraceRows<'a> {
     /// The rows of a text, from its start on.
     pub(crate) fn new(alloc: Global, text: &'a [u8]) -> TraceRows<'a>
-        ensures start { Traces.HasTaken text.now result 0 [] }
-        ensures first { result.row_number ≡ 1 }
+        requires { length text.now ≤ MAX_BYTES }
+        ensures { Traces.HasTaken text.now result 0 [] }
     {
         TraceRows {
             records: ReaderBuilder::new()
@@ -118,14 +122,9 @@ impl<'a> TraceRows<'a> {
 
     /// What stands next. A fault comes at the row that it stands in.
     pub(crate) fn next(&mut self) -> Result<Next, TraceFault>
-        ensures taken { IfOk result (λ next. Traces.Takes self.old next self.new) }
-        ensures fault { IfErr result (λ fault. (text : List ℕ) (turns : ℕ) (steps : List Step) → Traces.HasTaken text self.old turns steps → (Traces.steps_of text ≡ Err fault) ⊎ Traces.StopsAtRow text fault) }
-        ensures row { IfErr result (λ fault. fault.row ≡ self.old.row_number) }
-        ensures order { self.old.row_number ≤ self.new.row_number }
-
-        // Read comes only where `csv` has failed.
-        ensures read { IfErr result (λ fault. fault.what ≡ TraceFaultKind.Read → (text : List ℕ) (turns : ℕ) (steps : List Step)
-            → Traces.HasTaken text self.old turns steps → Traces.FailsAtRow fault.row text self.new.records) }
+        ensures taken { IfOk result (λ next. Traces.TakesNext self.old next self.new) }
+        ensures fault { IfErr result (λ fault. (text : List ℕ) (turns : ℕ) (steps : List Step)
+            → Traces.HasTaken text self.old turns steps → Traces.IsRowsFault text self.new.records fault) }
     {
         match next_record(&mut self.records, &mut self.row) {
             Ok(true) => {}
@@ -157,14 +156,10 @@ impl<'a> TraceRows<'a> {
 
 /// The steps of all rows of a text, from its start on.
 fn all_steps(alloc: Global, rows: &mut TraceRows<'_>) -> Result<Vec<Step>, TraceFault>
-    requires { 1 ≤ rows.old.row_number }
-    ensures steps { IfOk result (λ steps. (text : List ℕ) → Traces.IsAtStart text rows.old → Traces.steps_of text ≡ Ok steps.items) }
-    ensures fault { IfErr result (λ fault. (text : List ℕ) → Traces.IsAtStart text rows.old → (Traces.steps_of text ≡ Err fault) ⊎ Traces.StopsAtRow text fault) }
-    ensures row { IfErr result (λ fault. 1 ≤ fault.row) }
-
-    // Read comes only where `csv` has failed.
-    ensures read { IfErr result (λ fault. fault.what ≡ TraceFaultKind.Read → (text : List ℕ) → Traces.IsAtStart text rows.old
-        → Traces.FailsAtRow fault.row text rows.new.records) }
+    ensures steps { IfOk result (λ steps. (text : List ℕ)
+        → Traces.HasTaken text rows.old 0 [] → Traces.steps_of text ≡ Ok steps.items) }
+    ensures fault { IfErr result (λ fault. (text : List ℕ)
+        → Traces.HasTaken text rows.old 0 [] → Traces.IsRowsFault text rows.new.records fault) }
 {
     let mut steps = Vec::new(alloc);
     // A record takes a byte or more, so the text ends before the turns do.
@@ -195,10 +190,14 @@ fn next_record(
     reader: &mut csv::Reader<&[u8]>,
     row: &mut ByteRecord,
 ) -> Result<bool, TraceFaultKind>
-    ensures more { IfOk result (λ found. found ≡ true → (text : List ℕ) (before : List (List (List ℕ))) → Traces.HasRead text reader.old before → Traces.HasRead text reader.new (before ++ fields_of row.new ∷ [])) }
-    ensures end { IfOk result (λ found. found ≡ false → (text : List ℕ) (before : List (List (List ℕ))) → Traces.HasRead text reader.old before → records default_config (strip_bom text) ≡ before) }
+    ensures more { IfOk result (λ found. found ≡ true → (text : List ℕ) (before : List (List (List ℕ)))
+        → Traces.HasRead text reader.old before
+        → Traces.HasRead text reader.new (before ++ fields_of row.new ∷ [])) }
+    ensures end { IfOk result (λ found. found ≡ false → (text : List ℕ) (before : List (List (List ℕ)))
+        → Traces.HasRead text reader.old before → records default_config (strip_bom text) ≡ before) }
     ensures fault { IfErr result (λ fault. (fault ≡ TraceFaultKind.Read) ⊎ (fault ≡ TraceFaultKind.Memory)) }
-    ensures failed { IfErr result (λ fault. fault ≡ TraceFaultKind.Read → (text : List ℕ) (before : List (List (List ℕ)))
+    ensures failed { IfErr result (λ fault. fault ≡ TraceFaultKind.Read
+        → (text : List ℕ) (before : List (List (List ℕ)))
         → Traces.HasRead text reader.old before → Traces.FailsBehind text before reader.new) }
 {
     match reader.read_byte_record(row) {

@@ -1,12 +1,13 @@
 //! The rows of a report, and its text.
 ghost use Rattle.std.specs.Prelude.{◌≡◌, ◌++◌, ◌∷◌, [], ℕ, List, IfOk, OnOk, map, string_bytes};
+ghost use Rattle.std.specs.List.{flat_map};
 ghost use Rattle.journal_core.specs.Statistics.{statistics};
 ghost use Rattle.journal_core.specs.TupleRows.{tuple_rows};
 ghost use Rattle.packet_core.specs.Packets.{ip_bytes};
 ghost use Rattle.trace_core.specs.Report as Report;
 
 use crate::decimal::Digits;
-use csv::{Writer, WriterBuilder};
+use csv::{QuoteStyle, Writer, WriterBuilder};
 use packet_core::{Ecn, Ip};
 use sched_core::{Answer, Cause, Event, Memory, MomentFault, Refusal, Sched, Totals, TupleRow};
 use std::alloc::{AllocError, Global};
@@ -25,9 +26,10 @@ impl Rows {
     {
         Rows {
             alloc,
-            // Rows have different numbers of fields.
+            // Rows have different numbers of fields. These are words, numbers and addresses, which need no quotes.
             writer: WriterBuilder::new()
                 .flexible(true)
+                .quote_style(QuoteStyle::Never)
                 .from_writer(Vec::new(alloc)),
         }
     }
@@ -35,7 +37,9 @@ impl Rows {
     /// The text of the whole report: the rows so far, which are those of all steps, then the row of the totals, and a
     /// row for each five-tuple. It fails for want of memory alone.
     pub(crate) fn finish(mut self, sched: &Sched) -> Result<Vec<u8>, Memory>
-        ensures { IfOk result (λ text. (written : List ℕ) → Report.HasText self written → text.items ≡ (written ++ Report.line_of (Report.totals_row (statistics sched.now.standing.events))) ++ Report.lines_of (map Report.tuple_row (tuple_rows sched.now.standing.events))) }
+        ensures { IfOk result (λ text. (written : List ℕ) → Report.HasText self written → text.items
+            ≡ (written ++ Report.line_of (Report.totals_row (statistics sched.now.standing.events)))
+            ++ flat_map Report.tuple_line (tuple_rows sched.now.standing.events)) }
     {
         self.totals(&sched.totals())?;
         let tuple_rows = sched.tuple_rows()?;
@@ -45,7 +49,8 @@ impl Rows {
 
     /// The text of all rows.
     fn into_text(self) -> Result<Vec<u8>, Memory>
-        ensures { IfOk result (λ text. (written : List ℕ) → Report.HasText self written → text.items ≡ written) }
+        ensures { IfOk result (λ text. (written : List ℕ)
+            → Report.HasText self written → text.items ≡ written) }
     {
         let Rows { alloc: _, writer } = self;
         writer.into_inner().map_err(|_| AllocError)
@@ -53,7 +58,7 @@ impl Rows {
 
     /// One row. A write to a `Vec` fails for want of memory alone.
     fn row(&mut self, fields: &[&[u8]]) -> Result<(), Memory>
-        requires { Report.IsPlainRow (map (λ f. f.now) fields.now) }
+        requires { Report.IsFilled (map (λ f. f.now) fields.now) }
         ensures { OnOk result (Report.Adds self.old self.new (Report.line_of (map (λ f. f.now) fields.now))) }
     {
         match self.writer.write_fields(fields) {
@@ -64,11 +69,20 @@ impl Rows {
 
     /// The rows of a step with this answer and these events: one for each event, and one where the step made none.
     pub(crate) fn step(&mut self, answer: Answer, own_events: &[Event]) -> Result<(), Memory>
-        ensures { OnOk result (Report.Adds self.old self.new (Report.lines_of (map Report.event_row own_events.now ++ Report.answer_rows answer))) }
+        ensures { OnOk result (Report.Adds self.old self.new
+            (flat_map Report.event_line own_events.now ++ Report.answer_lines answer)) }
     {
         for event in own_events {
             self.event(event)?;
         }
+        self.answer(answer)
+    }
+
+    /// The row of a step that made none, by its answer.
+    #[tactic(auto, using(crate::proofs::ReportLemmas::adds_none))]
+    fn answer(&mut self, answer: Answer) -> Result<(), Memory>
+        ensures { OnOk result (Report.Adds self.old self.new (Report.answer_lines answer)) }
+    {
         match answer {
             Answer::Accepted | Answer::Sent | Answer::Closed => Ok(()),
             Answer::Idle => self.row(&[b"idle"]),
@@ -78,7 +92,7 @@ impl Rows {
 
     /// The row of an event.
     fn event(&mut self, event: &Event) -> Result<(), Memory>
-        ensures { OnOk result (Report.Adds self.old self.new (Report.line_of (Report.event_row event.now))) }
+        ensures { OnOk result (Report.Adds self.old self.new (Report.event_line event.now)) }
     {
         match *event {
             Event::Accepted { id, flow, .. } => {
@@ -156,7 +170,7 @@ impl Rows {
 
     /// The rows of five-tuples.
     fn tuples(&mut self, tuples: &[TupleRow]) -> Result<(), Memory>
-        ensures { OnOk result (Report.Adds self.old self.new (Report.lines_of (map Report.tuple_row tuples.now))) }
+        ensures { OnOk result (Report.Adds self.old self.new (flat_map Report.tuple_line tuples.now)) }
     {
         for row in tuples {
             self.tuple(row)?;
@@ -166,7 +180,7 @@ impl Rows {
 
     /// The row of a five-tuple.
     fn tuple(&mut self, row: &TupleRow) -> Result<(), Memory>
-        ensures { OnOk result (Report.Adds self.old self.new (Report.line_of (Report.tuple_row row.now))) }
+        ensures { OnOk result (Report.Adds self.old self.new (Report.tuple_line row.now)) }
     {
         let proto = Digits::of(u64::from(row.tuple.proto));
         let src = self.address(row.tuple.src)?;
@@ -195,8 +209,7 @@ impl Rows {
 
     /// An address, as four numbers with a dot between each two.
     fn address(&self, address: Ip) -> Result<String, Memory>
-        ensures text { IfOk result (λ text. string_bytes text ≡ Report.dotted (ip_bytes address)) }
-        ensures plain { IfOk result (λ text. Report.IsPlain (string_bytes text)) }
+        ensures { IfOk result (λ text. string_bytes text ≡ Report.dotted (ip_bytes address)) }
     {
         let [first, second, third, fourth] = address.octets();
         self.dotted(first, second, third, fourth)
@@ -204,8 +217,8 @@ impl Rows {
 
     /// Four numbers with a dot between each two.
     fn dotted(&self, first: u8, second: u8, third: u8, fourth: u8) -> Result<String, Memory>
-        ensures text { IfOk result (λ text. string_bytes text ≡ Report.dotted (first ∷ second ∷ third ∷ fourth ∷ [])) }
-        ensures plain { IfOk result (λ text. Report.IsPlain (string_bytes text)) }
+        ensures { IfOk result (λ text.
+            string_bytes text ≡ Report.dotted (first ∷ second ∷ third ∷ fourth ∷ [])) }
     {
         format!(in self.alloc; "{first}.{second}.{third}.{fourth}")
     }

@@ -1,10 +1,11 @@
 //! One row of a trace: its fields, from left to right, and the step that they ask for.
-ghost use Rattle.std.specs.Prelude.{◌≡◌, ◌≢◌, ◌<◌, ◌^◌, min, option_map, IfErr, IfOk};
+ghost use Rattle.std.specs.Prelude.{◌≡◌, ◌≢◌, ◌<◌, ◌^◌, ◌-◌, min, option_map, IfErr, IfOk};
 ghost use Rattle.std.specs.Char.{digit_value};
 ghost use Rattle.std.specs.Option.{SomeIff};
 ghost use Rattle.packet_core.specs.Packets.{IsLengthInRange};
 ghost use Rattle.csv.specs.Records.{fields_of};
-ghost use Rattle.trace_core.specs.Rows.{address_of, cut_of, ecn_of, field_of, fields_of_kind, four_octets_of, kind_of, length_of, number_of, numeral_of, octet_of, packet_of, row_of, starts_with_zero};
+ghost use Rattle.packet_core.specs.Words.{number_of};
+ghost use Rattle.trace_core.specs.Rows.{address_of, cut_of, ecn_of, field_of, fields_of_kind, four_octets_of, kind_of, length_of, number_below, octet_of, packet_of, row_of, starts_with_zero};
 
 use crate::faults::TraceFaultKind;
 use csv::ByteRecord;
@@ -111,9 +112,9 @@ fn read_packet(row: &ByteRecord) -> Result<Packet, TraceFaultKind>
 }
 
 /// A moment in microseconds. It is refused where it isn't digits with a value below 2^60.
-#[tactic(auto, using(crate::proofs::Fields::below_cut), unfolding(crate::specs::Rows::number_of))]
+#[tactic(auto, using(crate::proofs::RowLemmas::below_cut), unfolding(crate::specs::Rows::number_below))]
 fn read_moment(text: &[u8]) -> Result<u64, TraceFaultKind>
-    ensures value { result ≡ number_of (2 ^ 60) text.now }
+    ensures value { result ≡ number_below (2 ^ 60) text.now }
     ensures fault { IfErr result (λ fault. fault ≢ TraceFaultKind.Read) }
 {
     match number(text) {
@@ -123,9 +124,9 @@ fn read_moment(text: &[u8]) -> Result<u64, TraceFaultKind>
 }
 
 /// A protocol's number. It is refused where it isn't digits with a value of at most 255.
-#[tactic(auto, using(crate::proofs::Fields::below_cut), unfolding(crate::specs::Rows::number_of))]
+#[tactic(auto, using(crate::proofs::RowLemmas::below_cut), unfolding(crate::specs::Rows::number_below))]
 fn read_u8(text: &[u8]) -> Result<u8, TraceFaultKind>
-    ensures value { result ≡ number_of (2 ^ 8) text.now }
+    ensures value { result ≡ number_below (2 ^ 8) text.now }
     ensures fault { IfErr result (λ fault. fault ≢ TraceFaultKind.Read) }
 {
     let value = number(text).ok_or(TraceFaultKind::BadNumber)?;
@@ -133,9 +134,9 @@ fn read_u8(text: &[u8]) -> Result<u8, TraceFaultKind>
 }
 
 /// A port. It is refused where it isn't digits with a value of at most 65,535.
-#[tactic(auto, using(crate::proofs::Fields::below_cut), unfolding(crate::specs::Rows::number_of))]
+#[tactic(auto, using(crate::proofs::RowLemmas::below_cut), unfolding(crate::specs::Rows::number_below))]
 fn read_u16(text: &[u8]) -> Result<u16, TraceFaultKind>
-    ensures value { result ≡ number_of (2 ^ 16) text.now }
+    ensures value { result ≡ number_below (2 ^ 16) text.now }
     ensures fault { IfErr result (λ fault. fault ≢ TraceFaultKind.Read) }
 {
     let value = number(text).ok_or(TraceFaultKind::BadNumber)?;
@@ -181,15 +182,15 @@ fn read_address(text: &[u8]) -> Result<Ip, TraceFaultKind>
     ensures value { result ≡ address_of text.now }
     ensures fault { IfErr result (λ fault. fault ≢ TraceFaultKind.Read) }
 {
-    match address(text) {
+    match four_octets(text) {
         Some(ip) => Ok(ip),
         None => Err(TraceFaultKind::BadAddress),
     }
 }
 
-/// The address that the text is, if it is one.
+/// The address of four numbers that are joined by dots, if the text is one.
 #[tactic(auto, unfolding(crate::specs::Rows::four_octets_of))]
-fn address(text: &[u8]) -> Option<Ip>
+fn four_octets(text: &[u8]) -> Option<Ip>
     ensures { result ≡ four_octets_of text.now }
 {
     let (first, text) = cut_at_dot(text)?;
@@ -207,7 +208,7 @@ fn cut_at_dot(text: &[u8]) -> Option<(&[u8], &[u8])>
 }
 
 /// The number from 0 to 255 that the text is, written without leading zeros.
-#[tactic(auto, using(crate::proofs::Fields::below_cut), unfolding(crate::specs::Rows::octet_of))]
+#[tactic(auto, using(crate::proofs::RowLemmas::below_cut), unfolding(crate::specs::Rows::octet_of))]
 fn octet(text: &[u8]) -> Option<u8>
     ensures { result ≡ octet_of text.now }
 {
@@ -224,10 +225,10 @@ fn has_leading_zero(text: &[u8]) -> bool
     text.len() > 1 && text[0] == b'0'
 }
 
-/// The value of a text of one or more decimal digits, and `MAX_MOMENT` where it is more than that. A text
-/// with any other byte has none.
+/// The value of a text of one or more decimal digits, and 2^64 - 1 where it is more than that. A text with any
+/// other byte has none.
 fn number(text: &[u8]) -> Option<u64>
-    ensures { result ≡ option_map (λ n. min n (2 ^ 60)) (numeral_of text.now) }
+    ensures { result ≡ option_map (λ n. min n (2 ^ 64 - 1)) (number_of text.now) }
 {
     if text.is_empty() {
         return None;
@@ -235,7 +236,7 @@ fn number(text: &[u8]) -> Option<u64>
     let mut value = 0u64;
     for byte in text {
         let digit = digit(*byte)?;
-        value = (value * 10 + u64::from(digit)).min(MAX_MOMENT);
+        value = value.saturating_mul(10).saturating_add(u64::from(digit));
     }
     Some(value)
 }

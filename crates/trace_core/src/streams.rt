@@ -49,7 +49,8 @@ pub trait Sink {
     ghost wrote_none: { (a : Self) → Wrote a [] a };
 
     /// What is written behind what was written.
-    ghost wrote_more: { (a b c : Self) (first second : List ℕ) → Wrote a first b → Wrote b second c → Wrote a (first ++ second) c };
+    ghost wrote_more: { (a b c : Self) (first second : List ℕ)
+        → Wrote a first b → Wrote b second c → Wrote a (first ++ second) c };
 }
 
 /// A stream, and whether it has failed.
@@ -90,15 +91,20 @@ impl<R: Read> Source for Watched<'_, R> {
 impl<W: Write> Sink for Watched<'_, W> {
     ghost use Rattle.std.specs.Prelude.{refl};
     ghost use Rattle.std.proofs.Common.{◌∙◌};
-    ghost use Rattle.trace_core.specs.Writes.{appends_both, appends_none};
+    ghost use Rattle.std.proofs.KnownBytes.{Appends-nil, Appends-trans};
 
-    ghost Wrote = { λ a bytes b. (b.stream.ghost_name ≡ a.stream.ghost_name) × Appends (W.contents a.stream.now) (W.contents b.stream.now) bytes };
+    ghost Wrote = { λ a bytes b. (b.stream.ghost_name ≡ a.stream.ghost_name)
+        × Appends (W.contents a.stream.now) (W.contents b.stream.now) bytes };
 
     ghost HasFailed = { λ w. w.has_failed ≡ true };
 
-    ghost wrote_none = { λ a. (refl, appends_none (W.contents a.stream.now)) };
+    ghost wrote_none = { λ a. (refl, Appends-nil (W.contents a.stream.now)) };
 
-    ghost wrote_more = { λ a b c first second one two. (two.0 ∙ one.0, appends_both (W.contents a.stream.now) (W.contents b.stream.now) (W.contents c.stream.now) first second one.1 two.1) };
+    ghost wrote_more = { λ a b c first second one two. (
+      two.0 ∙ one.0,
+      Appends-trans (W.contents a.stream.now) (W.contents b.stream.now) (W.contents c.stream.now)
+          first second one.1 two.1,
+    ) };
 
     fn write(&mut self, text: &[u8]) -> io::Result<usize> {
         let answer = match self.stream.write(text) {

@@ -1,9 +1,9 @@
 //! The run of a trace: its steps are made as its rows are read, and the report is written.
-ghost use Rattle.std.specs.Prelude.{◌≡◌, ◌≢◌, ◌≤◌, ◌⊎◌, ℕ, List, Err, IfErr, IfOk, IfSome, OnErr, OnOk, length, take, true};
+ghost use Rattle.std.specs.Prelude.{◌≡◌, ◌≢◌, ◌≤◌, ℕ, List, IfErr, IfOk, IfSome, OnErr, OnOk, [], length, take};
 ghost use Rattle.std.specs.Result.{IsOkUnless};
 ghost use Rattle.std.specs.Io.KnownBytes.{Appends, Keeps};
 ghost use Rattle.trace_core.specs.Report.{IsReportOf, RunsStep, RunsText};
-ghost use Rattle.trace_core.specs.Traces.{CsvFails, FailsAtRow, IsAtStart, IsFaultOf, ReadFails, StopsAtRow, steps_of};
+ghost use Rattle.trace_core.specs.Traces.{HasTaken, IsFaultOf, IsRowsFault, ReadFails, TextReader};
 ghost use Rattle.trace_core.specs.declared.faults.TraceFault.{TraceFault};
 ghost use Rattle.trace_core.specs.declared.faults.TraceFaultKind.TheVariants as kind;
 ghost use Rattle.trace_core.specs.declared.trace_run.RunFault.TheVariants.{Memory, Trace};
@@ -57,10 +57,15 @@ pub fn run<R: Read, W: Write>(
     params: Params,
     seed: Seed,
 ) -> Result<(), RunFault>
-    ensures report { OnOk result (IfSome (R.remaining reader.old) (λ bytes. (text : List ℕ) × IsReportOf params seed bytes text × Appends (W.contents writer.old) (W.contents writer.new) text)) }
-    ensures front { IfErr result (λ fault. fault ≡ RunFault.Write → IfSome (R.remaining reader.old) (λ bytes. (text : List ℕ) × IsReportOf params seed bytes text × (count : ℕ) × Appends (W.contents writer.old) (W.contents writer.new) (take count text))) }
-    ensures trace { IfErr result (λ fault. (why : TraceFault) → fault ≡ RunFault.Trace why → IfSome (R.remaining reader.old) (λ bytes. IsFaultOf bytes why)) }
-    ensures untouched { IfErr result (λ fault. (fault ≢ RunFault.Write) → Keeps (W.contents writer.old) (W.contents writer.new)) }
+    ensures report { OnOk result (IfSome (R.remaining reader.old) (λ bytes. (text : List ℕ)
+        × IsReportOf params seed bytes text × Appends (W.contents writer.old) (W.contents writer.new) text)) }
+    ensures front { IfErr result (λ fault. fault ≡ RunFault.Write
+        → IfSome (R.remaining reader.old) (λ bytes. (text : List ℕ) × IsReportOf params seed bytes text
+        × (count : ℕ) × Appends (W.contents writer.old) (W.contents writer.new) (take count text))) }
+    ensures trace { IfErr result (λ fault. (why : TraceFault) → fault ≡ RunFault.Trace why
+        → IfSome (R.remaining reader.old) (λ bytes. IsFaultOf bytes why)) }
+    ensures untouched { IfErr result (λ fault. (fault ≢ RunFault.Write)
+        → Keeps (W.contents writer.old) (W.contents writer.new)) }
 {
     run_between(
         alloc,
@@ -81,9 +86,13 @@ pub fn run_between<S: Source, K: Sink>(
     params: Params,
     seed: Seed,
 ) -> Result<(), RunFault>
-    ensures report { OnOk result (IfSome (S.remaining source.old) (λ bytes. (text : List ℕ) × IsReportOf params seed bytes text × K.Wrote sink.old text sink.new)) }
-    ensures front { IfErr result (λ fault. fault ≡ RunFault.Write → IfSome (S.remaining source.old) (λ bytes. (text : List ℕ) × IsReportOf params seed bytes text × (count : ℕ) × K.Wrote sink.old (take count text) sink.new)) }
-    ensures trace { IfErr result (λ fault. (why : TraceFault) → fault ≡ RunFault.Trace why → IfSome (S.remaining source.old) (λ bytes. IsFaultOf bytes why)) }
+    ensures report { OnOk result (IfSome (S.remaining source.old) (λ bytes. (text : List ℕ)
+        × IsReportOf params seed bytes text × K.Wrote sink.old text sink.new)) }
+    ensures front { IfErr result (λ fault. fault ≡ RunFault.Write
+        → IfSome (S.remaining source.old) (λ bytes. (text : List ℕ) × IsReportOf params seed bytes text
+        × (count : ℕ) × K.Wrote sink.old (take count text) sink.new)) }
+    ensures trace { IfErr result (λ fault. (why : TraceFault) → fault ≡ RunFault.Trace why
+        → IfSome (S.remaining source.old) (λ bytes. IsFaultOf bytes why)) }
     ensures untouched { IfErr result (λ fault. (fault ≢ RunFault.Write) → sink.new ≡ sink.old) }
 
     // Read comes only where the source or `csv`'s reader of its text has failed, and Write only where the sink has.
@@ -92,17 +101,16 @@ pub fn run_between<S: Source, K: Sink>(
     ensures write { IfErr result (λ fault. fault ≡ RunFault.Write → K.HasFailed sink.new) }
 {
     let text = read_text(alloc, source)?;
-    let report = report_of(alloc, &text, params, seed)?;
+    let report = run_text(alloc, &text, params, seed)?;
     write_text(sink, &report)
 }
 
-/// The report of a text's run with a new scheduler of those parameters and that seed.
-fn report_of(alloc: Global, text: &[u8], params: Params, seed: Seed) -> Result<Vec<u8>, RunFault>
+/// Makes the steps of a text with a new scheduler of those parameters and that seed, and gives the report.
+fn run_text(alloc: Global, text: &[u8], params: Params, seed: Seed) -> Result<Vec<u8>, RunFault>
     requires { length text.now ≤ MAX_BYTES }
     ensures report { IfOk result (λ report. IsReportOf params seed text.now report.items) }
-    ensures trace { IfErr result (λ fault. (why : TraceFault) → fault ≡ RunFault.Trace why → (1 ≤ why.row) × ((steps_of text.now ≡ Err why) ⊎ StopsAtRow text.now why)) }
-    ensures read { IfErr result (λ fault. (why : TraceFault) → fault ≡ RunFault.Trace why → why.what ≡ kind.Read
-        → CsvFails why.row text.now) }
+    ensures trace { IfErr result (λ fault. (why : TraceFault) → fault ≡ RunFault.Trace why
+        → (reader : TextReader) × IsRowsFault text.now reader why) }
     ensures write { IfErr result (λ fault. fault ≢ RunFault.Write) }
 {
     let mut sched = Sched::try_new(alloc, params, seed)?;
@@ -113,15 +121,11 @@ fn report_of(alloc: Global, text: &[u8], params: Params, seed: Seed) -> Result<V
 
 /// Makes the steps of all rows of a text, from its start on, each as it is read, and writes its rows of the report.
 fn run_rows(sched: &mut Sched, rows: &mut TraceRows<'_>, report: &mut Rows) -> Result<(), RunFault>
-    requires { 1 ≤ rows.old.row_number }
-    ensures run { OnOk result ((text : List ℕ) → IsAtStart text rows.old → RunsText text sched.old sched.new report.old report.new) }
-    ensures trace { IfErr result (λ fault. (why : TraceFault) → fault ≡ RunFault.Trace why → (text : List ℕ) → IsAtStart text rows.old → (steps_of text ≡ Err why) ⊎ StopsAtRow text why) }
-    ensures row { IfErr result (λ fault. (why : TraceFault) → fault ≡ RunFault.Trace why → 1 ≤ why.row) }
+    ensures run { OnOk result ((text : List ℕ) → HasTaken text rows.old 0 []
+        → RunsText text sched.old sched.new report.old report.new) }
+    ensures trace { IfErr result (λ fault. (why : TraceFault) → fault ≡ RunFault.Trace why
+        → (text : List ℕ) → HasTaken text rows.old 0 [] → IsRowsFault text rows.new.records why) }
     ensures write { IfErr result (λ fault. fault ≢ RunFault.Write) }
-
-    // Read comes only where `csv` has failed.
-    ensures read { IfErr result (λ fault. (why : TraceFault) → fault ≡ RunFault.Trace why → why.what ≡ kind.Read
-        → (text : List ℕ) → IsAtStart text rows.old → FailsAtRow why.row text rows.new.records) }
 {
     // A record takes a byte or more, so the text ends before the turns do.
     for _turn in 0..u64::MAX {

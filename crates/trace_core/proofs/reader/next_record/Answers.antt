@@ -3,7 +3,7 @@ use Rattle.csv.proofs.ReadFacts.{rows-end, rows-more}
 use Rattle.csv.specs.Reading.{default_config, error_kind, strip_bom}
 use Rattle.csv.specs.Records.{fields_of}
 use Rattle.csv.specs.declared.parser.State.TheVariants as st
-use Rattle.trace_core.proofs.Records.{io_alone, io_stops, records-all}
+use Rattle.trace_core.proofs.RecordLemmas.{all_records, io_alone}
 use Rattle.trace_core.specs.Traces.{text_left}
 use Rattle.trace_core.proofs.reader.next_record.Goals as goal
 
@@ -16,19 +16,10 @@ returns-in-Ok-clause-more c = λ found text before h.
 pub returns-in-Ok-clause-end : goal.returns-in-Ok-clause-end
 returns-in-Ok-clause-end c = λ found text before h.
     let read = rw found at (c.in-Ok.ensures.reads h.trim h.ready) in
-    let none = rows-end text_left c.args.reader.now c.read_byte_record.new.self (fields_of c.read_byte_record.new.row) default_config h.rest h.config h.source read in
-    records-all _ (strip_bom text) h.rest before h.reached none
+    all_records text c.args.reader.now before h (rows-end text_left c.args.reader.now c.read_byte_record.new.self (fields_of c.read_byte_record.new.row) default_config h.rest h.config h.source read)
 
 pub returns-in-Err-clause-failed : goal.returns-in-Err-clause-failed
 returns-in-Err-clause-failed c = λ is_read text before h.
-    let told = sym c.fault_of.ensures ∙ is_read in
     let why = c.in-Err.ensures.why h.ready in
-    let io = io_alone (error_kind c.in-Err.error) c.args.reader.now c.read_byte_record.new.self h.flexible why told in
-    record {
-      old = c.args.reader.now;
-      stood = h;
-      error = c.in-Err.error;
-      why = why;
-      io = io;
-      failed = c.in-Err.ensures.fails ∙ io_stops (error_kind c.in-Err.error) io;
-    }
+    let io = io_alone (error_kind c.in-Err.error) c.args.reader.now c.read_byte_record.new.self h.flexible why (sym c.fault_of.ensures ∙ is_read) in
+    record { old = c.args.reader.now; stood = h; error = c.in-Err.error; why = why; io = io.0; failed = c.in-Err.ensures.fails ∙ io.1 }

@@ -1,5 +1,5 @@
-use Rattle.std.proofs.Common.{◌≡◌, ◌≤◌, Err, inr, length, rules}
-use Rattle.trace_core.proofs.Records.{row_fault_of}
+use Rattle.std.proofs.Common.{◌≡◌, ◌≤◌, Err, length, rules}
+use Rattle.trace_core.proofs.RecordLemmas.{rows_fault, rows_read}
 use Rattle.trace_core.proofs.trace_run.run_between.Goals as goal
 
 pub returns-in_err-report-clause-trace : goal.returns-in_err-report-clause-trace
@@ -7,9 +7,13 @@ returns-in_err-report-clause-trace g c =
     let err : c.from_residual-in_err-report.result ≡ Err c.in_err-report.field-0.0 = search rules in
     let text = c.in_ok-text.text.items in
     let small : length text ≤ 134217728 = search rules in
-    rw err (λ why is. row_fault_of (g.S.Source.remaining c.args.source.now) text why c.in_ok-text.ensures.whole small (rw c.deref.ensures.value at ((c.in_err-report.ensures.trace why is).1)))
+    rw err (λ why is.
+    let stops = rw c.deref.ensures.value at c.in_err-report.ensures.trace why is in
+    rows_fault (g.S.Source.remaining c.args.source.now) text stops.0 why c.in_ok-text.ensures.whole stops.1 small)
 
 pub returns-in_err-report-clause-read : goal.returns-in_err-report-clause-read
 returns-in_err-report-clause-read g c =
     let err : c.from_residual-in_err-report.result ≡ Err c.in_err-report.field-0.0 = search rules in
-    rw err (λ why is is_read. inr (c.in_ok-text.text.items, c.in_ok-text.ensures.whole, rw c.deref.ensures.value at (c.in_err-report.ensures.read why is is_read)))
+    rw err (λ why is.
+    let stops = rw c.deref.ensures.value at c.in_err-report.ensures.trace why is in
+    rows_read _ c.in_ok-text.text.items stops.0 why c.in_ok-text.ensures.whole stops.1 _)

@@ -1,5 +1,5 @@
 use Rattle.std.proofs.Common.{refl}
-use Rattle.trace_core.proofs.RowLemmas.{step_told}
+use Rattle.trace_core.proofs.TraceRunLemmas.{step_told}
 use Rattle.trace_core.proofs.trace_run.run_step.Goals as goal
 
 pub returns : goal.returns

@@ -1,11 +1,11 @@
 use Rattle.std.proofs.Common.{◌∙◌, [], arith, inr, refl, sym}
 use Rattle.csv.specs.Reading.{Reached, strip_bom}
-use Rattle.trace_core.specs.Traces.{HasRead, steps_from}
+use Rattle.trace_core.specs.Traces.{HasRead, steps_of_records}
 use Rattle.trace_core.proofs.reader.TraceRows.new.Goals as goal
 
-pub returns-clause-start : goal.returns-clause-start
-unfolding Reached steps_from
-returns-clause-start c =
+pub returns : goal.returns
+unfolding Reached steps_of_records
+returns c =
     let reader = c.from_reader.ensures in
     let flexible = c.flexible.ensures in
     let headers = c.has_headers.ensures in
@@ -19,4 +19,4 @@ returns-clause-start c =
       source = reader.source;
       reached = (sym reader.state, refl);
     } in
-    record { before = []; read = read; many = omega arith; asked = refl; next_row = refl }
+    record { small = c.requires; before = []; read = read; many = omega arith; asked = refl; next_row = refl }
