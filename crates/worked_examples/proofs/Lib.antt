@@ -1,9 +1,7 @@
-pub mod Examples
-pub mod ExamplesVerdict
-pub mod ExamplesComputed
-pub mod ExamplesRun
-pub mod FairExamples
+pub mod ComputedVerdicts
+pub mod ComputedChains
+pub mod ComputedRuns
+pub mod JournalExamples
+pub mod TurnExamples
 pub mod OverflowExamples
-pub mod ExamplesSpacing
 pub mod CodelExamples
-pub mod GiantExamples

@@ -10,7 +10,6 @@ use Rattle.packet_core.specs.declared.packet.Waiting.{Waiting}
 use Rattle.codel_core.specs.declared.served.Mark.TheVariants.{NoMark}
 use Rattle.packet_core.specs.declared.params.ParamFields.{ParamFields}
 use Rattle.codel_core.specs.Queue.{bytes_of}
-use Rattle.codel_core.specs.Schedule.{spacing_of}
 use Rattle.flow_core.specs.Fattest.{IsFattest, bytes_at}
 use Rattle.flow_core.specs.FlowLists.{queue_at}
 use Rattle.journal_core.specs.declared.event.Cause.TheVariants as cause
@@ -30,7 +29,7 @@ use Rattle.journal_core.specs.Runs.{Made, Runs}
 use Rattle.journal_core.specs.State.{State, arrival, opening_state, refusal_of}
 use Rattle.journal_core.specs.Steps.{Makes, Steps, dequeue_answer, drop_event, sent_events}
 use Rattle.fair_core.specs.Turns.{Service, Chain}
-use Rattle.worked_examples.proofs.ExamplesComputed.{Walk, walk, walk_is}
+use Rattle.worked_examples.proofs.ComputedChains.{Walk, walk, walk_is}
 
 -- THE FATTEST FLOW
 
@@ -90,16 +89,7 @@ pub record Run : Type 0 where
   pub state : State FairQueues
   pub good : Bool
 
--- the spacings of drops, in a form that computes quickly
-pub record Spacings (p : ParamFields) : Type 0 where
-  pub spacing : ℕ → ℕ
-  pub right : (n : ℕ) → spacing n ≡ spacing_of p.interval n
-
--- the same as they are defined
-abbrev pub as_defined : (p : ParamFields) → Spacings p
-as_defined p = record { spacing = spacing_of p.interval; right = λ n. refl }
-
-module _ (p : ParamFields) (table : Spacings p) (seed : Seed) (fuel : ℕ) where
+module _ (p : ParamFields) (seed : Seed) (fuel : ℕ) where
   abbrev flow_of : PacketParts → ℕ
   flow_of packet = flow_number p.classify p.flows seed packet.tuple
 
@@ -139,7 +129,7 @@ module _ (p : ParamFields) (table : Spacings p) (seed : Seed) (fuel : ℕ) where
       let queues = arrived old moment packet in
       admitted old moment lane packet queues (nat_le (sum_by length queues) p.limit)
   stepped old (Dequeue moment) None =
-      let w = walk p table.spacing moment fuel old.queues in
+      let w = walk p moment fuel old.queues in
       record {
         answer = dequeue_answer (given_in w.service);
         events = map (drop_event moment cause.Codel) (dropped_in w.service) ++ sent_events moment (given_in w.service);
@@ -197,12 +187,12 @@ module _ (p : ParamFields) (table : Spacings p) (seed : Seed) (fuel : ℕ) where
   made_is : (old : State FairQueues) (step : Step) → (stepped old step None).good ≡ true → MakesSo old step (stepped old step None)
   made_is old (Enqueue moment lane packet) e = admitted_is old moment lane packet (nat_le (sum_by length (arrived old moment packet)) p.limit) refl e
   made_is old (Dequeue moment) e =
-      let w = walk p table.spacing moment fuel old.queues in (
+      let w = walk p moment fuel old.queues in (
         given_in w.service,
         refl,
         record {
           dropped = dropped_in w.service;
-          queues = record { turns = w.turns; service = w.service; chain = walk_is p table.spacing moment table.right fuel old.queues e; dropped_by = refl; given_by = refl };
+          queues = record { turns = w.turns; service = w.service; chain = walk_is p moment fuel old.queues e; dropped_by = refl; given_by = refl };
           told = refl;
           next_id = refl;
           last = refl;
@@ -249,31 +239,23 @@ pub record RunLeaves (p : ParamFields) (seed : Seed) (steps : List Step) (Holds 
 abbrev pub MakesTurns : ParamFields → ℕ → ℕ → State FairQueues → Type 0
 MakesTurns p moment turns s = (service : Option Service) × (new : FairQueues) × Chain (fq_codel_policy p) moment s.queues turns service new
 
-module _ (p : ParamFields) (table : Spacings p) (seed : Seed) (steps : List Step) where
+module _ (p : ParamFields) (seed : Seed) (steps : List Step) where
   abbrev pub run_of : Run
-  run_of = run_from p table seed 10 (opening_state (no_queues p.flows)) steps
+  run_of = run_from p seed 10 (opening_state (no_queues p.flows)) steps
 
   pub run_gives : run_of.good ≡ true → RunGives p seed steps run_of.made
-  run_gives good = record { state = run_of.state; runs = run_is p table seed 10 (opening_state (no_queues p.flows)) steps good }
+  run_gives good = record { state = run_of.state; runs = run_is p seed 10 (opening_state (no_queues p.flows)) steps good }
 
   pub run_leaves : (Holds : State FairQueues → Type 0) → run_of.good ≡ true → Holds run_of.state → RunLeaves p seed steps Holds
-  run_leaves Holds good holds = record { made = run_of.made; state = run_of.state; runs = run_is p table seed 10 (opening_state (no_queues p.flows)) steps good; holds = holds }
+  run_leaves Holds good holds = record { made = run_of.made; state = run_of.state; runs = run_is p seed 10 (opening_state (no_queues p.flows)) steps good; holds = holds }
 
   abbrev walk_of : ℕ → Walk
-  walk_of moment = walk p table.spacing moment 10 run_of.state.queues
+  walk_of moment = walk p moment 10 run_of.state.queues
 
   pub run_turns : (moment : ℕ) → run_of.good ≡ true → (walk_of moment).good ≡ true → RunLeaves p seed steps (λ s. MakesTurns p moment (walk_of moment).turns s)
   run_turns moment good ends =
       run_leaves (λ s. MakesTurns p moment (walk_of moment).turns s) good
-      ((walk_of moment).service, (walk_of moment).queues, walk_is p table.spacing moment table.right 10 run_of.state.queues ends)
-
--- a run and then another
-pub runs_then : (p : ParamFields) (seed : Seed) (old mid new : State FairQueues) (steps steps' : List Step) (made made' : List Made) → Runs (fq_codel p seed) old steps made mid
-    → Runs (fq_codel p seed) mid steps' made' new → Runs (fq_codel p seed) old (steps ++ steps') (made ++ made') new
-runs_then p seed old mid new [] steps' [] made' first then' = subst (λ (s : State FairQueues). Runs (fq_codel p seed) s steps' made' new) first then'
-runs_then p seed old mid new [] steps' (m ∷ made) made' first then' = absurd first
-runs_then p seed old mid new (step ∷ steps) steps' [] made' first then' = absurd first
-runs_then p seed old mid new (step ∷ steps) steps' (m ∷ made) made' first then' = (first.0, first.1, runs_then p seed first.0 mid new steps steps' made made' first.2 then')
+      ((walk_of moment).service, (walk_of moment).queues, walk_is p moment 10 run_of.state.queues ends)
 
 -- PACKETS AND WHAT STEPS GIVE
 
