@@ -2,8 +2,8 @@
 
 ghost use Rattle.std.specs.Prelude.{◌≡◌, ◌++◌, Some, true};
 
-use crate::packets::one_flow;
-use packet_core::{Params, Seed};
+use crate::packets::{SEED, one_flow};
+use packet_core::Params;
 use sched_core::Step;
 use std::io::{self, ErrorKind, Read};
 use std::process::Abort;
@@ -103,7 +103,7 @@ fn expect_run_between(
         is_full: false,
     };
     let params = Params::try_new(one_flow())?;
-    let answer = run_between(rt.alloc(), &mut intake, &mut page, params, Seed([0; 16]));
+    let answer = run_between(rt.alloc(), &mut intake, &mut page, params, SEED);
     assert_eq!(rt; str::from_utf8(&page.bytes)?, report);
     assert_eq!(rt; answer, ended);
     assert_eq!(rt; intake.has_failed, bytes.len() < TRACE.len());

@@ -1,16 +1,15 @@
-//! Worked runs, as tests that stand on several crates: traces of whole runs, with their reports, and what each step
-//! gives, tells and keeps. What is expected was worked out by hand from the rules. `scenarios` has those of schedulers.
+//! Tests of engines and of runs, which stand on several crates: what no report of a run shows, as the steps that are
+//! stored, the answer to each step, and a source or a sink that fails. What is expected was worked out by hand from the
+//! rules. `scenarios` has those of schedulers, and `examples/` the runs that their reports judge.
 #![tactic(auto)]
 
 #[cfg(test)]
 mod embedders;
 #[cfg(test)]
+mod engines;
+#[cfg(test)]
 mod many_flows;
 #[cfg(test)]
 mod packets;
 #[cfg(test)]
-mod queue_runs;
-#[cfg(test)]
 mod runs;
-#[cfg(test)]
-mod turn_runs;

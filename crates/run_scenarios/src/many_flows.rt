@@ -1,5 +1,7 @@
-use crate::packets::one_flow;
-use packet_core::{ParamFields, Params, Seed};
+//! A run over as many flows as there may be.
+
+use crate::packets::{SEED, one_flow};
+use packet_core::{ParamFields, Params};
 use std::alloc::{AllocError, Global};
 use std::str;
 use std::test::Fail;
@@ -63,7 +65,7 @@ fn many_flows_take_turns(rt: HostRuntime) -> Result<(), Fail> {
     let report = report_of_flows(rt.alloc())?;
     let mut written = Vec::new(rt.alloc());
     let mut reader = trace.as_bytes();
-    run(rt.alloc(), &mut reader, &mut written, params, Seed([0; 16]))?;
+    run(rt.alloc(), &mut reader, &mut written, params, SEED)?;
     assert!(rt; str::from_utf8(&written)? == report.as_str());
     Ok(())
 }

@@ -1,11 +1,11 @@
-//! The parameters and the packets of the runs, and what the journal tells of those packets.
+//! The parameters and the packets of the tests.
 
-use packet_core::{Classify, Ecn, EcnUse, FiveTuple, Ip, Packet, ParamFields};
-use sched_core::{Cause, Event, Mark};
+use packet_core::{Classify, Ecn, EcnUse, FiveTuple, Ip, Packet, ParamFields, Seed};
+use sched_core::Step;
 use std::test::Fail;
 
-/// The destination port where there is one flow.
-pub(crate) const PORT: u16 = 53;
+/// The seed of every run. A flow that is found from the destination port doesn't depend on it.
+pub(crate) const SEED: Seed = Seed([0; 16]);
 
 /// Standard parameters for one flow, without marks, and flows by the destination port.
 pub(crate) fn one_flow() -> ParamFields {
@@ -23,40 +23,27 @@ pub(crate) fn four_flows() -> ParamFields {
     fields
 }
 
-/// A packet of `len` bytes to that destination port.
-pub(crate) fn packet(dport: u16, len: u32, ecn: Ecn) -> Result<Packet, Fail> {
-    let tuple = FiveTuple {
+/// A five-tuple with that destination port.
+pub(crate) fn tuple(dport: u16) -> FiveTuple {
+    FiveTuple {
         proto: 17,
         src: Ip::V4([10, 0, 0, 1]),
         dst: Ip::V4([10, 0, 0, 2]),
         sport: 5000,
         dport,
-    };
-    Ok(Packet::try_new(tuple, len, ecn)?)
-}
-
-/// What the journal tells of a packet that came at 0 to that destination port.
-pub(crate) fn accepted(id: u64, flow: u32, dport: u16, len: u32) -> Result<Event, Fail> {
-    Ok(Event::Accepted {
-        id,
-        moment: 0,
-        lane: 0,
-        flow,
-        packet: packet(dport, len, Ecn::NotEct)?,
-    })
-}
-
-/// What the journal tells of a packet that was sent as it came.
-pub(crate) fn sent(id: u64, moment: u64) -> Event {
-    Event::Sent {
-        id,
-        moment,
-        ecn: Ecn::NotEct,
-        mark: Mark::NoMark,
     }
 }
 
-/// What the journal tells of a packet that was dropped.
-pub(crate) fn dropped(id: u64, moment: u64, cause: Cause) -> Event {
-    Event::Dropped { id, moment, cause }
+/// A packet of 1,000 bytes to that destination port.
+pub(crate) fn packet(dport: u16) -> Result<Packet, Fail> {
+    Ok(Packet::try_new(tuple(dport), 1_000, Ecn::NotEct)?)
+}
+
+/// A step that enqueues a packet to that destination port.
+pub(crate) fn enqueue(moment: u64, dport: u16) -> Result<Step, Fail> {
+    Ok(Step::Enqueue {
+        moment,
+        lane: 0,
+        packet: packet(dport)?,
+    })
 }

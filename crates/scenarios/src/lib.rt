@@ -1,16 +1,19 @@
-//! Worked scenarios of schedulers, as tests that stand on several crates: steps, with what each gives, tells and keeps.
-//! What is expected was worked out by hand from the rules. `run_scenarios` has those of whole runs.
+//! Tests of schedulers, which stand on several crates: what no report of a run shows, as turns, comparisons, CoDel's
+//! state, and refused steps that change nothing. What is expected was worked out by hand from the rules.
+//! `run_scenarios` has those of engines and of whole runs, and `examples/` the runs that their reports judge.
 #![tactic(auto)]
 
 #[cfg(test)]
+mod comparisons;
+#[cfg(test)]
+mod flow_states;
+#[cfg(test)]
+mod journals;
+#[cfg(test)]
 mod keepers;
 #[cfg(test)]
-mod overflows;
+mod refusals;
 #[cfg(test)]
 mod schedulers;
 #[cfg(test)]
-mod tuple_rows;
-#[cfg(test)]
 mod turns;
-#[cfg(test)]
-mod verdicts;

@@ -1,74 +1,43 @@
-use crate::schedulers::{PORT, arrive, expect_idle, expect_sent, four_flows, one_flow, scheduler};
-use codel_core::CodelState;
-use packet_core::ParamFields;
-use sched_core::FlowView;
+//! How many turns a dequeue makes.
+
+use crate::schedulers::{PORT, arrive, four_flows, one_flow, scheduler};
+use sched_core::Sched;
+use std::process::Abort;
 use std::test::Fail;
 
-/// Four flows with a quantum of 300 bytes.
-fn small_quantum() -> ParamFields {
-    let mut fields = four_flows();
-    fields.quantum = 300;
-    fields
+/// Makes a dequeue at 1, and compares the id of the packet that it gives and its number of turns.
+fn expect_turns(
+    rt: &impl Abort,
+    sched: &mut Sched,
+    given: Option<u64>,
+    turns: u64,
+) -> Result<(), Fail> {
+    let answer = sched.dequeue(1)?;
+    assert_eq!(rt; answer.map(|sent| sent.id), given);
+    assert_eq!(rt; sched.turns(), turns, "for {given:?}");
+    Ok(())
 }
 
 #[test]
 fn small_quantum_two_flows(rt: HostRuntime) -> Result<(), Fail> {
-    let mut sched = scheduler(&rt, small_quantum())?;
+    let mut fields = four_flows();
+    fields.quantum = 300;
+    let mut sched = scheduler(&rt, fields)?;
+    assert_eq!(rt; sched.turns(), 0);
     arrive(&mut sched, 1, 2, 500)?;
     arrive(&mut sched, 2, 2, 200)?;
-    for id in [0, 2, 3, 1] {
-        expect_sent(&rt, &mut sched, 1, id)?;
-    }
-    expect_idle(&rt, &mut sched, 1)?;
-    assert_eq!(rt; sched.turns(), 4);
-    Ok(())
-}
-
-#[test]
-fn exact_credits_use_up(rt: HostRuntime) -> Result<(), Fail> {
-    let mut sched = scheduler(&rt, small_quantum())?;
-    arrive(&mut sched, 1, 2, 300)?;
-    arrive(&mut sched, 2, 1, 300)?;
-    for id in [0, 2, 1] {
-        expect_sent(&rt, &mut sched, 1, id)?;
+    // The flow 1 owes 200 bytes behind its first packet, and a turn gives it a quantum; so it is with the flow 2
+    // behind its second. At the last dequeue the flow 1 owes 400 bytes: it gets a quantum twice, and both flows leave.
+    for (given, turns) in [
+        (Some(0), 1),
+        (Some(2), 2),
+        (Some(3), 1),
+        (Some(1), 2),
+        (None, 4),
+    ] {
+        expect_turns(&rt, &mut sched, given, turns)?;
     }
     Ok(())
-}
-
-#[test]
-fn a_flow_may_owe_bytes(rt: HostRuntime) -> Result<(), Fail> {
-    let mut sched = scheduler(&rt, small_quantum())?;
-    arrive(&mut sched, 1, 3, 500)?;
-    arrive(&mut sched, 2, 1, 200)?;
-    expect_sent(&rt, &mut sched, 1, 0)?;
-    let view = FlowView {
-        len: 2,
-        bytes: 1_000,
-        credits: -200,
-        codel: CodelState {
-            first_above: None,
-            drop_next: 0,
-            count: 0,
-            lastcount: 0,
-            dropping: false,
-        },
-    };
-    assert!(rt; 1 < sched.params().flows());
-    assert_eq!(rt; sched.flow_view(1), view);
-    Ok(())
-}
-
-#[test]
-fn old_flow_waits_for_new(rt: HostRuntime) -> Result<(), Fail> {
-    let mut sched = scheduler(&rt, small_quantum())?;
-    arrive(&mut sched, 1, 1, 100)?;
-    expect_sent(&rt, &mut sched, 0, 0)?;
-    arrive(&mut sched, 2, 1, 100)?;
-    expect_sent(&rt, &mut sched, 0, 1)?;
-    arrive(&mut sched, 1, 1, 100)?;
-    arrive(&mut sched, 3, 1, 100)?;
-    expect_sent(&rt, &mut sched, 0, 3)?;
-    expect_sent(&rt, &mut sched, 0, 2)
 }
 
 #[test]
@@ -77,9 +46,7 @@ fn giant_packets_small_quantum(rt: HostRuntime) -> Result<(), Fail> {
     fields.quantum = 1;
     let mut sched = scheduler(&rt, fields)?;
     arrive(&mut sched, PORT, 2, 65_535)?;
-    expect_sent(&rt, &mut sched, 1, 0)?;
-    assert_eq!(rt; sched.turns(), 1);
-    expect_sent(&rt, &mut sched, 1, 1)?;
-    assert_eq!(rt; sched.turns(), 65_536);
-    Ok(())
+    // It owes 65,534 bytes behind the first packet, and gets one byte a turn.
+    expect_turns(&rt, &mut sched, Some(0), 1)?;
+    expect_turns(&rt, &mut sched, Some(1), 65_536)
 }

@@ -1,9 +1,16 @@
--- Worked examples of CoDel in a flow, by computation: when packets are dropped or marked, and what its state is then.
-use Rattle.std.proofs.Common.{◌≡◌, ℕ, true, false, List, [], ◌∷◌, ◌++◌, map, Some, None, refl}
+-- Worked examples of CoDel in a flow, by computation: how far apart drops are, when packets are dropped or marked, and
+-- what its state is then.
+use Rattle.std.proofs.Common.{◌≡◌, ℕ, true, false, List, [], ◌∷◌, ◌++◌, map, Some, None, refl, lit<, lit≤}
 use Rattle.std.specs.List.{range_with_len}
+use Rattle.packet_core.specs.Params.{standard_fields}
 use Rattle.packet_core.specs.declared.flow.Seed.{Seed}
 use Rattle.packet_core.specs.declared.packet.Ecn.TheVariants.{NotEct, Ect0, Ce}
+use Rattle.packet_core.specs.declared.params.Classify.TheVariants.{Dport}
+use Rattle.packet_core.specs.declared.params.EcnUse.{EcnUse}
 use Rattle.packet_core.specs.declared.params.EcnUse.TheVariants.{Drop, Mark}
+use Rattle.packet_core.specs.declared.params.ParamFields.{ParamFields}
+use Rattle.codel_core.specs.Schedule.{spacing_of}
+use Rattle.codel_core.specs.Spacing.{IsSpacing}
 use Rattle.codel_core.specs.declared.served.Mark.TheVariants.{NoMark, CodelMark}
 use Rattle.codel_core.specs.declared.state.CodelState.{CodelState}
 use Rattle.journal_core.specs.declared.event.Cause.TheVariants.{Codel}
@@ -14,65 +21,79 @@ use Rattle.journal_core.specs.declared.step.Step.TheVariants.{Enqueue, Dequeue}
 use Rattle.fair_core.specs.FairQueues.{FairQueues, account_at}
 use Rattle.journal_core.specs.Runs.{Made}
 use Rattle.journal_core.specs.State.{State}
-use Rattle.worked_examples.proofs.ExamplesRun.{MakesTurns, RunGives, RunLeaves, accepts, arrives, idles, packet_to, run_gives, run_leaves, run_turns, sends}
-use Rattle.worked_examples.proofs.ExamplesSpacing.{one_flow, standard_spacings, tight, tight_spacings}
+use Rattle.worked_examples.proofs.ComputedRuns.{RunGives, RunLeaves, accepts, arrives, idles, packet_to, run_gives, run_leaves, sends}
+
+-- THE SPACING OF DROPS
+
+-- with an interval of 100 milliseconds, behind two drops and three
+spacing_behind_two : IsSpacing 100000 2 70710
+spacing_behind_two = (lit≤ tt, lit< tt)
+
+spacing_behind_three : IsSpacing 100000 3 57735
+spacing_behind_three = (lit≤ tt, lit< tt)
+
+-- with an interval of 100 microseconds, behind one, two and three, as a number that computes
+spacings : map (spacing_of 100) (1 ∷ 2 ∷ 3 ∷ []) ≡ 100 ∷ 70 ∷ 57 ∷ []
+unfolding spacing_of
+spacings = refl
+
+-- TEN PACKETS
+
+-- one flow, with times a thousandth of the standard ones: so a spacing is found from the interval downwards in few steps
+abbrev one_flow : EcnUse → ParamFields
+one_flow ecn = record standard_fields { flows = 1; ecn = ecn; classify = Dport; target = 5; interval = 100 }
+
+-- so many packets of that length, and dequeues at those moments
+abbrev packets : ℕ → ℕ → List ℕ → List Step
+packets count len moments = map (λ _. arrives 0 len) (range_with_len 0 count) ++ map Dequeue moments
 
 -- a dequeue that drops those packets and sends the next one
 abbrev drops_and_sends : List ℕ → ℕ → ℕ → Made
-drops_and_sends dropped sent moment = record { answer = answer.Sent; events = map (λ id. Dropped id moment Codel) dropped ++ Sent sent moment NotEct NoMark ∷ [] }
+drops_and_sends dropped sent moment =
+    record { answer = answer.Sent; events = map (λ id. Dropped id moment Codel) dropped ++ Sent sent moment NotEct NoMark ∷ [] }
 
 -- CoDel's state in the only flow is that
 abbrev CodelIs : CodelState → State FairQueues → Type 0
 CodelIs codel s = (account_at s.queues 0).codel ≡ codel
 
--- TEN PACKETS
-
--- ten packets of 1000 bytes, and dequeues at those moments
-abbrev ten_packets : List ℕ → List Step
-ten_packets moments = map (λ _. arrives 0 1000) (range_with_len 0 10) ++ map Dequeue moments
-
--- The first is late; an interval later one is dropped, and more from the moments that are due. With one packet behind it no packet is late.
+-- The first is late; an interval later one is dropped, and more from the moments that are due. With one packet behind it
+-- no packet is late.
 ten_packets_drop_and_send : (seed : Seed)
-    → RunGives (one_flow Drop) seed (ten_packets (5000 ∷ 105000 ∷ 205000 ∷ 275710 ∷ 333445 ∷ 333446 ∷ 333447 ∷ []))
+    → RunGives (one_flow Drop) seed (packets 10 1000 (5 ∷ 105 ∷ 205 ∷ 275 ∷ 332 ∷ 333 ∷ 334 ∷ []))
     (map (λ id. accepts id 0 1000) (range_with_len 0 10)
-    ++ sends 0 5000 ∷ drops_and_sends (1 ∷ []) 2 105000 ∷ drops_and_sends (3 ∷ []) 4 205000 ∷ drops_and_sends (5 ∷ []) 6 275710 ∷ drops_and_sends (7 ∷ []) 8 333445
-    ∷ sends 9 333446 ∷ idles ∷ [])
-ten_packets_drop_and_send seed = run_gives (one_flow Drop) (standard_spacings Drop) seed _ refl
+    ++ sends 0 5 ∷ drops_and_sends (1 ∷ []) 2 105 ∷ drops_and_sends (3 ∷ []) 4 205 ∷ drops_and_sends (5 ∷ []) 6 275
+    ∷ drops_and_sends (7 ∷ []) 8 332 ∷ sends 9 333 ∷ idles ∷ [])
+unfolding spacing_of
+ten_packets_drop_and_send seed = run_gives (one_flow Drop) seed _ refl
 
--- The third dequeue finds the credits used up.
-ten_packets_third_turns : (seed : Seed) → RunLeaves (one_flow Drop) seed (ten_packets (5000 ∷ 105000 ∷ [])) (λ s. MakesTurns (one_flow Drop) 205000 2 s)
-ten_packets_third_turns seed = run_turns (one_flow Drop) (standard_spacings Drop) seed _ 205000 refl refl
-
--- The state behind the fifth: drop_next stayed when dropping ended.
+-- The state behind the fifth dequeue: drop_next stayed when dropping ended.
 abbrev after_fifth : CodelState
-after_fifth = record { first_above = None; drop_next = 333445; count = 4; lastcount = 1; dropping = false }
+after_fifth = record { first_above = None; drop_next = 332; count = 4; lastcount = 1; dropping = false }
 
-ten_packets_after_fifth : (seed : Seed) → RunLeaves (one_flow Drop) seed (ten_packets (5000 ∷ 105000 ∷ 205000 ∷ 275710 ∷ 333445 ∷ [])) (CodelIs after_fifth)
-ten_packets_after_fifth seed =
-    run_leaves (one_flow Drop) (standard_spacings Drop) seed (ten_packets (5000 ∷ 105000 ∷ 205000 ∷ 275710 ∷ 333445 ∷ [])) (CodelIs after_fifth) refl refl
+ten_packets_after_fifth : (seed : Seed)
+    → RunLeaves (one_flow Drop) seed (packets 10 1000 (5 ∷ 105 ∷ 205 ∷ 275 ∷ 332 ∷ [])) (CodelIs after_fifth)
+unfolding spacing_of
+ten_packets_after_fifth seed = run_leaves (one_flow Drop) seed _ (CodelIs after_fifth) refl refl
 
 -- A BURST OF DROPS
 
-abbrev seven_packets : List ℕ → List Step
-seven_packets moments = map (λ _. arrives 0 100) (range_with_len 0 7) ++ map Dequeue moments
+-- an interval of one microsecond, in which packets are late at once
+abbrev tight : ParamFields
+tight = record (one_flow Drop) { target = 0; interval = 1; mtu = 0 }
 
--- With an interval of one microsecond all drops from the second on are due at once.
+-- All drops from the second on are due at once.
 drop_burst : (seed : Seed)
-    → RunGives (tight Drop) seed (seven_packets (0 ∷ 1 ∷ 2 ∷ []))
-    (map (λ id. accepts id 0 100) (range_with_len 0 7) ++ sends 0 0 ∷ drops_and_sends (1 ∷ []) 2 1 ∷ drops_and_sends (3 ∷ 4 ∷ 5 ∷ []) 6 2 ∷ [])
-drop_burst seed = run_gives (tight Drop) (tight_spacings Drop) seed _ refl
-
-abbrev after_burst : CodelState
-after_burst = record { first_above = None; drop_next = 2; count = 4; lastcount = 1; dropping = false }
-
-drop_burst_state : (seed : Seed) → RunLeaves (tight Drop) seed (seven_packets (0 ∷ 1 ∷ 2 ∷ [])) (CodelIs after_burst)
-drop_burst_state seed = run_leaves (tight Drop) (tight_spacings Drop) seed (seven_packets (0 ∷ 1 ∷ 2 ∷ [])) (CodelIs after_burst) refl refl
+    → RunGives tight seed (packets 7 100 (0 ∷ 1 ∷ 2 ∷ []))
+    (map (λ id. accepts id 0 100) (range_with_len 0 7)
+    ++ sends 0 0 ∷ drops_and_sends (1 ∷ []) 2 1 ∷ drops_and_sends (3 ∷ 4 ∷ 5 ∷ []) 6 2 ∷ [])
+unfolding spacing_of
+drop_burst seed = run_gives tight seed _ refl
 
 -- MARKS IN PLACE OF DROPS
 
--- the same ten packets from senders that take part, and marks are made
-abbrev willing : List ℕ → List Step
-willing moments = map (λ _. Enqueue 0 0 (record (packet_to 0 1000) { ecn = Ect0 })) (range_with_len 0 10) ++ map Dequeue moments
+-- a packet from a sender that takes part, and what its arrival gives
+abbrev willing : Step
+willing = Enqueue 0 0 (record (packet_to 0 1000) { ecn = Ect0 })
 
 abbrev accepts_willing : ℕ → Made
 accepts_willing id = record { answer = answer.Accepted; events = Accepted id 0 0 0 (record (packet_to 0 1000) { ecn = Ect0 }) ∷ [] }
@@ -80,14 +101,20 @@ accepts_willing id = record { answer = answer.Accepted; events = Accepted id 0 0
 abbrev sends_marked : ℕ → ℕ → Made
 sends_marked id moment = record { answer = answer.Sent; events = Sent id moment Ce CodelMark ∷ [] }
 
+abbrev ten_willing : List Step
+ten_willing = map (λ _. willing) (range_with_len 0 10) ++ Dequeue 5 ∷ Dequeue 105 ∷ Dequeue 205 ∷ []
+
 -- What would be dropped is marked and sent, and no second packet leaves.
 ten_packets_marked : (seed : Seed)
-    → RunGives (one_flow Mark) seed (willing (5000 ∷ 105000 ∷ 205000 ∷ []))
-    (map accepts_willing (range_with_len 0 10) ++ record { answer = answer.Sent; events = Sent 0 5000 Ect0 NoMark ∷ [] } ∷ sends_marked 1 105000 ∷ sends_marked 2 205000 ∷ [])
-ten_packets_marked seed = run_gives (one_flow Mark) (standard_spacings Mark) seed _ refl
+    → RunGives (one_flow Mark) seed ten_willing
+    (map accepts_willing (range_with_len 0 10)
+    ++ record { answer = answer.Sent; events = Sent 0 5 Ect0 NoMark ∷ [] } ∷ sends_marked 1 105 ∷ sends_marked 2 205 ∷ [])
+unfolding spacing_of
+ten_packets_marked seed = run_gives (one_flow Mark) seed _ refl
 
 abbrev after_marks : CodelState
-after_marks = record { first_above = Some 105000; drop_next = 275710; count = 2; lastcount = 1; dropping = true }
+after_marks = record { first_above = Some 105; drop_next = 275; count = 2; lastcount = 1; dropping = true }
 
-ten_packets_marked_state : (seed : Seed) → RunLeaves (one_flow Mark) seed (willing (5000 ∷ 105000 ∷ 205000 ∷ [])) (CodelIs after_marks)
-ten_packets_marked_state seed = run_leaves (one_flow Mark) (standard_spacings Mark) seed (willing (5000 ∷ 105000 ∷ 205000 ∷ [])) (CodelIs after_marks) refl refl
+ten_packets_marked_state : (seed : Seed) → RunLeaves (one_flow Mark) seed ten_willing (CodelIs after_marks)
+unfolding spacing_of
+ten_packets_marked_state seed = run_leaves (one_flow Mark) seed _ (CodelIs after_marks) refl refl

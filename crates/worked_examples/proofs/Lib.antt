@@ -1,10 +1,8 @@
-pub mod Examples
-pub mod ExamplesVerdict
-pub mod ExamplesComputed
-pub mod ExamplesRun
-pub mod FairExamples
+pub mod ComputedVerdicts
+pub mod ComputedChains
+pub mod ComputedRuns
+pub mod JournalExamples
+pub mod TurnExamples
 pub mod OverflowExamples
-pub mod ExamplesSpacing
 pub mod CodelExamples
-pub mod GiantExamples
 pub mod HashExamples

@@ -13,7 +13,7 @@ use Rattle.journal_core.specs.declared.outcome.Answer.TheVariants as answer
 use Rattle.journal_core.specs.declared.step.Step.TheVariants.{Dequeue}
 use Rattle.fair_core.specs.FairQueues.{queue_of}
 use Rattle.journal_core.specs.Runs.{Made}
-use Rattle.worked_examples.proofs.ExamplesRun.{MakesTurns, RunGives, RunLeaves, acceptance, accepts, arrives, as_defined, idles, packet_to, run_gives, run_leaves, run_turns, sends}
+use Rattle.worked_examples.proofs.ComputedRuns.{RunGives, RunLeaves, acceptance, accepts, arrives, idles, packet_to, run_gives, run_leaves, sends}
 
 -- four flows with that limit, and no marks
 abbrev limited : ℕ → ParamFields
@@ -28,22 +28,16 @@ fattest_by_bytes : (seed : Seed)
     → RunGives (limited 4) seed
     (arrives 1 1000 ∷ arrives 1 1000 ∷ arrives 1 1000 ∷ arrives 2 100 ∷ arrives 2 100 ∷ [])
     (accepts 0 1 1000 ∷ accepts 1 1 1000 ∷ accepts 2 1 1000 ∷ accepts 3 2 100 ∷ accepts_over 4 2 100 (0 ∷ []) ∷ [])
-fattest_by_bytes seed = run_gives (limited 4) (as_defined (limited 4)) seed _ refl
+fattest_by_bytes seed = run_gives (limited 4) seed _ refl
 
 -- The packet that came last is its flow's head, and the flow is the fattest one.
 fattest_is_the_last_arrival : (seed : Seed) → RunGives (limited 1) seed (arrives 1 100 ∷ arrives 2 200 ∷ []) (accepts 0 1 100 ∷ accepts_over 1 2 200 (1 ∷ []) ∷ [])
-fattest_is_the_last_arrival seed = run_gives (limited 1) (as_defined (limited 1)) seed _ refl
+fattest_is_the_last_arrival seed = run_gives (limited 1) seed _ refl
 
 -- Of two flows with as many bytes the least one loses its packet. It stays listed, and a turn finds it empty.
 tie_goes_to_least_flow : (seed : Seed)
     → RunGives (limited 1) seed (arrives 1 100 ∷ arrives 2 100 ∷ Dequeue 0 ∷ Dequeue 0 ∷ []) (accepts 0 1 100 ∷ accepts_over 1 2 100 (0 ∷ []) ∷ sends 1 0 ∷ idles ∷ [])
-tie_goes_to_least_flow seed = run_gives (limited 1) (as_defined (limited 1)) seed _ refl
-
-tie_first_turns : (seed : Seed) → RunLeaves (limited 1) seed (arrives 1 100 ∷ arrives 2 100 ∷ []) (λ s. MakesTurns (limited 1) 0 2 s)
-tie_first_turns seed = run_turns (limited 1) (as_defined (limited 1)) seed _ 0 refl refl
-
-tie_second_turns : (seed : Seed) → RunLeaves (limited 1) seed (arrives 1 100 ∷ arrives 2 100 ∷ Dequeue 0 ∷ []) (λ s. MakesTurns (limited 1) 0 3 s)
-tie_second_turns seed = run_turns (limited 1) (as_defined (limited 1)) seed _ 0 refl refl
+tie_goes_to_least_flow seed = run_gives (limited 1) seed _ refl
 
 -- one flow with a limit of 200 packets, and no marks
 abbrev one_flow : ParamFields
@@ -52,10 +46,10 @@ one_flow = record standard_fields { limit = 200; flows = 1; ecn = Drop; classify
 -- The packet past the limit finds 201, half of which are more than a batch: 64 are dropped, and 137 wait.
 batch_of_sixty_four : (seed : Seed)
     → RunGives one_flow seed (replicate 201 (arrives 0 100)) (map (λ id. accepts id 0 100) (range_with_len 0 200) ++ accepts_over 200 0 100 (range_with_len 0 64) ∷ [])
-batch_of_sixty_four seed = run_gives one_flow (as_defined one_flow) seed _ refl
+batch_of_sixty_four seed = run_gives one_flow seed _ refl
 
 abbrev still_waiting : List Waiting
 still_waiting = map (λ id. record { id = id; stamp = 0; packet = packet_to 0 100 }) (range_with_len 64 137)
 
 batch_leaves : (seed : Seed) → RunLeaves one_flow seed (replicate 201 (arrives 0 100)) (λ s. queue_of s.queues 0 ≡ still_waiting)
-batch_leaves seed = run_leaves one_flow (as_defined one_flow) seed (replicate 201 (arrives 0 100)) (λ s. queue_of s.queues 0 ≡ still_waiting) refl refl
+batch_leaves seed = run_leaves one_flow seed (replicate 201 (arrives 0 100)) (λ s. queue_of s.queues 0 ≡ still_waiting) refl refl

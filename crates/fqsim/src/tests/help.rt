@@ -1,3 +1,5 @@
+//! The texts of help.
+
 use crate::program::program;
 use std::process::Abort;
 use std::str;

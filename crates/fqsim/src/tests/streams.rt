@@ -1,9 +1,13 @@
-use super::{WORDS, expect_from};
+//! Readers and writers that are slow, and that fail.
+
 use crate::program::program;
 use std::io::{ErrorKind, Read, Write};
 use std::process::Abort;
 use std::test::Fail;
 use std::{io, str};
+
+/// The words of a run with one flow and otherwise the standard parameters.
+const WORDS: [&str; 5] = ["trace", "classify", "dport", "flows", "1"];
 
 /// A reader that gives its text, and then fails.
 #[derive(Drop)]
@@ -32,17 +36,6 @@ impl Read for SlowReader<'_> {
     }
 }
 
-/// A reader of line feeds without end.
-#[derive(Drop)]
-struct EndlessReader;
-
-impl Read for EndlessReader {
-    fn read(&mut self, buf: &mut [u8]) -> io::Result<usize> {
-        buf.fill(b'\n');
-        Ok(buf.len())
-    }
-}
-
 /// A writer that takes so many bytes at once, as long as there is room, and then fails.
 #[derive(Drop)]
 struct NarrowWriter {
@@ -65,6 +58,23 @@ impl Write for NarrowWriter {
     fn flush(&mut self) -> io::Result<()> {
         Ok(())
     }
+}
+
+/// Runs the program on a trace that comes from a reader, and compares what it writes and how it ends.
+fn expect_from<R: Read>(
+    rt: &(impl Abort + AllocGlobal),
+    reader: &mut R,
+    status: u8,
+    report: &str,
+    faults: &str,
+) -> Result<(), Fail> {
+    let mut written = Vec::new(rt.alloc());
+    let mut told = Vec::new(rt.alloc());
+    let ended = program(rt.alloc(), &WORDS, reader, &mut written, &mut told);
+    assert_eq!(rt; str::from_utf8(&told)?, faults);
+    assert_eq!(rt; str::from_utf8(&written)?, report);
+    assert_eq!(rt; ended, status);
+    Ok(())
 }
 
 /// Runs the program on a trace of one dequeue with a writer that takes so many bytes at once, and compares how it
@@ -100,7 +110,7 @@ fn failed_reads_refused(rt: HostRuntime) -> Result<(), Fail> {
             text: &trace[..count],
             failure: ErrorKind::BrokenPipe,
         };
-        expect_from(&rt, &WORDS, &mut reader, 1, "", faults)?;
+        expect_from(&rt, &mut reader, 1, "", faults)?;
     }
     Ok(())
 }
@@ -111,20 +121,14 @@ fn interrupted_reads_refused(rt: HostRuntime) -> Result<(), Fail> {
         text: b"deq,0\n",
         failure: ErrorKind::Interrupted,
     };
-    expect_from(&rt, &WORDS, &mut reader, 1, "", "fqsim: row 0: Read\n")
+    expect_from(&rt, &mut reader, 1, "", "fqsim: row 0: Read\n")
 }
 
 #[test]
 fn slow_readers_are_read(rt: HostRuntime) -> Result<(), Fail> {
     let report = "idle\nclosed\ntotals,0,0,0,0,0,0,0,0,0,0,closed\n";
     let mut reader = SlowReader(b"deq,0\nclose,1\n");
-    expect_from(&rt, &WORDS, &mut reader, 0, report, "")
-}
-
-#[test]
-fn too_many_bytes_refused(rt: HostRuntime) -> Result<(), Fail> {
-    let faults = "fqsim: row 0: TooLarge\n";
-    expect_from(&rt, &WORDS, &mut EndlessReader, 2, "", faults)
+    expect_from(&rt, &mut reader, 0, report, "")
 }
 
 #[test]

@@ -1,0 +1,106 @@
+//! What a scheduler's journal tells, its totals, and its rows by five-tuple; with events stored and not.
+
+use crate::schedulers::{PORT, SEED, arrive, four_flows, one_flow, packet, scheduler, tuple};
+use packet_core::{Ecn, Packet, Params};
+use sched_core::{Cause, Event, Keeps, Mark, Sched, TupleRow, Unstored};
+use std::test::Fail;
+
+#[test]
+fn events_tell_lanes_and_moments(rt: HostRuntime) -> Result<(), Fail> {
+    let mut fields = four_flows();
+    fields.limit = 1;
+    let mut sched = scheduler(&rt, fields)?;
+    let first = packet(1, 200, Ecn::NotEct)?;
+    let second = packet(2, 100, Ecn::Ect0)?;
+    sched.enqueue(1, 7, first)?;
+    sched.enqueue(2, 8, second)?;
+    sched.dequeue(3)?;
+    let events = [
+        Event::Accepted {
+            id: 0,
+            moment: 1,
+            lane: 7,
+            flow: 1,
+            packet: first,
+        },
+        Event::Accepted {
+            id: 1,
+            moment: 2,
+            lane: 8,
+            flow: 2,
+            packet: second,
+        },
+        Event::Dropped {
+            id: 0,
+            moment: 2,
+            cause: Cause::Overflow,
+        },
+        Event::Sent {
+            id: 1,
+            moment: 3,
+            ecn: Ecn::Ect0,
+            mark: Mark::NoMark,
+        },
+    ];
+    assert_eq!(rt; sched.events(), events.as_slice());
+    Ok(())
+}
+
+#[test]
+fn rows_in_order_of_first_acceptance(rt: HostRuntime) -> Result<(), Fail> {
+    let mut sched = scheduler(&rt, one_flow())?;
+    for sport in [5001, 5000, 5001] {
+        let packet = Packet::try_new(tuple(sport, PORT), 1_000, Ecn::NotEct)?;
+        sched.enqueue(0, 0, packet)?;
+    }
+    sched.dequeue(1)?;
+    let first = TupleRow {
+        tuple: tuple(5001, PORT),
+        flow: 0,
+        accepted: 2,
+        sent: 1,
+        dropped: 0,
+        queued: 1,
+    };
+    let second = TupleRow {
+        tuple: tuple(5000, PORT),
+        flow: 0,
+        accepted: 1,
+        sent: 0,
+        dropped: 0,
+        queued: 1,
+    };
+    assert_eq!(rt; sched.tuple_rows()?.as_slice(), [first, second].as_slice());
+    Ok(())
+}
+
+#[test]
+fn reserve_takes_the_memory(rt: HostRuntime) -> Result<(), Fail> {
+    let mut sched = scheduler(&rt, one_flow())?;
+    assert_eq!(rt; sched.reserve(3), Ok(()));
+    arrive(&mut sched, PORT, 4, 100)?;
+    assert_eq!(rt; sched.queued(), 4);
+    Ok(())
+}
+
+/// Half a million rounds of an enqueue and a dequeue.
+fn make_rounds<K: Keeps>(sched: &mut Sched<K>, packet: Packet) -> Result<(), Fail> {
+    for moment in 0..500_000 {
+        sched.enqueue(moment, 0, packet)?;
+        sched.dequeue(moment)?;
+    }
+    Ok(())
+}
+
+#[test]
+fn totals_without_stored_events(rt: HostRuntime) -> Result<(), Fail> {
+    let packet = packet(PORT, 1_000, Ecn::NotEct)?;
+    let params = Params::try_new(one_flow())?;
+    let mut storing = scheduler(&rt, one_flow())?;
+    make_rounds(&mut storing, packet)?;
+    let mut unstored = Sched::try_with_keeper(rt.alloc(), params, SEED, Unstored::new())?;
+    make_rounds(&mut unstored, packet)?;
+    assert_eq!(rt; storing.totals().sent, 500_000);
+    assert_eq!(rt; unstored.totals(), storing.totals());
+    Ok(())
+}
