@@ -5,9 +5,9 @@ use borrow.Author.Count.{below_none, below_more}
 use Rattle.packet_core.specs.declared.packet.Waiting.{Waiting}
 use Rattle.packet_core.specs.declared.params.ParamFields.{ParamFields}
 use Rattle.codel_core.specs.Queue.{bytes_of, is_markable, IsDroppable, IsLate, IsMarkableAt}
-use Rattle.codel_core.specs.Schedule.{drop_moment, entered}
+use Rattle.codel_core.specs.Schedule.{after_drops, drop_moment, entered, stopped_after}
 use Rattle.codel_core.specs.Verdict.{Decides, FirstAbove, IsDropped, Verdict}
-use Rattle.codel_core.specs.Verdict.FirstAbove.{given_up, stays, set as set_ahead}
+use Rattle.codel_core.specs.Verdict.FirstAbove.{given_up, stays}
 use Rattle.codel_core.specs.Verdict.Stops.{leaves, waits, marks}
 use Rattle.codel_core.specs.Verdict.Verdict.{nothing, first_mark, first_drop, drops}
 use Rattle.codel_core.specs.declared.served.Mark.{Mark}
@@ -76,13 +76,13 @@ module _ (p : ParamFields) (now : ℕ) (q : List Waiting) (s : CodelState) where
   due j = at_most (drop_moment p.interval s j) now
 
   abbrev first_above : (P : Type 0) → Tells P → (old : Option ℕ) → Above P p.interval now old
-  first_above P (inr never) old = record { above = None; right = given_up never refl }
-  first_above P (inl is) (Some t) = record { above = Some t; right = stays is t refl refl }
-  first_above P (inl is) None = record { above = Some (now + p.interval); right = set_ahead is refl refl }
+  first_above P (inr never) old = record { above = None; right = given_up never }
+  first_above P (inl is) (Some t) = record { above = Some t; right = stays is }
+  first_above P (inl is) None = record { above = Some (now + p.interval); right = stays is }
 
   -- so many drops, that mark, and that state but for first_above
   abbrev judge : (k : ℕ) (mark : Mark) (codel : CodelState)
-      → ((above : Option ℕ) → Verdict p now q s k mark (record codel { first_above = above })) → Judged p now q s
+      → Verdict p now q s k mark (record codel { first_above = s.first_above }) → Judged p now q s
   judge k mark codel verdict =
       let a = first_above (IsLate p now q k) (late k) s.first_above in
       record {
@@ -90,7 +90,7 @@ module _ (p : ParamFields) (now : ℕ) (q : List Waiting) (s : CodelState) where
         mark = mark;
         codel = record codel { first_above = a.above };
         good = true;
-        right = λ _. record { verdict = verdict a.above; first_above = a.right };
+        right = λ _. record { verdict = verdict; first_above = a.right };
       }
 
   -- the first place from that one on that isn't dropped, as far as the fuel goes
@@ -113,21 +113,18 @@ module _ (p : ParamFields) (now : ℕ) (q : List Waiting) (s : CodelState) where
       → Tells (IsDroppable p now q s.first_above f.place) → Tells (drop_moment p.interval s f.place ≤ now)
       → Tells (IsMarkableAt p q f.place) → Judged p now q s
   stopped is first f (inr never) come marked =
-      judge f.place NoMark (record s { dropping = false; count = s.count + f.place; drop_next = drop_moment p.interval s (f.place - 1) })
-      (λ above. drops first is f.before (leaves never refl refl))
+      judge f.place NoMark (stopped_after p.interval s f.place) (drops first is f.before (leaves never))
   stopped is first f (inl stands) (inr early) marked =
-      judge f.place NoMark (record s { count = s.count + f.place; drop_next = drop_moment p.interval s f.place })
-      (λ above. drops first is f.before (waits stands (omega arith) refl refl))
+      judge f.place NoMark (after_drops p.interval s f.place) (drops first is f.before (waits stands (omega arith)))
   stopped is first f (inl stands) (inl come) (inl marked) =
-      judge f.place CodelMark (record s { count = s.count + f.place + 1; drop_next = drop_moment p.interval s (f.place + 1) })
-      (λ above. drops first is f.before (marks stands come marked refl refl))
+      judge f.place CodelMark (after_drops p.interval s (f.place + 1)) (drops first is f.before (marks stands come marked))
   stopped is first f (inl stands) (inl come) (inr never) =
       record { drops = 0; mark = NoMark; codel = s; good = false; right = λ e. absurd cc }
 
   abbrev judged_by : Tells (IsDroppable p now q s.first_above 0) → (b : Bool) → s.dropping ≡ b → Tells (IsMarkableAt p q 0) → Judged p now q s
-  judged_by (inr never) b is marked = judge 0 NoMark (record s { dropping = false }) (λ above. nothing never refl refl refl)
-  judged_by (inl first) false is (inl marked) = judge 0 CodelMark (entered p now s) (λ above. first_mark first is marked refl refl refl)
-  judged_by (inl first) false is (inr never) = judge 1 NoMark (entered p now s) (λ above. first_drop first is never refl refl refl)
+  judged_by (inr never) b is marked = judge 0 NoMark (record s { dropping = false }) (nothing never)
+  judged_by (inl first) false is (inl marked) = judge 0 CodelMark (entered p now s) (first_mark first is marked)
+  judged_by (inl first) false is (inr never) = judge 1 NoMark (entered p now s) (first_drop first is never)
   judged_by (inl first) true is marked =
       let f = first_stop 10 (record { place = 0; before = below_none (IsDropped p now q s) }) in
       stopped is first f (droppable f.place) (due f.place) (markable f.place)
