@@ -7,7 +7,7 @@ use Rattle.flow_core.specs.FlowLists.{Holding, queue_at, waiting_in}
 use Rattle.flow_core.specs.Winners.{CountsFew}
 use Rattle.journal_core.specs.declared.event.Cause.{Cause}
 use Rattle.journal_core.specs.declared.event.Cause.TheVariants as cause
-use Rattle.fair_core.specs.Backlogs.{DropsOverflow, Held, without_head}
+use Rattle.fair_core.specs.Backlogs.{DropsOverflow, Held, with_heads_gone}
 use Rattle.journal_core.specs.Books.{Book}
 use Rattle.journal_core.specs.JournalDrops.{drops_more, with_drops}
 use Rattle.fair_core.specs.Overflow.{batch_of, batch_size}
@@ -15,7 +15,7 @@ use Rattle.fair_core.specs.Overflow.Overflow.{exceeds}
 use Rattle.fair_core.proofs.ComparisonLemmas.{counts_on}
 
 -- n packets left, and then one more
-pub head_leaves : (old : Holding) (flow n mid new : ℕ) → flow < length old.lists.queues → without_head (without_head old flow n mid) flow 1 new ≡ without_head old flow (n + 1) new
+pub head_leaves : (old : Holding) (flow n mid new : ℕ) → flow < length old.lists.queues → with_heads_gone (with_heads_gone old flow n mid) flow 1 new ≡ with_heads_gone old flow (n + 1) new
 head_leaves old flow n mid new within =
     let q = queue_at old.lists flow in
     rw (get_or-set_same old.lists.queues flow (drop n q) [] within, set-set old.lists.queues flow (drop n q) (drop 1 (drop n q)), drop-drop 1 n q) refl
@@ -44,7 +44,7 @@ pub none_recorded : (book now : Book) (moment : ℕ) (why : Cause) (q : List Wai
 none_recorded book now moment why q n before none = before ∙ ap (with_drops book moment why) (sym (take_no_more q n none))
 
 -- the comparisons of n packets that left, and of the next one, if there is one
-module _ (old : Holding) (flow n : ℕ) (mid new : Holding) (mid_is : mid ≡ without_head old flow n mid.comparisons) where
+module _ (old : Holding) (flow n : ℕ) (mid new : Holding) (mid_is : mid ≡ with_heads_gone old flow n mid.comparisons) where
   flows_stay : length mid.lists.queues ≡ length old.lists.queues
   flows_stay = ap (λ (h : Holding). length h.lists.queues) mid_is ∙ length-set old.lists.queues flow (drop n (queue_at old.lists flow))
 
@@ -62,7 +62,7 @@ module _ (old : Holding) (flow n : ℕ) (mid new : Holding) (mid_is : mid ≡ wi
 
 -- Where too many packets wait, the fattest flow's batch overflows.
 pub drops_exceeding : (limit moment : ℕ) (old : Held) (book book' : Book) (flow batch : ℕ) (flows' : Holding) → limit < waiting_in old.queues.lists → IsFattest old.queues.lists.queues flow → batch ≡ batch_size (length (queue_at old.queues.lists flow))
-    → flows' ≡ without_head (record { lists = old.queues.lists; room = old.room; comparisons = old.comparisons }) flow batch flows'.comparisons
+    → flows' ≡ with_heads_gone (record { lists = old.queues.lists; room = old.room; comparisons = old.comparisons }) flow batch flows'.comparisons
     → CountsFew (length old.queues.lists.queues) (length (take batch (queue_at old.queues.lists flow))) old.comparisons flows'.comparisons → book' ≡ with_drops book moment cause.Overflow (take batch (queue_at old.queues.lists flow))
     → DropsOverflow limit moment old book (record { queues = record { lists = flows'.lists; accounts = old.queues.accounts }; arrived = old.arrived; room = flows'.room; comparisons = flows'.comparisons }) book'
 drops_exceeding limit moment old book book' flow batch flows' many fattest size flows few journal =

@@ -3,7 +3,7 @@ use Rattle.std.proofs.lemmas.List.{get_or-set_same}
 use Rattle.flow_core.specs.FlowLists.{Holding, queue_at}
 use Rattle.flow_core.specs.Winners.{CountsFew}
 use Rattle.packet_core.specs.declared.packet.Waiting.{Waiting}
-use Rattle.fair_core.specs.Backlogs.{without_head}
+use Rattle.fair_core.specs.Backlogs.{with_heads_gone}
 use Rattle.journal_core.specs.declared.event.Cause.TheVariants as cause
 use Rattle.fair_core.proofs.DroppedPackets.{head_leaves, none_counted, none_recorded, one_counted, one_recorded}
 use Rattle.fair_core.proofs.backlog.drop_batch.Goals.{in-Some, in_default}
@@ -13,7 +13,7 @@ pub loop-preserved : goal.loop-preserved
 loop-preserved g c =
     let q = queue_at c.args.flows.now.lists c.args.flow in
     let after = c.pop.new.self.comparisons in
-    let flows : c.pop.new.self ≡ without_head c.args.flows.now c.args.flow (c.loop.counter + 1) after = c.pop.ensures.rest ∙ ap (λ f. without_head f c.args.flow 1 after) c.loop.invariant.0 ∙ head_leaves c.args.flows.now c.args.flow c.loop.counter c.loop.flows.comparisons after c.requires.flow in
+    let flows : c.pop.new.self ≡ with_heads_gone c.args.flows.now c.args.flow (c.loop.counter + 1) after = c.pop.ensures.rest ∙ ap (λ f. with_heads_gone f c.args.flow 1 after) c.loop.invariant.0 ∙ head_leaves c.args.flows.now c.args.flow c.loop.counter c.loop.flows.comparisons after c.requires.flow in
     let head : c.pop.result ≡ slice_get (drop c.loop.counter q) 0 = c.pop.ensures.head ∙ ap (λ (f : Holding). slice_get (queue_at f.lists c.args.flow) 0) c.loop.invariant.0 ∙ ap (λ (l : List Waiting). slice_get l 0) (get_or-set_same c.args.flows.now.lists.queues c.args.flow (drop c.loop.counter q) [] c.requires.flow) in
     let few : CountsFew (length c.args.flows.now.lists.queues) (length (take (c.loop.counter + 1) q)) c.args.flows.now.comparisons after =
     elim c.match-pop.branch [
