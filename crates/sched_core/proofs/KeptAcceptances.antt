@@ -36,7 +36,7 @@ use Rattle.sched_core.proofs.StepComparisons.{few_compared}
 use Rattle.journal_core.proofs.CountLemmas.{count_drops-accepted, counts_accept, counts_drops}
 use Rattle.fair_core.proofs.FairFifo.{arrives, fair_is_fifo}
 use Rattle.fair_core.proofs.FqCodelPolicy.{policy_drops}
-use Rattle.sched_core.proofs.FqCodelRuns.{arrival_as_many}
+use Rattle.fair_core.proofs.SoundFlows.{arrival_as_many}
 use Rattle.journal_core.proofs.HistoryEvents.{history_accepts}
 use Rattle.journal_core.proofs.HistoryRuns.{keeps_makes}
 use Rattle.sched_core.proofs.KeptScheduler.{state_of}

@@ -17,7 +17,7 @@ use Rattle.journal_core.specs.declared.event.Event.{Event}
 use Rattle.journal_core.specs.declared.event.Event.TheVariants.{Sent, Closed}
 use Rattle.journal_core.specs.declared.outcome.Answer.TheVariants as answer
 use Rattle.journal_core.specs.declared.step.Step.TheVariants.{Dequeue, Close}
-use Rattle.fair_core.specs.Backlogs.{Held, ServesChain, leaving, shown_service}
+use Rattle.fair_core.specs.Backlogs.{Held, MakesChain, leaving, shown_service}
 use Rattle.journal_core.specs.Books.{Book, count_drops, count_sent, with_event}
 use Rattle.journal_core.specs.Disciplines.{given_packet, heads}
 use Rattle.fair_core.specs.FairQueueing.{dropped_in, given_in}
@@ -32,14 +32,16 @@ use Rattle.sched_core.specs.Schedulers.{ComparesFew, IsServed}
 use Rattle.journal_core.specs.State.{State, refusal_of}
 use Rattle.journal_core.specs.Statistics.{length_named}
 use Rattle.journal_core.specs.Steps.{Serves, dequeue_answer, drop_event, sent_events}
-use Rattle.fair_core.specs.Turns.{Chain, Service, Turn}
-use Rattle.fair_core.specs.Turns.Turn.{used_up, emptied_new, emptied_old, serving}
-use Rattle.fair_core.proofs.FairFifo.{fair_is_fifo, queues_stay, split_at, within_from_packet}
+use Rattle.fair_core.specs.Turns.{Chain, Sends, Service, TurnMade, service_in}
+use Rattle.fair_core.specs.declared.backlog.Head.{Head}
+use Rattle.fair_core.proofs.FairFifo.{fair_is_fifo, split_at, within_from_packet}
+use Rattle.fair_core.proofs.SoundFlows.{chain_as_many}
+use Rattle.fair_core.proofs.TurnLemmas.{chain_sends}
 use Rattle.fair_core.proofs.ServingChains.{chain_bound}
 use Rattle.sched_core.proofs.StepComparisons.{few_compared}
 use Rattle.journal_core.proofs.CountLemmas.{count_drops-accepted, counts_close, counts_drops, counts_send}
 use Rattle.fair_core.proofs.FqCodelPolicy.{policy_drops}
-use Rattle.sched_core.proofs.FqCodelRuns.{chain_as_many, flow_below}
+use Rattle.sched_core.proofs.FqCodelRuns.{flow_below}
 use Rattle.journal_core.proofs.KnownPackets.{waiting_known}
 use Rattle.journal_core.proofs.ListLemmas.{ByRecursion-all, ByRecursion-filter, ByRecursion-parts, ByRecursion-weaker, length_as_sum, sum_by_agree_on}
 use Rattle.journal_core.proofs.HistoryRuns.{keeps_makes}
@@ -59,41 +61,32 @@ with_sent book moment (Some s) = with_event book (Sent s.waiting.id moment s.wai
 
 -- how many packets leave
 module _ (p : ParamFields) where
-  gone_of : Option Service → List Waiting
-  gone_of service = dropped_in service ++ given_packet (given_in service)
-
-  turn_waiting : (now : ℕ) (old : FairQueues) (s : Service) (new : FairQueues) → Turn (fq_codel_policy p) now old (Some s) new → waiting_in new.lists + (length s.dropped + 1) ≡ waiting_in old.lists
-  turn_waiting now old s new (used_up head at credits none e) = absurd cc
-  turn_waiting now old s new (emptied_new head at from credits empty mark codel verdict none e) = absurd cc
-  turn_waiting now old s new (emptied_old head at from credits empty mark codel verdict none e) = absurd cc
-  turn_waiting now old s new (serving head at credits drops mark codel verdict w found some e) =
-      let q = queue_at old.lists head.flow in
-      let same : s ≡ record { dropped = take drops q; given = record { waiting = w; mark = mark } } = cc in
-      let gone : s.dropped ≡ take drops q = ap (λ (s : Service). s.dropped) same in
-      let within = within_from_packet old.lists.queues head.flow drops w found in
-      let sum = sum_by-set length old.lists.queues head.flow (drop (drops + 1) q) [] within in
-      let parts : length q ≡ length (take drops q ++ w ∷ []) + length (drop (drops + 1) q) = ap length (split_at q drops w found) ∙ length-append (take drops q ++ w ∷ []) (drop (drops + 1) q) in
-      let head_len = length_push (take drops q) w in
-      let new_is : waiting_in new.lists ≡ sum_by length (set old.lists.queues head.flow (drop (drops + 1) q)) = ap (λ (s : FairQueues). waiting_in s.lists) e in
-      let gone_len = ap length gone in
+  sends_waiting : (now : ℕ) (last new : FairQueues) (head : Head) (s : Service) → Sends (fq_codel_policy p) now last head s new → waiting_in new.lists + (length s.dropped + 1) ≡ waiting_in last.lists
+  sends_waiting now last new head s d =
+      let q = queue_of last head.flow in
+      let within = within_from_packet last.lists.queues head.flow d.drops s.given.waiting d.stands in
+      let sum = sum_by-set length last.lists.queues head.flow (drop (d.drops + 1) q) [] within in
+      let parts : length q ≡ length (take d.drops q ++ s.given.waiting ∷ []) + length (drop (d.drops + 1) q) = ap length (split_at q d.drops s.given.waiting d.stands) ∙ length-append (take d.drops q ++ s.given.waiting ∷ []) (drop (d.drops + 1) q) in
+      let head_len = length_push (take d.drops q) s.given.waiting in
+      let new_is : waiting_in new.lists ≡ sum_by length (set last.lists.queues head.flow (drop (d.drops + 1) q)) = ap (λ (s : FairQueues). waiting_in s.lists) d.leaves in
+      let gone_len = ap length d.dropped in
       omega arith
 
-  pub chain_waiting : (turns now : ℕ) (old : FairQueues) (service : Option Service) (new : FairQueues) → Chain (fq_codel_policy p) now old turns service new
-      → waiting_in new.lists + (length (dropped_in service) + length (given_packet (given_in service))) ≡ waiting_in old.lists
-  chain_waiting zero now old service new c = rw (c.1, c.2) (omega arith)
-  chain_waiting (suc more) now old service new (inl c) = rw c.2 (turn_waiting now old c.1 new c.3)
-  chain_waiting (suc more) now old service new (inr c) =
-      let rest = chain_waiting more now c.0 service new c.2 in
-      let same = ap (sum_by length) (queues_stay (fq_codel_policy p) (policy_drops p) now old c.0 c.1) in
-      omega arith
+  pub chain_waiting : (now : ℕ) (turns : List TurnMade) (old new : FairQueues) → Chain (fq_codel_policy p) now old turns new
+      → waiting_in new.lists + (length (dropped_in (service_in turns)) + length (given_packet (given_in (service_in turns)))) ≡ waiting_in old.lists
+  chain_waiting now turns old new c =
+      elim (chain_sends (fq_codel_policy p) now turns old new c) [
+        | inl e ↦ let same = ap (sum_by length) e.1 in rw e.0 (omega arith)
+        | inr e ↦ let same = ap (sum_by length) e.4 in let sent = sends_waiting now e.0 new e.1 e.2 e.5 in rw e.3 (omega arith)
+      ]
 
 module _ (p : ParamFields) (seed : Seed) where
   -- what the code does in a dequeue is one of the definition
-  abbrev pub serves_of : (held held' : Held) (book book' : Book) (last moment turns : ℕ) (closed : Bool) (answer : Option Served) (s : ServesChain p moment held book turns answer held' book') → held'.arrived ≡ held.arrived
-      → Serves (fq_codel p seed) (state_of held last closed) moment (given_in s.service) (map (drop_event moment cause.Codel) (dropped_in s.service) ++ sent_events moment (given_in s.service)) (state_of held' moment closed)
+  abbrev pub serves_of : (held held' : Held) (book book' : Book) (last moment turns : ℕ) (closed : Bool) (answer : Option Served) (s : MakesChain p moment held book turns answer held' book') → held'.arrived ≡ held.arrived
+      → Serves (fq_codel p seed) (state_of held last closed) moment (given_in (service_in s.turns)) (map (drop_event moment cause.Codel) (dropped_in (service_in s.turns)) ++ sent_events moment (given_in (service_in s.turns))) (state_of held' moment closed)
   serves_of held held' book book' last moment turns closed answer s arrived = record {
-    dropped = dropped_in s.service;
-    queues = record { turns = turns; service = s.service; chain = s.chain; dropped_by = refl; given_by = refl };
+    dropped = dropped_in (service_in s.turns);
+    queues = record { turns = s.turns; chain = s.chain; dropped_by = refl; given_by = refl };
     told = refl;
     next_id = arrived;
     last = refl;
@@ -106,12 +99,12 @@ module _ (p : ParamFields) (seed : Seed) where
   events_of_serve book moment (Some s) = append_assoc book.events (map (drop_event moment cause.Codel) s.dropped) (sent_events moment (Some s.given))
 
   -- the history behind a dequeue
-  history_of_serve : (held held' : Held) (book book' : Book) (last moment turns room : ℕ) (closed : Bool) (answer : Option Served) (s : ServesChain p moment held book turns answer held' book') → held'.arrived ≡ held.arrived → refusal_of (state_of held last closed) (Dequeue moment) ≡ None
+  history_of_serve : (held held' : Held) (book book' : Book) (last moment turns room : ℕ) (closed : Bool) (answer : Option Served) (s : MakesChain p moment held book turns answer held' book') → held'.arrived ≡ held.arrived → refusal_of (state_of held last closed) (Dequeue moment) ≡ None
       → IsBookKept p seed held book last closed room
-      → IsHistory (fq_codel p seed).flow_of (queue_of held'.queues) (book.events ++ (map (drop_event moment cause.Codel) (dropped_in s.service) ++ sent_events moment (given_in s.service))) held'.arrived moment closed
+      → IsHistory (fq_codel p seed).flow_of (queue_of held'.queues) (book.events ++ (map (drop_event moment cause.Codel) (dropped_in (service_in s.turns)) ++ sent_events moment (given_in (service_in s.turns)))) held'.arrived moment closed
   history_of_serve held held' book book' last moment turns room closed answer s arrived fits h =
       keeps_makes (fq_codel p seed) queue_of (fair_is_fifo (fq_codel_policy p) (policy_drops p) p.flows (fq_codel p seed).flow_of) (state_of held last closed) (state_of held' moment closed) (Dequeue moment)
-      (dequeue_answer (given_in s.service)) (map (drop_event moment cause.Codel) (dropped_in s.service) ++ sent_events moment (given_in s.service)) book.events fits (given_in s.service, refl, serves_of held held' book book' last moment turns closed answer s arrived) h.history
+      (dequeue_answer (given_in (service_in s.turns))) (map (drop_event moment cause.Codel) (dropped_in (service_in s.turns)) ++ sent_events moment (given_in (service_in s.turns))) book.events fits (given_in (service_in s.turns), refl, serves_of held held' book book' last moment turns closed answer s arrived) h.history
 
   -- the counts behind a dequeue
   head_of_flow : (flow : ℕ) (gone : List Waiting) (old new : List Waiting) → old ≡ heads flow gone flow ++ new → old ≡ gone ++ new
@@ -143,32 +136,32 @@ module _ (p : ParamFields) (seed : Seed) where
       omega arith
 
   -- a dequeue
-  pub kept_serves : (held held' : Held) (book book' : Book) (last moment turns room : ℕ) (closed : Bool) (answer : Option Served) → ServesChain p moment held book turns answer held' book' → held'.arrived ≡ held.arrived → held'.room ≡ held.room → refusal_of (state_of held last closed) (Dequeue moment) ≡ None
+  pub kept_serves : (held held' : Held) (book book' : Book) (last moment turns room : ℕ) (closed : Bool) (answer : Option Served) → MakesChain p moment held book turns answer held' book' → held'.arrived ≡ held.arrived → held'.room ≡ held.room → refusal_of (state_of held last closed) (Dequeue moment) ≡ None
       → IsBookKept p seed held book last closed room → IsBookKept p seed held' (with_sent book' moment answer) moment closed room
   kept_serves held held' book book' last moment turns room closed answer s arrived same_room fits h =
       let fifo = fair_is_fifo (fq_codel_policy p) (policy_drops p) p.flows (fq_codel p seed).flow_of in
-      let leaves = (fifo.serves held.queues moment (dropped_in s.service) (given_in s.service) held'.queues (serves_of held held' book book' last moment turns closed answer s arrived).queues).0 in
-      let gone = dropped_in s.service ++ given_packet (given_in s.service) in
+      let leaves = (fifo.serves held.queues moment (dropped_in (service_in s.turns)) (given_in (service_in s.turns)) held'.queues (serves_of held held' book book' last moment turns closed answer s arrived).queues).0 in
+      let gone = dropped_in (service_in s.turns) ++ given_packet (given_in (service_in s.turns)) in
       let of_flow = head_of_flow leaves.0 gone (queue_of held.queues leaves.0) (queue_of held'.queues leaves.0) (leaves.1 leaves.0) in
       let known = (ByRecursion-parts (λ (w : Waiting). length_named (acceptances book.events) w.id ≡ w.packet.len) gone (queue_of held'.queues leaves.0)
       (subst (λ l. AllByRecursion (λ (w : Waiting). length_named (acceptances book.events) w.id ≡ w.packet.len) l) of_flow (waiting_known (fq_codel p seed).flow_of (queue_of held.queues) book.events held.arrived last closed h.history leaves.0))).0 in
-      let events = events_of_serve book moment s.service in
+      let events = events_of_serve book moment (service_in s.turns) in
       let history = history_of_serve held held' book book' last moment turns room closed answer s arrived fits h in
-      let counts = counts_of_serve book moment s.service known h.counts in
-      let sent = ap (with_sent book' moment) s.given ∙ ap (λ b. with_sent b moment (option_map shown_service s.service)) s.journal in
-      let waits = chain_waiting p turns moment held.queues s.service held'.queues s.chain in
+      let counts = counts_of_serve book moment (service_in s.turns) known h.counts in
+      let sent = ap (with_sent book' moment) s.answers.given ∙ ap (λ b. with_sent b moment (option_map shown_service (service_in s.turns))) s.answers.journal in
+      let waits = chain_waiting p moment s.turns held.queues held'.queues s.chain in
       let next = dequeue_next (state_of held last closed) moment fits in
-      let few_events = length_of_serve book moment s.service in
-      let room_left = room_of_serve book moment s.service in
+      let few_events = length_of_serve book moment (service_in s.turns) in
+      let room_left = room_of_serve book moment (service_in s.turns) in
       let space = h.space in
       let long = h.long in
       rw sent (record {
         some = h.some;
-        flows = flows_stay turns moment held.queues s.service held'.queues s.chain ∙ h.flows;
+        flows = chain_as_many (fq_codel_policy p) moment s.turns held.queues held'.queues s.chain ∙ h.flows;
         space = omega arith;
         reserved = rw same_room h.reserved;
         long = rw arrived (omega arith);
-        accepted = accepted_of_serve book moment s.service ∙ h.accepted ∙ sym arrived;
+        accepted = accepted_of_serve book moment (service_in s.turns) ∙ h.accepted ∙ sym arrived;
         few = rw arrived h.few;
         soon = next.soon;
         history = rw events history;
@@ -183,29 +176,24 @@ module _ (p : ParamFields) (seed : Seed) where
       room_of_serve book moment None = omega arith
       room_of_serve book moment (Some s) = omega arith
 
-      flows_stay : (turns now : ℕ) (old : FairQueues) (service : Option Service) (new : FairQueues) → Chain (fq_codel_policy p) now old turns service new → length new.lists.queues ≡ length old.lists.queues
-      flows_stay turns now old service new c = chain_as_many (fq_codel_policy p) (policy_drops p) turns now old service new c
-
   -- what is answered to a dequeue
-  pub is_served : (held held' : Held) (book book' : Book) (last moment turns0 turns before after room : ℕ) (closed : Bool) (answer : Option Served) (s : ServesChain p moment held book turns answer held' book') → held'.arrived ≡ held.arrived → AreSound held.queues → 0 < p.quantum → refusal_of (state_of held last closed) (Dequeue moment) ≡ None
-      → IsServed (record { params = p; seed = seed; standing = record { state = state_of held last closed; events = book.events }; turns = turns0; comparisons = before; room = room }) moment (option_map (λ (s : Service). sent_at moment s.given) s.service)
+  pub is_served : (held held' : Held) (book book' : Book) (last moment turns0 turns before after room : ℕ) (closed : Bool) (answer : Option Served) (s : MakesChain p moment held book turns answer held' book') → held'.arrived ≡ held.arrived → AreSound held.queues → 0 < p.quantum → refusal_of (state_of held last closed) (Dequeue moment) ≡ None
+      → IsServed (record { params = p; seed = seed; standing = record { state = state_of held last closed; events = book.events }; turns = turns0; comparisons = before; room = room }) moment (option_map (λ (s : Service). sent_at moment s.given) (service_in s.turns))
       (record { params = p; seed = seed; standing = record { state = state_of held' moment closed; events = (with_sent book' moment answer).events }; turns = turns; comparisons = after; room = room })
   is_served held held' book book' last moment turns0 turns before after room closed answer s arrived sound some fits =
-      let sent = ap (with_sent book' moment) s.given ∙ ap (λ b. with_sent b moment (option_map shown_service s.service)) s.journal in
+      let sent = ap (with_sent book' moment) s.answers.given ∙ ap (λ b. with_sent b moment (option_map shown_service (service_in s.turns))) s.answers.journal in
       record {
         gives = record {
           fits = fits;
-          given = given_in s.service;
-          made = map (drop_event moment cause.Codel) (dropped_in s.service) ++ sent_events moment (given_in s.service);
+          given = given_in (service_in s.turns);
+          made = map (drop_event moment cause.Codel) (dropped_in (service_in s.turns)) ++ sent_events moment (given_in (service_in s.turns));
           serves = serves_of held held' book book' last moment turns closed answer s arrived;
-          journal = ap (λ (b : Book). b.events) sent ∙ events_of_serve book moment s.service;
-          told = told s.service;
+          journal = ap (λ (b : Book). b.events) sent ∙ events_of_serve book moment (service_in s.turns);
+          told = told (service_in s.turns);
         };
-        service = s.service;
-        chain = s.chain;
-        told = refl;
-        bound = chain_bound (fq_codel_policy p) some turns moment held.queues s.service held'.queues sound s.chain;
-        new_first = λ flow first. new_flows_first (fq_codel_policy p) some moment turns held.queues s.service held'.queues flow sound first s.chain;
+        turns = s.count_is;
+        bound = rw s.count_is (chain_bound (fq_codel_policy p) some moment s.turns held.queues held'.queues sound s.chain);
+        new_first = λ flow first. new_flows_first (fq_codel_policy p) some moment s.turns held.queues held'.queues flow sound first s.chain;
         params = refl;
         seed = refl;
         room = refl;
@@ -216,12 +204,12 @@ module _ (p : ParamFields) (seed : Seed) where
       told (Some s) = refl
 
   -- the comparisons of a dequeue
-  pub few_served : (held held' : Held) (book book' : Book) (last moment turns0 turns before room : ℕ) (closed : Bool) (answer : Option Served) → ServesChain p moment held book turns answer held' book' → length held.queues.lists.queues ≡ p.flows → held.comparisons ≡ 0
+  pub few_served : (held held' : Held) (book book' : Book) (last moment turns0 turns before room : ℕ) (closed : Bool) (answer : Option Served) → MakesChain p moment held book turns answer held' book' → length held.queues.lists.queues ≡ p.flows → held.comparisons ≡ 0
       → ComparesFew (record { params = p; seed = seed; standing = record { state = state_of held last closed; events = book.events }; turns = turns0; comparisons = before; room = room })
       (record { params = p; seed = seed; standing = record { state = state_of held' moment closed; events = (with_sent book' moment answer).events }; turns = turns; comparisons = held'.comparisons; room = room })
   few_served held held' book book' last moment turns0 turns before room closed answer s flows zero_before =
-      let sent = ap (with_sent book' moment) s.given ∙ ap (λ b. with_sent b moment (option_map shown_service s.service)) s.journal in
-      few_compared _ _ (leaving s.service) (ap (λ (b : Book). length b.events) sent ∙ length_of_serve book moment s.service) (rw (flows, zero_before) at s.few_comparisons)
+      let sent = ap (with_sent book' moment) s.answers.given ∙ ap (λ b. with_sent b moment (option_map shown_service (service_in s.turns))) s.answers.journal in
+      few_compared _ _ (leaving (service_in s.turns)) (ap (λ (b : Book). length b.events) sent ∙ length_of_serve book moment (service_in s.turns)) (rw (flows, zero_before) at s.answers.few_comparisons)
 
   -- an answer that is there, and one that is not
   pub told_none : (moment : ℕ) (service : Option Service) → None ≡ option_map shown_service service → None ≡ option_map (λ (s : Service). sent_at moment s.given) service
@@ -234,15 +222,15 @@ module _ (p : ParamFields) (seed : Seed) where
   told_some moment (Some s) served e = let same : served ≡ shown_service s = cc in ap (λ (v : Served). Some (record { id = v.waiting.id; moment = moment; packet = v.waiting.packet; mark = v.mark })) same
 
   -- a packet that is given has room for its fate
-  pub room_for_sent : (held held' : Held) (book book' : Book) (last moment turns room : ℕ) (closed : Bool) (served : Served) → ServesChain p moment held book turns (Some served) held' book' → IsBookKept p seed held book last closed room → 0 < book'.room
-  room_for_sent held held' book book' last moment turns room closed served s h = go s.service refl
+  pub room_for_sent : (held held' : Held) (book book' : Book) (last moment turns room : ℕ) (closed : Bool) (served : Served) → MakesChain p moment held book turns (Some served) held' book' → IsBookKept p seed held book last closed room → 0 < book'.room
+  room_for_sent held held' book book' last moment turns room closed served s h = go (service_in s.turns) refl
     where
-      go : (service : Option Service) → s.service ≡ service → 0 < book'.room
-      go None is = absurd (let e : Some served ≡ None = s.given ∙ ap (option_map shown_service) is in cc)
+      go : (service : Option Service) → (service_in s.turns) ≡ service → 0 < book'.room
+      go None is = absurd (let e : Some served ≡ None = s.answers.given ∙ ap (option_map shown_service) is in cc)
       go (Some given) is =
-          let waits = chain_waiting p turns moment held.queues s.service held'.queues s.chain in
-          let left : book'.room ≡ book.room - length (dropped_in s.service) = ap (λ (b : Book). b.room) s.journal in
-          let one : length (given_packet (given_in s.service)) ≡ 1 = ap (λ (o : Option Service). length (given_packet (given_in o))) is in
+          let waits = chain_waiting p moment s.turns held.queues held'.queues s.chain in
+          let left : book'.room ≡ book.room - length (dropped_in (service_in s.turns)) = ap (λ (b : Book). b.room) s.answers.journal in
+          let one : length (given_packet (given_in (service_in s.turns))) ≡ 1 = ap (λ (o : Option Service). length (given_packet (given_in o))) is in
           let space = h.space in
           omega arith
 

@@ -1,5 +1,5 @@
 -- Of which step of a run a scheduler tells its turns and its comparisons.
-use Rattle.std.specs.Prelude.{◌≡◌, ℕ, ◌+◌, ◌-◌, ◌*◌, ◌≤◌, Bool, true, false, not, List, All, drop, take, slice_get, Option, Some, None}
+use Rattle.std.specs.Prelude.{◌≡◌, ℕ, ◌+◌, ◌-◌, ◌*◌, ◌≤◌, Bool, true, false, not, List, All, drop, length, take, slice_get, Some, None}
 use Rattle.packet_core.specs.declared.flow.Seed.{Seed}
 use Rattle.packet_core.specs.declared.params.ParamFields.{ParamFields}
 use Rattle.flow_core.specs.Winners.{IsLevels}
@@ -12,7 +12,7 @@ use Rattle.fair_core.specs.FairQueues.{FairQueues, no_queues}
 use Rattle.fair_core.specs.FqCodel.{fq_codel, fq_codel_policy}
 use Rattle.journal_core.specs.Runs.{Made, Runs, is_refused}
 use Rattle.journal_core.specs.State.{State, opening_state, refusal_of}
-use Rattle.fair_core.specs.Turns.{Chain, Service}
+use Rattle.fair_core.specs.Turns.{Chain, TurnMade}
 
 -- whether the answer is that of a dequeue that wasn't refused
 abbrev pub is_dequeued : Answer → Bool
@@ -26,8 +26,10 @@ is_dequeued (answer.Refused why) = false
 abbrev pub is_made : Answer → Bool
 is_made said = not (is_refused said)
 
--- This holds of the last of these outcomes whose answer passes the test and of its place; where none passes it, the other holds.
-pub data AtLast (test : Answer → Bool) (outcomes : List Outcome) (Otherwise : Type 0) (Holds : ℕ → Outcome → Type 0) : Type 0 where
+-- This holds of the last of these outcomes whose answer passes the test and of its place; where none passes it, the
+-- other holds.
+pub data AtLast (test : Answer → Bool) (outcomes : List Outcome) (Otherwise : Type 0)
+    (Holds : ℕ → Outcome → Type 0) : Type 0 where
   none : All (λ (o : Outcome). test o.answer ≡ false) outcomes → Otherwise → AtLast test outcomes Otherwise Holds
   last : (place : ℕ) (o : Outcome) → slice_get outcomes place ≡ Some o → test o.answer ≡ true
       → All (λ (later : Outcome). test later.answer ≡ false) (drop (place + 1) outcomes)
@@ -42,16 +44,18 @@ pub record IsDequeueOf (p : ParamFields) (seed : Seed) (steps : List Step) (plac
   pub before : State FairQueues
   pub runs : Runs (fq_codel p seed) (opening_state (no_queues p.flows)) (take place steps) made before
   pub fits : refusal_of before (Dequeue moment) ≡ None
-  pub service : Option Service
+  pub turns_made : List TurnMade
   pub behind : FairQueues
-  pub chain : Chain (fq_codel_policy p) moment before.queues turns service behind
+  pub chain : Chain (fq_codel_policy p) moment before.queues turns_made behind
+  pub told : turns ≡ length turns_made
 
 -- These are the turns of the last dequeue of the run that wasn't refused, and none where there was no such dequeue.
 abbrev pub AreTurnsOfLast : ParamFields → Seed → List Step → List Outcome → ℕ → Type 0
 AreTurnsOfLast p seed steps outcomes turns =
     AtLast is_dequeued outcomes (turns ≡ 0) (λ place o. IsDequeueOf p seed steps place turns)
 
--- So many comparisons are few for the step of that outcome: for each of its events at most as many as a tree over the flows has levels.
+-- So many comparisons are few for the step of that outcome: for each of its events at most as many as a tree over the
+-- flows has levels.
 pub record AreFewFor (p : ParamFields) (o : Outcome) (comparisons : ℕ) : Type 0 where
   pub levels : ℕ
   pub over_flows : IsLevels p.flows levels
