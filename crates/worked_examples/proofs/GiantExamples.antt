@@ -1,6 +1,6 @@
 -- A worked example of many turns: a quantum of one byte and two packets of 65,535 bytes. The second packet waits for 65,535 quanta. Its turns aren't
 -- walked through one by one: a lemma on flows whose credits are used up counts them.
-use Rattle.std.proofs.Common.{◌≡◌, ℕ, zero, suc, false, List, [], ◌∷◌, Some, ℤ, pos, negsuc, ◌+ℤ◌, ◌≤ℤ◌, refl, ap, subst, inr, arith}
+use Rattle.std.proofs.Common.{◌≡◌, ℕ, zero, suc, false, List, [], ◌∷◌, Some, ℤ, pos, negsuc, ◌+ℤ◌, ◌≤ℤ◌, length, refl, sym, ap, subst, inr, arith}
 use Rattle.std.proofs.lemmas.Int.{ints}
 use Rattle.packet_core.specs.Params.{standard_fields}
 use Rattle.packet_core.specs.declared.params.Classify.TheVariants.{Dport}
@@ -17,9 +17,10 @@ use Rattle.fair_core.specs.declared.backlog.FlowList.TheVariants.{New, Old}
 use Rattle.fair_core.specs.FqCodel.{fq_codel_policy}
 use Rattle.journal_core.specs.State.{State, opening_state}
 use Rattle.fair_core.specs.TurnBound.{turns_at_most}
-use Rattle.fair_core.specs.Turns.{Chain, Service}
-use Rattle.fair_core.specs.Turns.Turn.{used_up}
-use Rattle.worked_examples.proofs.ExamplesComputed.{walk_is}
+use Rattle.fair_core.specs.FairQueueing.{dropped_in, given_in}
+use Rattle.fair_core.specs.Turns.{Chain, Service, TurnMade, service_in}
+use Rattle.fair_core.specs.Turns.TurnKind.{used_up}
+use Rattle.worked_examples.proofs.ExamplesComputed.{walk, walk_is}
 use Rattle.worked_examples.proofs.ExamplesRun.{MakesTurns, RunGives, RunLeaves, accepts, arrives, as_defined, packet_to, run_is, run_leaves, run_turns, runs_then, sends}
 
 abbrev one_byte : ParamFields
@@ -59,15 +60,19 @@ used zero = omega (arith, ints)
 used (suc n) = omega (arith, ints)
 
 abbrev policy_chain : FairQueues → ℕ → Type 0
-policy_chain s turns = Chain (fq_codel_policy one_byte) 1 s turns (Some service) emptied
+policy_chain s turns = (made : List TurnMade) × (turns ≡ length made) × (service_in made ≡ Some service) × Chain (fq_codel_policy one_byte) 1 s made emptied
 
 -- each quantum that is lacking is a turn, and one turn more serves
 old_chain : (n : ℕ) → policy_chain (waits_old (lacking n)) (suc n)
-old_chain zero = walk_is one_byte ((as_defined one_byte).spacing) 1 ((as_defined one_byte).right) 10 (waits_old (pos 1)) refl
-old_chain (suc n) = inr (waits_old (lacking n), used_up (record { flow = 0; from = Old; new_flows = []; old_flows = [] }) refl (used n) refl (ap waits_old (one_more n)), old_chain n)
+old_chain zero = ((walk one_byte ((as_defined one_byte).spacing) 1 10 (waits_old (pos 1))).turns, refl, refl, walk_is one_byte ((as_defined one_byte).spacing) 1 ((as_defined one_byte).right) 10 (waits_old (pos 1)) refl)
+old_chain (suc n) =
+    let rest = old_chain n in
+    (record { head = record { flow = 0; from = Old }; kind = used_up } ∷ rest.0, ap suc rest.1, rest.2, inr (waits_old (lacking n), refl, record { looks = refl; does = record { credits = used n; leaves = ap waits_old (one_more n) } }, rest.3))
 
 new_chain : (n : ℕ) → policy_chain (waits_new (lacking (suc n))) (suc (suc n))
-new_chain n = inr (waits_old (lacking n), used_up (record { flow = 0; from = New; new_flows = []; old_flows = [] }) refl (used n) refl (ap waits_old (one_more n)), old_chain n)
+new_chain n =
+    let rest = old_chain n in
+    (record { head = record { flow = 0; from = New }; kind = used_up } ∷ rest.0, ap suc rest.1, rest.2, inr (waits_old (lacking n), refl, record { looks = refl; does = record { credits = used n; leaves = ap waits_old (one_more n) } }, rest.3))
 
 giant_chain : (turns : ℕ) → turns ≡ 65536 → policy_chain (waits_new (negsuc 65533)) turns
 giant_chain zero e = absurd (omega arith)
@@ -82,6 +87,9 @@ giant_turns_are : giant_turns ≡ 65536
 unfolding giant_turns
 giant_turns_are = refl
 
+sent_by : policy_chain (waits_new (negsuc 65533)) giant_turns
+sent_by = giant_chain giant_turns giant_turns_are
+
 -- TWO PACKETS
 
 abbrev first_sent : List Step
@@ -94,7 +102,7 @@ giant_packets_first_turns seed = run_turns one_byte (as_defined one_byte) seed _
 giant_packets_second_turns : (seed : Seed) → RunLeaves one_byte seed first_sent (λ s. (turns : ℕ) → turns ≡ 65536 → MakesTurns one_byte 1 turns s)
 giant_packets_second_turns seed =
     run_leaves one_byte (as_defined one_byte) seed first_sent (λ s. (turns : ℕ) → turns ≡ 65536 → MakesTurns one_byte 1 turns s) refl
-    (λ turns e. (Some service, emptied, giant_chain turns e))
+    (λ turns e. (let c = giant_chain turns e in (c.0, emptied, c.3, c.1)))
 
 -- and the bound allows one turn more, since the flow is a new one
 giant_packets_bound : (seed : Seed) → RunLeaves one_byte seed first_sent (λ s. turns_at_most 1 s.queues ≡ 65537)
@@ -120,7 +128,7 @@ giant_packets_small_quantum seed =
               refl,
               record {
                 dropped = [];
-                queues = record { turns = giant_turns; service = Some service; chain = giant_chain giant_turns giant_turns_are; dropped_by = refl; given_by = refl };
+                queues = record { turns = sent_by.0; chain = sent_by.3; dropped_by = sym (ap dropped_in sent_by.2); given_by = sym (ap given_in sent_by.2) };
                 told = refl;
                 next_id = refl;
                 last = refl;
