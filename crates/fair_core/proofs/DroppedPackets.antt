@@ -1,5 +1,6 @@
 -- Packets that leave the head of a flow's queue, one after another, into the journal.
 use Rattle.std.proofs.Common.{◌≡◌, ℕ, zero, suc, ◌+◌, ◌<◌, List, [], ◌∷◌, ◌++◌, drop, take, set, length, Some, None, slice_get, refl, sym, ap, subst, ◌∙◌, arith, append-nil}
+use Rattle.std.proofs.Math.Seq.{take-add}
 use Rattle.std.proofs.lemmas.List.{drop-drop, get_or-set_same, length-set, length_push, set-set}
 use Rattle.packet_core.specs.declared.packet.Waiting.{Waiting}
 use Rattle.flow_core.specs.Fattest.{IsFattest}
@@ -20,18 +21,20 @@ head_leaves old flow n mid new within =
     let q = queue_at old.lists flow in
     rw (get_or-set_same old.lists.queues flow (drop n q) [] within, set-set old.lists.queues flow (drop n q) (drop 1 (drop n q)), drop-drop 1 n q) refl
 
--- the n packets at the head and the next one
+-- the n packets at the head and the next one, if there is one
+first_of : (q : List Waiting) (w : Waiting) → slice_get q 0 ≡ Some w → take 1 q ≡ w ∷ []
+first_of [] w found = absurd cc
+first_of (x ∷ q) w found = let e : x ≡ w = cc in ap (λ y. y ∷ []) e
+
+none_first : (q : List Waiting) → slice_get q 0 ≡ None → take 1 q ≡ []
+none_first [] none = refl
+none_first (x ∷ q) none = absurd cc
+
 take_next : (q : List Waiting) (n : ℕ) (w : Waiting) → slice_get (drop n q) 0 ≡ Some w → take (n + 1) q ≡ take n q ++ w ∷ []
-take_next [] zero w found = absurd cc
-take_next [] (suc n) w found = absurd cc
-take_next (x ∷ q) zero w found = let e : x ≡ w = cc in ap (λ y. y ∷ []) e
-take_next (x ∷ q) (suc n) w found = let e : suc n + 1 ≡ suc (n + 1) = omega arith in rw e (ap (λ l. x ∷ l) (take_next q n w found))
+take_next q n w found = rw (take-add n 1 q, first_of (drop n q) w found) refl
 
 take_no_more : (q : List Waiting) (n : ℕ) → slice_get (drop n q) 0 ≡ None → take (n + 1) q ≡ take n q
-take_no_more [] zero none = refl
-take_no_more [] (suc n) none = let e : suc n + 1 ≡ suc (n + 1) = omega arith in rw e refl
-take_no_more (x ∷ q) zero none = absurd cc
-take_no_more (x ∷ q) (suc n) none = let e : suc n + 1 ≡ suc (n + 1) = omega arith in rw e (ap (λ l. x ∷ l) (take_no_more q n none))
+take_no_more q n none = rw (take-add n 1 q, none_first (drop n q) none) (append-nil (take n q))
 
 -- the next one is recorded
 pub one_recorded : (book now next : Book) (moment : ℕ) (why : Cause) (q : List Waiting) (n : ℕ) (w : Waiting) → now ≡ with_drops book moment why (take n q) → slice_get (drop n q) 0 ≡ Some w → next ≡ with_drops now moment why (w ∷ [])

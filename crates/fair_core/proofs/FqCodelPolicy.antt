@@ -56,15 +56,12 @@ overflow_keeps limit queues batches queues' (fits few none e) = ap length e
 overflow_keeps limit queues batches queues' (exceeds many flow fattest one e) = rw e (length-set queues flow _)
 
 -- Only a packet that may be marked is marked.
+not_markable : (ecn : EcnUse) → IsTrue (is_markable ecn fields.NotEct) → ⊥
+not_markable ecn.Drop may = false≢true may
+not_markable ecn.Mark may = false≢true may
+
 markable : (ecn : EcnUse) (field : Ecn) → IsTrue (is_markable ecn field) → field ≢ fields.NotEct
-markable ecn.Drop fields.NotEct may e = absurd (false≢true may)
-markable ecn.Drop fields.Ect1 may e = cc
-markable ecn.Drop fields.Ect0 may e = cc
-markable ecn.Drop fields.Ce may e = cc
-markable ecn.Mark fields.NotEct may e = absurd (false≢true may)
-markable ecn.Mark fields.Ect1 may e = cc
-markable ecn.Mark fields.Ect0 may e = cc
-markable ecn.Mark fields.Ce may e = cc
+markable ecn field may e = not_markable ecn (rw e at may)
 
 module _ (p : ParamFields) where
   marks_only : (now : ℕ) (queue : List Waiting) (codel : CodelState) (drops : ℕ) (mark : Mark) (codel' : CodelState) → Decides p now queue codel drops mark codel' → mark ≡ CodelMark → IsMarkableAt p queue drops

@@ -67,10 +67,19 @@ module _ (s : FairQueues) (head : Head) (account : Account) (sound : AreSound s)
 
 -- THE BOUND
 
--- how many turns a flow may take beside those for quanta
+-- how many turns a flow at the head may take beside those for quanta
 abbrev extra : FlowList → ℕ
 extra New = 2
 extra Old = 1
+
+-- how many turns it may take once it left the head of that list without a packet, and quanta are owed to it
+abbrev left_for : FlowList → ℕ → ℕ
+left_for New owed = owed + 1
+left_for Old owed = 0
+
+less_left : (from : FlowList) (owed : ℕ) → left_for from owed + 1 ≤ owed + extra from
+less_left New owed = omega arith
+less_left Old owed = omega arith
 
 some_extra : (from : FlowList) → 1 ≤ extra from
 some_extra New = omega arith
@@ -103,22 +112,25 @@ module _ (quantum : ℕ) where
       (λ queues flow rest old. let first = sum_by-cons (λ f. owed accounts f + 2) flow rest in omega arith)
       (λ queues flow rest. let first = sum_by-cons (λ f. owed accounts f + 1) flow rest in omega arith)
 
+  -- and behind one, once the flow left the head as an emptied flow of that list does
   module _ (s : FairQueues) (head : Head) (account : Account) (sound : AreSound s) (at : IsHead s.lists head) where
-    -- the other flows' turns stay
-    behind_same : turns_behind (set s.accounts head.flow account) s.lists head ≡ turns_behind s.accounts s.lists head
-    behind_same =
-        let apart = ByRecursion-parts (λ other. other ≢ head.flow) (unlisted s.lists head).new_flows (unlisted s.lists head).old_flows (recursion_from_All (λ other. other ≢ head.flow) (others s.lists head) (head_fits s head sound at).apart) in
-        let new = turns_in_same 2 s.accounts head.flow account (unlisted s.lists head).new_flows (All-from_recursion (λ other. other ≢ head.flow) (unlisted s.lists head).new_flows apart.0) in
-        let old = turns_in_same 1 s.accounts head.flow account (unlisted s.lists head).old_flows (All-from_recursion (λ other. other ≢ head.flow) (unlisted s.lists head).old_flows apart.1) in
-        omega arith
-
-    bound_to_old : turns_at_most quantum (with_account s (to_old s.lists head) head.flow account) ≡ turns_behind s.accounts s.lists head + (quanta_owed quantum account.credits + 1)
-    bound_to_old =
+    bound_behind : (from : FlowList) → turns_at_most quantum (with_account s (emptied_by from s.lists head) head.flow account) ≡ turns_behind s.accounts s.lists head + left_for from (quanta_owed quantum account.credits)
+    bound_behind from =
         let fits = head_fits s head sound at in
-        let own : owed (set s.accounts head.flow account) head.flow ≡ quanta_owed quantum account.credits = ap (λ (a : Account). quanta_owed quantum a.credits) (get_or-set_same s.accounts head.flow account new_account (rw sound.accounts fits.within)) in
-        let last = sum_by_push (λ flow. owed (set s.accounts head.flow account) flow + 1) (unlisted s.lists head).old_flows head.flow in
-        let same = behind_same in
-        omega arith
+        let flows = unlisted s.lists head in
+        let apart = ByRecursion-parts (λ other. other ≢ head.flow) flows.new_flows flows.old_flows (recursion_from_All (λ other. other ≢ head.flow) (others s.lists head) fits.apart) in
+        let new = turns_in_same 2 s.accounts head.flow account flows.new_flows (All-from_recursion (λ other. other ≢ head.flow) flows.new_flows apart.0) in
+        let old = turns_in_same 1 s.accounts head.flow account flows.old_flows (All-from_recursion (λ other. other ≢ head.flow) flows.old_flows apart.1) in
+        let own = ap (λ (a : Account). quanta_owed quantum a.credits) (get_or-set_same s.accounts head.flow account new_account (rw sound.accounts fits.within)) in
+        let last = sum_by_push (λ flow. owed (set s.accounts head.flow account) flow + 1) flows.old_flows head.flow in
+        by_list from new old own last
+      where
+        by_list : (from : FlowList) → turns_in 2 (set s.accounts head.flow account) (unlisted s.lists head).new_flows ≡ turns_in 2 s.accounts (unlisted s.lists head).new_flows
+            → turns_in 1 (set s.accounts head.flow account) (unlisted s.lists head).old_flows ≡ turns_in 1 s.accounts (unlisted s.lists head).old_flows → owed (set s.accounts head.flow account) head.flow ≡ quanta_owed quantum account.credits
+            → turns_in 1 (set s.accounts head.flow account) ((unlisted s.lists head).old_flows ++ head.flow ∷ []) ≡ turns_in 1 (set s.accounts head.flow account) (unlisted s.lists head).old_flows + (owed (set s.accounts head.flow account) head.flow + 1)
+            → turns_at_most quantum (with_account s (emptied_by from s.lists head) head.flow account) ≡ turns_behind s.accounts s.lists head + left_for from (quanta_owed quantum account.credits)
+        by_list New new old own last = omega arith
+        by_list Old new old own last = omega arith
 
 -- once a flow without credits got a quantum more, it is owed one less
 raised_owed : (quantum : ℕ) (credits : ℤ) → 0 < quantum → credits ≤ℤ pos 0 → quanta_owed quantum (credits +ℤ pos quantum) + 1 ≡ quanta_owed quantum credits
@@ -139,28 +151,18 @@ module _ (p : Policy) (some_quantum : 0 < p.quantum) (now : ℕ) where
   pub turn_lowers : (s next : FairQueues) (made : TurnMade) → AreSound s → Turn p now s made next → service_by made.kind ≡ None → Lower s next
   turn_lowers s next made sound t unserved = go made.kind t.does unserved
     where
-      by_list : (account : Account) → account.credits ≡ (account_at s made.head.flow).credits → (from : FlowList) → made.head.from ≡ from → Lower s (with_account s (emptied_by from s.lists made.head) made.head.flow account)
-      by_list account same New is =
+      left : (from : FlowList) (account : Account) → next ≡ with_account s (emptied_by from s.lists made.head) made.head.flow account → left_for from (quanta_owed p.quantum account.credits) + 1 ≤ owed p.quantum s.accounts made.head.flow + extra made.head.from → Lower s next
+      left from account is less =
           let before = bound_before p.quantum s.accounts s.lists made.head t.looks in
-          let weight : extra made.head.from ≡ 2 = ap extra is in
-          let owed_same = ap (quanta_owed p.quantum) same in
-          let after = bound_to_old p.quantum s made.head account sound t.looks in
-          (sound_behind s made.head account sound t.looks New, omega arith)
-      by_list account same Old is =
-          let before = bound_before p.quantum s.accounts s.lists made.head t.looks in
-          let weight : extra made.head.from ≡ 1 = ap extra is in
-          let after = behind_same p.quantum s made.head account sound t.looks in
-          (sound_behind s made.head account sound t.looks Old, omega arith)
+          let after = bound_behind p.quantum s made.head account sound t.looks from in
+          rw is (sound_behind s made.head account sound t.looks from, omega arith)
 
       go : (kind : TurnKind) → Does p now s made.head kind next → service_by kind ≡ None → Lower s next
       go used_up d none =
-          let account = record (account_at s made.head.flow) { credits = (account_at s made.head.flow).credits +ℤ pos p.quantum } in
-          let before = bound_before p.quantum s.accounts s.lists made.head t.looks in
-          let after = bound_to_old p.quantum s made.head account sound t.looks in
           let less = raised_owed p.quantum ((account_at s made.head.flow).credits) some_quantum d.credits in
           let more = some_extra made.head.from in
-          rw d.leaves (sound_behind s made.head account sound t.looks New, omega arith)
-      go emptied d none = rw d.leaves (by_list (record (account_at s made.head.flow) { codel = d.codel }) refl made.head.from refl)
+          left New (record (account_at s made.head.flow) { credits = (account_at s made.head.flow).credits +ℤ pos p.quantum }) d.leaves (omega arith)
+      go emptied d none = left made.head.from (record (account_at s made.head.flow) { codel = d.codel }) d.leaves (less_left made.head.from (owed p.quantum s.accounts made.head.flow))
       go (serving service) d none = absurd cc
 
   -- one turn at least may be made where a flow is listed
@@ -184,25 +186,24 @@ module _ (p : Policy) (decided : IsDecided p) (now : ℕ) where
   abbrev ChainThere : FairQueues → Type 0
   ChainThere s = (turns : List TurnMade) × (new : FairQueues) × Chain p now s turns new
 
-  chain_within : (most : ℕ) (s : FairQueues) → AreSound s → turns_at_most p.quantum s ≤ most → ChainThere s
-  chain_within zero s sound few = go (head_of s) refl
+  one_more : (s : FairQueues) → AreSound s → ((next : FairQueues) → AreSound next → turns_at_most p.quantum next < turns_at_most p.quantum s → ChainThere next) → ChainThere s
+  one_more s sound shorter = go (head_of s) refl
     where
-      go : (h : Option Head) → head_of s ≡ h → ChainThere s
-      go None at = ([], s, (at, refl))
-      go (Some head) at = let left = turn_left p decided.quantum now s head at in absurd (omega arith)
-  chain_within (suc most) s sound few = go (λ next sound' few'. chain_within most next sound' few') (head_of s) refl
-    where
-      goes_on : ((next : FairQueues) → AreSound next → turns_at_most p.quantum next ≤ most → ChainThere next) → (made : TurnMade) (next : FairQueues) → Turn p now s made next → (o : Option Service) → service_by made.kind ≡ o → ChainThere s
-      goes_on shorter made next t None unserved =
+      goes_on : (made : TurnMade) (next : FairQueues) → Turn p now s made next → (o : Option Service) → service_by made.kind ≡ o → ChainThere s
+      goes_on made next t None unserved =
           let lower = turn_lowers p decided.quantum now s next made sound t unserved in
           let less = lower.1 in
           let rest = shorter next lower.0 (omega arith) in
           (made ∷ rest.0, rest.1, inr (next, unserved, t, rest.2))
-      goes_on shorter made next t (Some service) served = (made ∷ [], next, inl (service, served, refl, t))
+      goes_on made next t (Some service) served = (made ∷ [], next, inl (service, served, refl, t))
 
-      go : ((next : FairQueues) → AreSound next → turns_at_most p.quantum next ≤ most → ChainThere next) → (h : Option Head) → head_of s ≡ h → ChainThere s
-      go shorter None at = ([], s, (at, refl))
-      go shorter (Some head) at = let t = turn_there p decided now s head at in goes_on shorter t.0 t.1 t.2 (service_by t.0.kind) refl
+      go : (h : Option Head) → head_of s ≡ h → ChainThere s
+      go None at = ([], s, (at, refl))
+      go (Some head) at = let t = turn_there p decided now s head at in goes_on t.0 t.1 t.2 (service_by t.0.kind) refl
+
+  chain_within : (most : ℕ) (s : FairQueues) → AreSound s → turns_at_most p.quantum s ≤ most → ChainThere s
+  chain_within zero s sound few = one_more s sound (λ next sound' less. absurd (omega arith))
+  chain_within (suc most) s sound few = one_more s sound (λ next sound' less. chain_within most next sound' (omega arith))
 
   pub chain_there : (s : FairQueues) → AreSound s → ChainThere s
   chain_there s sound = chain_within (turns_at_most p.quantum s) s sound (omega arith)
