@@ -1,7 +1,9 @@
 -- A scheduler whose flows take turns is first in, first out by flow, whatever drops from the heads of its queues.
-use Rattle.std.proofs.Common.{◌≡◌, ℕ, zero, suc, ◌+◌, ◌<◌, List, [], ◌∷◌, ◌++◌, drop, take, eqb, get_or, set, length, replicate, Some, slice_get, IfSome, refl, sym, ap, ◌∙◌, inl, inr, arith, append-nil}
+use Rattle.std.proofs.Common.{◌≡◌, ℕ, zero, suc, ◌+◌, ◌<◌, List, [], ◌∷◌, ◌++◌, drop, take, eqb, get_or, set, length, replicate, Some, slice_get, IfSome, add-one, refl, sym, ap, ◌∙◌, inl, inr, arith, append-nil}
 use Rattle.std.proofs.lemmas.Bool.{cases_eq, cases_lt, eq-eqb, ne_eqb, cases_Bool}
-use Rattle.std.proofs.lemmas.List.{get_or-set_same, get_or-set_other, get_or-replicate, get_or_past, length-replicate}
+use Rattle.std.proofs.lemmas.List.{get_or-set_same, get_or-set_other, get_or-replicate, get_or_past, length-replicate, take-append-drop}
+use Rattle.std.proofs.Math.Seq.{take-suc}
+use Rattle.std.proofs.lemmas.Option.{get_or_from_slice_get, slice_get_within}
 use Rattle.packet_core.specs.declared.packet.FiveTuple.{FiveTuple}
 use Rattle.packet_core.specs.declared.packet.Waiting.{Waiting}
 use Rattle.journal_core.specs.Disciplines.{IsFifoByFlow, LeavesHead, MayHave, given_packet, with_arrival}
@@ -27,12 +29,6 @@ arrives queues flow w f within =
       | inr other ↦ rw (ne_eqb flow f other, get_or-set_other queues flow f (get_or queues flow [] ++ w ∷ []) [] (λ e. other (sym e))) (append-nil (get_or queues f []))
     ]
 
--- the packets before a place, the packet there and those behind it
-pub split_at : (q : List Waiting) (k : ℕ) (w : Waiting) → slice_get q k ≡ Some w → q ≡ (take k q ++ w ∷ []) ++ drop (k + 1) q
-split_at [] k w found = absurd cc
-split_at (x ∷ q) zero w found = let e : x ≡ w = cc in ap (λ y. y ∷ q) e
-split_at (x ∷ q) (suc k) w found = let e : suc k + 1 ≡ suc (k + 1) = omega arith in rw e (ap (λ l. x ∷ l) (split_at q k w found))
-
 -- a flow with a packet is a flow
 pub within_from_packet : (queues : List (List Waiting)) (flow k : ℕ) (w : Waiting) → slice_get (get_or queues flow []) k ≡ Some w → flow < length queues
 within_from_packet queues flow k w found =
@@ -41,15 +37,22 @@ within_from_packet queues flow k w found =
       | inr past ↦ let e : slice_get [] k ≡ Some w = rw (get_or_past queues flow [] past) at found in absurd cc
     ]
 
-serves_head : (queues : List (List Waiting)) (flow k : ℕ) (w : Waiting) → slice_get (get_or queues flow []) k ≡ Some w
-    → LeavesHead (λ f. get_or queues f []) flow (take k (get_or queues flow []) ++ w ∷ []) (λ f. get_or (set queues flow (drop (k + 1) (get_or queues flow []))) f [])
-serves_head queues flow k w found f =
+-- packets that leave the head of a flow's queue
+pub heads_leave : (queues : List (List Waiting)) (flow n : ℕ) → flow < length queues
+    → LeavesHead (λ f. get_or queues f []) flow (take n (get_or queues flow [])) (λ f. get_or (set queues flow (drop n (get_or queues flow []))) f [])
+heads_leave queues flow n within f =
     elim (cases_eq flow f) [
-      | inl same ↦
-          rw (eq-eqb flow f same, ← same, get_or-set_same queues flow (drop (k + 1) (get_or queues flow [])) [] (within_from_packet queues flow k w found))
-          (split_at (get_or queues flow []) k w found)
-      | inr other ↦ rw (ne_eqb flow f other, get_or-set_other queues flow f (drop (k + 1) (get_or queues flow [])) [] (λ e. other (sym e))) refl
+      | inl same ↦ rw (eq-eqb flow f same, ← same, get_or-set_same queues flow (drop n (get_or queues flow [])) [] within) (sym (take-append-drop n (get_or queues flow [])))
+      | inr other ↦ rw (ne_eqb flow f other, get_or-set_other queues flow f (drop n (get_or queues flow [])) [] (λ e. other (sym e))) refl
     ]
+
+-- those before a place and the one there
+served_leaves : (queues : List (List Waiting)) (flow k : ℕ) (w : Waiting) → slice_get (get_or queues flow []) k ≡ Some w
+    → LeavesHead (λ f. get_or queues f []) flow (take k (get_or queues flow []) ++ w ∷ []) (λ f. get_or (set queues flow (drop (k + 1) (get_or queues flow []))) f [])
+served_leaves queues flow k w found =
+    let q = get_or queues flow [] in
+    let taken : take (k + 1) q ≡ take k q ++ w ∷ [] = rw (add-one, take-suc q k w (slice_get_within q k w found), get_or_from_slice_get q k w w found) refl in
+    rw taken at (heads_leave queues flow (k + 1) (within_from_packet queues flow k w found))
 
 nothing_leaves : (old new : FairQueues) → new.lists.queues ≡ old.lists.queues → LeavesHead (queue_of old) 0 [] (queue_of new)
 nothing_leaves old new e f = elim (cases_Bool (eqb 0 f)) [ inl t ↦ rw (t, e) refl | inr t ↦ rw (t, e) refl ]
@@ -58,7 +61,7 @@ module _ (p : Policy) (laws : DropsFromHeads p) where
   sends_head : (now : ℕ) (old last new : FairQueues) (head : Head) (s : Service) → last.lists.queues ≡ old.lists.queues → Sends p now last head s new
       → ((flow : ℕ) × LeavesHead (queue_of old) flow (s.dropped ++ s.given.waiting ∷ []) (queue_of new)) × MayHave s.given.mark s.given.waiting.packet.ecn
   sends_head now old last new head s same d =
-      let leaves = serves_head last.lists.queues head.flow d.drops s.given.waiting d.stands in (
+      let leaves = served_leaves last.lists.queues head.flow d.drops s.given.waiting d.stands in (
         (head.flow, rw (d.dropped, d.leaves) (λ f. ap (λ (queues : List (List Waiting)). get_or queues f []) (sym same) ∙ leaves f)),
         laws.honest now (queue_of last head.flow) _ d.drops s.given.mark d.codel d.verdict s.given.waiting d.stands,
       )

@@ -157,6 +157,14 @@ with_credits_raised quantum old flow = record old {
       (record (account_at old.queues flow) { credits = (account_at old.queues flow).credits +ℤ pos quantum });
 }
 
+-- So many packets are dropped from the head of a flow's queue as overflow, with few comparisons for each packet, and
+-- the journal records it.
+pub record DropsHeads (flow n moment : ℕ) (old : Holding) (book : Book) (new : Holding) (book' : Book) : Type 0 where
+  pub rest : new ≡ with_heads_gone old flow n new.comparisons
+  pub few_comparisons : CountsFew (length old.lists.queues) (length (take n (queue_at old.lists flow)))
+      old.comparisons new.comparisons
+  pub journal : book' ≡ with_drops book moment cause.Overflow (take n (queue_at old.lists flow))
+
 -- What overflows is dropped, with few comparisons for each packet, and the journal records it.
 pub record DropsOverflow (limit moment : ℕ) (old : Held) (book : Book) (new : Held) (book' : Book) : Type 0 where
   pub batches : List Batch

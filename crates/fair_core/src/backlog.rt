@@ -1,14 +1,12 @@
 //! The packets that wait in flows that take turns, and what arrives, is served and overflows.
 
-ghost use Rattle.std.specs.Prelude.{◌≡◌, ℕ, ◌+◌, ◌^◌, ◌<◌, ◌≤◌, IfOk, IfSome, OnErr, OnOk, Some, length, min, pos, take, ◌<ℤ◌, ◌≤ℤ◌};
+ghost use Rattle.std.specs.Prelude.{◌≡◌, ℕ, ◌+◌, ◌^◌, ◌<◌, ◌≤◌, IfOk, IfSome, OnErr, OnOk, Some, length, min, pos, ◌<ℤ◌, ◌≤ℤ◌};
 ghost use Rattle.codel_core.specs.Schedule.{IsStateInRange};
 ghost use Rattle.flow_core.specs.FlowLists.{queue_at, waiting_in};
 ghost use Rattle.flow_core.specs.Winners.{CountsFew};
-ghost use Rattle.fair_core.specs.Backlogs.{DropsOverflow, MakesChain, MakesTurn, ServesFlow, ServesQueue, with_arrival_listed, with_credits_raised, with_heads_gone, with_lists};
-ghost use Rattle.journal_core.specs.JournalDrops.{with_drops};
+ghost use Rattle.fair_core.specs.Backlogs.{DropsHeads, DropsOverflow, MakesChain, MakesTurn, ServesFlow, ServesQueue, with_arrival_listed, with_credits_raised, with_lists};
 ghost use Rattle.fair_core.specs.Shown.{flow_shown};
 ghost use Rattle.fair_core.specs.TurnBound.{turns_at_most};
-ghost use Rattle.journal_core.specs.declared.event.Cause.TheVariants as cause;
 ghost use Rattle.fair_core.specs.FairQueues.{AreSound, account_at, emptied_lists, head_of, no_queues, to_old};
 
 use crate::account::Account;
@@ -361,11 +359,7 @@ fn drop_batch<K: Keeps>(
 )
     requires flow { flow < length flows.old.lists.queues }
     requires room { length (queue_at flows.old.lists flow) ≤ journal.old.room }
-    ensures flows { flows.new ≡ with_heads_gone flows.old flow batch flows.new.comparisons }
-    ensures few_comparisons { CountsFew (length flows.old.lists.queues)
-        (length (take batch (queue_at flows.old.lists flow))) flows.old.comparisons flows.new.comparisons }
-    ensures journal { journal.new
-        ≡ with_drops journal.old moment cause.Overflow (take batch (queue_at flows.old.lists flow)) }
+    ensures { DropsHeads flow batch moment flows.old journal.old flows.new journal.new }
 {
     for _ in 0..batch {
         if let Some(dropped) = flows.pop(flow) {
