@@ -1,6 +1,7 @@
 -- The comparisons of two flows' bytes, call by call.
-use Rattle.std.proofs.Common.{◌≡◌, ℕ, zero, suc, ◌+◌, ◌-◌, ◌*◌, ◌^◌, ◌≤◌, List, [], ◌∷◌, length, take, min, slice_get, Some, inl, inr, arith}
-use Rattle.std.proofs.Math.Nat.{add-mul}
+use Rattle.std.proofs.Common.{◌≡◌, ℕ, ◌+◌, List, length, length-take, take, min, slice_get, Some, arith}
+use Rattle.std.proofs.Math.Nat.{add-mul, zero-add}
+use Rattle.std.proofs.lemmas.Option.{slice_get_within}
 use Rattle.packet_core.specs.declared.packet.Waiting.{Waiting}
 use Rattle.flow_core.specs.Winners.{CountsFew}
 
@@ -21,13 +22,8 @@ counts_on flows n m old mid new first then' = record {
 
 -- none, and then those of some changes
 pub counts_behind : (flows n old mid new : ℕ) → CountsFew flows 0 old mid → CountsFew flows n mid new → CountsFew flows n old new
-counts_behind flows n old mid new first then' = record {
-  none_lost = omega (arith, first.none_lost, then'.none_lost);
-  most = λ levels is. omega (arith, first.most levels is, then'.most levels is);
-}
+counts_behind flows n old mid new first then' = rw zero-add at (counts_on flows 0 n old mid new first then')
 
 -- a packet that is found leaves with those before it
 pub found_leaves : (q : List Waiting) (n : ℕ) (w : Waiting) → slice_get q n ≡ Some w → min (n + 1) (length q) ≡ length (take n q) + 1
-found_leaves [] n w found = absurd cc
-found_leaves (x ∷ q) zero w found = omega arith
-found_leaves (x ∷ q) (suc n) w found = omega (arith, found_leaves q n w found)
+found_leaves q n w found = let within = slice_get_within q n w found in omega (arith, length-take n q)

@@ -1,78 +1,66 @@
 -- Packets that leave the head of a flow's queue, one after another, into the journal.
-use Rattle.std.proofs.Common.{◌≡◌, ℕ, zero, suc, ◌+◌, ◌<◌, List, [], ◌∷◌, ◌++◌, drop, take, set, length, Some, None, slice_get, refl, sym, ap, subst, ◌∙◌, arith, append-nil}
-use Rattle.std.proofs.lemmas.List.{drop-drop, get_or-set_same, length-set, length_push, set-set}
+use Rattle.std.proofs.Common.{◌≡◌, ℕ, ◌+◌, ◌<◌, List, [], ◌∷◌, ◌++◌, drop, take, set, length, Option, Some, None, slice_get, refl, sym, ap, ◌∙◌, append-nil, length-append}
+use Rattle.std.proofs.Math.Seq.{take-add}
+use Rattle.std.proofs.lemmas.List.{drop-drop, get_or-set_same, length-set, set-set}
 use Rattle.packet_core.specs.declared.packet.Waiting.{Waiting}
 use Rattle.flow_core.specs.Fattest.{IsFattest}
 use Rattle.flow_core.specs.FlowLists.{Holding, queue_at, waiting_in}
 use Rattle.flow_core.specs.Winners.{CountsFew}
 use Rattle.journal_core.specs.declared.event.Cause.{Cause}
 use Rattle.journal_core.specs.declared.event.Cause.TheVariants as cause
-use Rattle.fair_core.specs.Backlogs.{DropsOverflow, Held, without_head}
+use Rattle.fair_core.specs.Backlogs.{DropsHeads, DropsOverflow, Held, holding_of, with_heads_gone, with_holding}
+use Rattle.fair_core.specs.FairQueueing.{with_queues}
 use Rattle.journal_core.specs.Books.{Book}
-use Rattle.journal_core.specs.JournalDrops.{drops_more, with_drops}
+use Rattle.journal_core.specs.JournalDrops.{drops_more, drops_none, with_drops}
 use Rattle.fair_core.specs.Overflow.{batch_of, batch_size}
 use Rattle.fair_core.specs.Overflow.Overflow.{exceeds}
 use Rattle.fair_core.proofs.ComparisonLemmas.{counts_on}
 
 -- n packets left, and then one more
-pub head_leaves : (old : Holding) (flow n mid new : ℕ) → flow < length old.lists.queues → without_head (without_head old flow n mid) flow 1 new ≡ without_head old flow (n + 1) new
+head_leaves : (old : Holding) (flow n mid new : ℕ) → flow < length old.lists.queues → with_heads_gone (with_heads_gone old flow n mid) flow 1 new ≡ with_heads_gone old flow (n + 1) new
 head_leaves old flow n mid new within =
     let q = queue_at old.lists flow in
     rw (get_or-set_same old.lists.queues flow (drop n q) [] within, set-set old.lists.queues flow (drop n q) (drop 1 (drop n q)), drop-drop 1 n q) refl
 
--- the n packets at the head and the next one
-take_next : (q : List Waiting) (n : ℕ) (w : Waiting) → slice_get (drop n q) 0 ≡ Some w → take (n + 1) q ≡ take n q ++ w ∷ []
-take_next [] zero w found = absurd cc
-take_next [] (suc n) w found = absurd cc
-take_next (x ∷ q) zero w found = let e : x ≡ w = cc in ap (λ y. y ∷ []) e
-take_next (x ∷ q) (suc n) w found = let e : suc n + 1 ≡ suc (n + 1) = omega arith in rw e (ap (λ l. x ∷ l) (take_next q n w found))
+-- the packet at the head, if there is one
+abbrev pub head_packet : Option Waiting → List Waiting
+head_packet None = []
+head_packet (Some w) = w ∷ []
 
-take_no_more : (q : List Waiting) (n : ℕ) → slice_get (drop n q) 0 ≡ None → take (n + 1) q ≡ take n q
-take_no_more [] zero none = refl
-take_no_more [] (suc n) none = let e : suc n + 1 ≡ suc (n + 1) = omega arith in rw e refl
-take_no_more (x ∷ q) zero none = absurd cc
-take_no_more (x ∷ q) (suc n) none = let e : suc n + 1 ≡ suc (n + 1) = omega arith in rw e (ap (λ l. x ∷ l) (take_no_more q n none))
+take_one : (q : List Waiting) → take 1 q ≡ head_packet (slice_get q 0)
+take_one [] = refl
+take_one (x ∷ q) = refl
 
--- the next one is recorded
-pub one_recorded : (book now next : Book) (moment : ℕ) (why : Cause) (q : List Waiting) (n : ℕ) (w : Waiting) → now ≡ with_drops book moment why (take n q) → slice_get (drop n q) 0 ≡ Some w → next ≡ with_drops now moment why (w ∷ [])
-    → next ≡ with_drops book moment why (take (n + 1) q)
-one_recorded book now next moment why q n w before found recorded =
-    recorded ∙ ap (λ (b : Book). with_drops b moment why (w ∷ [])) before ∙ drops_more book moment why (take n q) w ∙ ap (with_drops book moment why) (sym (take_next q n w found))
+drops_then : (book : Book) (moment : ℕ) (why : Cause) (ws : List Waiting) (o : Option Waiting) → with_drops (with_drops book moment why ws) moment why (head_packet o) ≡ with_drops book moment why (ws ++ head_packet o)
+drops_then book moment why ws None = sym (drops_none (with_drops book moment why ws) moment why) ∙ ap (with_drops book moment why) (sym (append-nil ws))
+drops_then book moment why ws (Some w) = drops_more book moment why ws w
 
--- or there is none
-pub none_recorded : (book now : Book) (moment : ℕ) (why : Cause) (q : List Waiting) (n : ℕ) → now ≡ with_drops book moment why (take n q) → slice_get (drop n q) 0 ≡ None → now ≡ with_drops book moment why (take (n + 1) q)
-none_recorded book now moment why q n before none = before ∙ ap (with_drops book moment why) (sym (take_no_more q n none))
-
--- the comparisons of n packets that left, and of the next one, if there is one
-module _ (old : Holding) (flow n : ℕ) (mid new : Holding) (mid_is : mid ≡ without_head old flow n mid.comparisons) where
-  flows_stay : length mid.lists.queues ≡ length old.lists.queues
-  flows_stay = ap (λ (h : Holding). length h.lists.queues) mid_is ∙ length-set old.lists.queues flow (drop n (queue_at old.lists flow))
-
-  pub one_counted : (w : Waiting) → slice_get (drop n (queue_at old.lists flow)) 0 ≡ Some w → CountsFew (length old.lists.queues) (length (take n (queue_at old.lists flow))) old.comparisons mid.comparisons → CountsFew (length mid.lists.queues) 1 mid.comparisons new.comparisons
-      → CountsFew (length old.lists.queues) (length (take (n + 1) (queue_at old.lists flow))) old.comparisons new.comparisons
-  one_counted w found first then' =
-      let q = queue_at old.lists flow in
-      let many : length (take n q) + 1 ≡ length (take (n + 1) q) = sym (ap length (take_next q n w found) ∙ length_push (take n q) w) in
-      subst (λ k. CountsFew (length old.lists.queues) k old.comparisons new.comparisons) many
-      (counts_on (length old.lists.queues) (length (take n q)) 1 old.comparisons mid.comparisons new.comparisons first (rw flows_stay at then'))
-
-  pub none_counted : slice_get (drop n (queue_at old.lists flow)) 0 ≡ None → CountsFew (length old.lists.queues) (length (take n (queue_at old.lists flow))) old.comparisons mid.comparisons → new.comparisons ≡ mid.comparisons
-      → CountsFew (length old.lists.queues) (length (take (n + 1) (queue_at old.lists flow))) old.comparisons new.comparisons
-  none_counted none first same = rw (same, take_no_more (queue_at old.lists flow) n none) first
+-- n packets were dropped, and then the next one, if there is one
+pub drops_next : (flow n moment : ℕ) (old mid new : Holding) (book book' book'' : Book) → DropsHeads flow n moment old book mid book' → flow < length old.lists.queues → (o : Option Waiting) → o ≡ slice_get (queue_at mid.lists flow) 0
+    → new ≡ with_heads_gone mid flow 1 new.comparisons → CountsFew (length mid.lists.queues) (length (head_packet o)) mid.comparisons new.comparisons → book'' ≡ with_drops book' moment cause.Overflow (head_packet o)
+    → DropsHeads flow (n + 1) moment old book new book''
+drops_next flow n moment old mid new book book' book'' d within o head rest few journal =
+    let q = queue_at old.lists flow in
+    let first = head ∙ ap (λ (h : Holding). slice_get (queue_at h.lists flow) 0) d.rest ∙ ap (λ (l : List Waiting). slice_get l 0) (get_or-set_same old.lists.queues flow (drop n q) [] within) in
+    let taken : take (n + 1) q ≡ take n q ++ head_packet o = take-add n 1 q ∙ ap (λ l. take n q ++ l) (take_one (drop n q) ∙ ap head_packet (sym first)) in
+    let as_many = ap (λ (h : Holding). length h.lists.queues) d.rest ∙ length-set old.lists.queues flow (drop n q) in
+    record {
+      rest = rest ∙ ap (λ h. with_heads_gone h flow 1 new.comparisons) d.rest ∙ head_leaves old flow n mid.comparisons new.comparisons within;
+      few_comparisons = rw (taken, length-append (take n q) (head_packet o)) (counts_on (length old.lists.queues) (length (take n q)) (length (head_packet o)) old.comparisons mid.comparisons new.comparisons d.few_comparisons (rw as_many at few));
+      journal = rw taken (journal ∙ ap (λ (b : Book). with_drops b moment cause.Overflow (head_packet o)) d.journal ∙ drops_then book moment cause.Overflow (take n q) o);
+    }
 
 -- Where too many packets wait, the fattest flow's batch overflows.
 pub drops_exceeding : (limit moment : ℕ) (old : Held) (book book' : Book) (flow batch : ℕ) (flows' : Holding) → limit < waiting_in old.queues.lists → IsFattest old.queues.lists.queues flow → batch ≡ batch_size (length (queue_at old.queues.lists flow))
-    → flows' ≡ without_head (record { lists = old.queues.lists; room = old.room; comparisons = old.comparisons }) flow batch flows'.comparisons
-    → CountsFew (length old.queues.lists.queues) (length (take batch (queue_at old.queues.lists flow))) old.comparisons flows'.comparisons → book' ≡ with_drops book moment cause.Overflow (take batch (queue_at old.queues.lists flow))
-    → DropsOverflow limit moment old book (record { queues = record { lists = flows'.lists; accounts = old.queues.accounts }; arrived = old.arrived; room = flows'.room; comparisons = flows'.comparisons }) book'
-drops_exceeding limit moment old book book' flow batch flows' many fattest size flows few journal =
+    → DropsHeads flow batch moment (holding_of old) book flows' book' → DropsOverflow limit moment old book (with_holding old flows' old.queues.accounts) book'
+drops_exceeding limit moment old book book' flow batch flows' many fattest size d =
+    let queues = old.queues.lists.queues in
     let n = length (queue_at old.queues.lists flow) in
-    let queues_are : set old.queues.lists.queues flow (drop batch (queue_at old.queues.lists flow)) ≡ flows'.lists.queues = ap (λ (h : Holding). h.lists.queues) (sym flows) in
-    let lists_are = ap (λ (queues : List (List Waiting)). record old { queues = record old.queues { lists = record old.queues.lists { queues = queues } }; comparisons = flows'.comparisons }) queues_are in
+    let queues_are = ap (λ (h : Holding). h.lists.queues) d.rest in
     record {
-      batches = batch_of old.queues.lists.queues flow ∷ [];
-      overflow = exceeds many flow fattest refl (ap (λ (h : Holding). h.lists.queues) flows ∙ ap (λ (k : ℕ). set old.queues.lists.queues flow (drop k (queue_at old.queues.lists flow))) size);
-      rest = ap (λ (h : Holding). record { queues = record { lists = h.lists; accounts = old.queues.accounts }; arrived = old.arrived; room = h.room; comparisons = flows'.comparisons }) flows ∙ lists_are;
-      few_comparisons = rw (append-nil (take (batch_size n) (queue_at old.queues.lists flow)), ← size) few;
-      journal = rw (append-nil (take (batch_size n) (queue_at old.queues.lists flow)), ← size) journal;
+      batches = batch_of queues flow ∷ [];
+      overflow = exceeds many flow fattest refl (queues_are ∙ ap (λ (k : ℕ). set queues flow (drop k (queue_at old.queues.lists flow))) size);
+      rest = ap (λ (h : Holding). with_holding old h old.queues.accounts) d.rest ∙ ap (λ (qs : List (List Waiting)). record old { queues = with_queues old.queues qs; comparisons = flows'.comparisons }) (sym queues_are);
+      few_comparisons = rw (append-nil (take (batch_size n) (queue_at old.queues.lists flow)), ← size) d.few_comparisons;
+      journal = rw (append-nil (take (batch_size n) (queue_at old.queues.lists flow)), ← size) d.journal;
     }

@@ -2,6 +2,7 @@
 use Rattle.std.proofs.Common.{◌∙◌, sym, ◌≡◌, ◌≢◌, ℕ, zero, suc, ◌<◌, ◌⊎◌, List, [], ◌∷◌, drop, take, get_or, set, length, slice_get, IsSomeAnd, IsTrue, Some, refl, sym, ap, subst, inl, inr, arith, append-nil}
 use Rattle.std.proofs.lemmas.Bool.{cases_eq, eq-eqb, false≢true, ne_eqb}
 use Rattle.std.proofs.lemmas.List.{get_or-set_other, get_or-set_same, length-set, take-append-drop}
+use Rattle.std.proofs.lemmas.Option.{slice_get-get_or}
 use Rattle.packet_core.specs.Params.{AreInRange}
 use Rattle.packet_core.specs.declared.packet.Ecn.{Ecn}
 use Rattle.packet_core.specs.declared.packet.Ecn.TheVariants as fields
@@ -15,11 +16,12 @@ use Rattle.codel_core.proofs.VerdictLemmas.{marked_at}
 use Rattle.codel_core.specs.declared.served.Mark.{Mark}
 use Rattle.codel_core.specs.declared.served.Mark.TheVariants.{NoMark, CodelMark}
 use Rattle.codel_core.specs.declared.state.CodelState.{CodelState}
-use Rattle.journal_core.specs.Disciplines.{Batch, LeaveHeads, MayHave}
+use Rattle.journal_core.specs.Disciplines.{Batch, LeaveHeads, MayHave, heads}
 use Rattle.fair_core.specs.FqCodel.{fq_codel_policy}
 use Rattle.fair_core.specs.Overflow.{Overflow, batch_size}
 use Rattle.fair_core.specs.Overflow.Overflow.{fits, exceeds}
 use Rattle.fair_core.specs.Policies.{DropsFromHeads, IsDecided}
+use Rattle.fair_core.proofs.FairFifo.{heads_leave}
 use Rattle.fair_core.proofs.OverflowLemmas.{overflow_once, overflow_there}
 
 -- what CoDel's own laws say of its verdict
@@ -30,40 +32,23 @@ pub record VerdictLaws : Type 0 where
   pub gives : (p : ParamFields) (now : ℕ) (q : List Waiting) (old : CodelState) (k : ℕ) (mark : Mark) (new : CodelState)
       → Decides p now q old k mark new → ((q ≡ []) × (k ≡ 0)) ⊎ (k < length q)
 
--- a place in a list has an element
-found_at : {X : Type 0} (xs : List X) (k : ℕ) → k < length xs → (x : X) × (slice_get xs k ≡ Some x)
-found_at [] k below = absurd (omega arith)
-found_at (x ∷ xs) zero below = (x, refl)
-found_at (x ∷ xs) (suc k) below = found_at xs k (omega arith)
-
-batch_leaves : (queues : List (List Waiting)) (flow n : ℕ) → flow < length queues
-    → LeaveHeads (λ f. get_or queues f []) (record { flow = flow; gone = take n (get_or queues flow []) } ∷ []) (λ f. get_or (set queues flow (drop n (get_or queues flow []))) f [])
-batch_leaves queues flow n within f =
-    elim (cases_eq flow f) [
-      | inl same ↦
-          rw (eq-eqb flow f same, ← same, get_or-set_same queues flow (drop n (get_or queues flow [])) [] within, append-nil (take n (get_or queues flow [])))
-          (sym (take-append-drop n (get_or queues flow [])))
-      | inr other ↦ rw (ne_eqb flow f other, get_or-set_other queues flow f (drop n (get_or queues flow [])) [] (λ e. other (sym e))) refl
-    ]
-
 overflow_leaves : (limit : ℕ) (queues : List (List Waiting)) (batches : List Batch) (queues' : List (List Waiting)) → Overflow limit queues batches queues' → LeaveHeads (λ f. get_or queues f []) batches (λ f. get_or queues' f [])
 overflow_leaves limit queues batches queues' (fits few none e) = rw (none, e) (λ f. refl)
-overflow_leaves limit queues batches queues' (exceeds many flow fattest one e) = rw (one, e) (batch_leaves queues flow (batch_size (length (get_or queues flow []))) fattest.within)
+overflow_leaves limit queues batches queues' (exceeds many flow fattest one e) =
+    let n = batch_size (length (get_or queues flow [])) in
+    rw (one, e) (λ f. rw (append-nil (heads flow (take n (get_or queues flow [])) f)) (heads_leave queues flow n fattest.within f))
 
 overflow_keeps : (limit : ℕ) (queues : List (List Waiting)) (batches : List Batch) (queues' : List (List Waiting)) → Overflow limit queues batches queues' → length queues' ≡ length queues
 overflow_keeps limit queues batches queues' (fits few none e) = ap length e
 overflow_keeps limit queues batches queues' (exceeds many flow fattest one e) = rw e (length-set queues flow _)
 
 -- Only a packet that may be marked is marked.
+not_markable : (ecn : EcnUse) → IsTrue (is_markable ecn fields.NotEct) → ⊥
+not_markable ecn.Drop may = false≢true may
+not_markable ecn.Mark may = false≢true may
+
 markable : (ecn : EcnUse) (field : Ecn) → IsTrue (is_markable ecn field) → field ≢ fields.NotEct
-markable ecn.Drop fields.NotEct may e = absurd (false≢true may)
-markable ecn.Drop fields.Ect1 may e = cc
-markable ecn.Drop fields.Ect0 may e = cc
-markable ecn.Drop fields.Ce may e = cc
-markable ecn.Mark fields.NotEct may e = absurd (false≢true may)
-markable ecn.Mark fields.Ect1 may e = cc
-markable ecn.Mark fields.Ect0 may e = cc
-markable ecn.Mark fields.Ce may e = cc
+markable ecn field may e = not_markable ecn (rw e at may)
 
 module _ (p : ParamFields) where
   honest_mark : (now : ℕ) (queue : List Waiting) (codel : CodelState) (drops : ℕ) (mark : Mark) (codel' : CodelState) → Decides p now queue codel drops mark codel' → (w : Waiting) → slice_get queue drops ≡ Some w → MayHave mark w.packet.ecn
@@ -86,7 +71,7 @@ module _ (laws : VerdictLaws) (p : ParamFields) where
       let d = laws.exists p now (w ∷ queue) codel in
       elim (laws.gives p now (w ∷ queue) codel d.0 d.1 d.2 d.3) [
         | inl none ↦ let e = none.0 in absurd cc
-        | inr below ↦ let found = found_at (w ∷ queue) d.0 below in (d.0, d.1, d.2, found.0, d.3, found.1)
+        | inr below ↦ (d.0, d.1, d.2, get_or (w ∷ queue) d.0 w, d.3, slice_get-get_or (w ∷ queue) d.0 w below)
       ]
 
   gives_none : (now : ℕ) (codel : CodelState) → (mark : Mark) × (codel' : CodelState) × Decides p now [] codel 0 mark codel'

@@ -1,8 +1,10 @@
 pub mod FairFifo
 pub mod QuantaOwed
-pub mod SingleTurns
+pub mod HeadLemmas
+pub mod TurnLemmas
 pub mod ServingChains
 pub mod NewFlowsFirst
+pub mod RunInvariants
 pub mod SoundFlows
 pub mod ComparisonLemmas
 pub mod AccountRanges

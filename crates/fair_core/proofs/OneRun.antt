@@ -18,14 +18,14 @@ use Rattle.journal_core.specs.declared.step.Refusal.{Refusal}
 use Rattle.journal_core.specs.declared.step.Step.{Step}
 use Rattle.journal_core.specs.declared.step.Step.TheVariants.{Enqueue, Dequeue, Close}
 use Rattle.journal_core.specs.Disciplines.{packets_of}
-use Rattle.fair_core.specs.FairQueueing.{Arrives, dropped_in, fair_queueing, given_in, with_flow_listed}
+use Rattle.fair_core.specs.FairQueueing.{Arrives, dropped_in, fair_queueing, given_in, with_flow_listed, with_queues}
 use Rattle.fair_core.specs.FairQueues.{FairQueues}
 use Rattle.fair_core.specs.FqCodel.{fq_codel, fq_codel_policy}
 use Rattle.fair_core.specs.Policies.{IsDecided}
 use Rattle.journal_core.specs.Runs.{Made, Runs}
 use Rattle.journal_core.specs.State.{State, refusal_of}
 use Rattle.journal_core.specs.Steps.{Makes, Steps, dequeue_answer, drop_event, sent_events}
-use Rattle.fair_core.specs.Turns.{Policy}
+use Rattle.fair_core.specs.Turns.{Policy, TurnMade, service_in}
 use Rattle.fair_core.proofs.ServingChains.{chain_once}
 use Rattle.fair_core.proofs.FqCodelPolicy.{VerdictLaws, policy_decided}
 
@@ -38,10 +38,7 @@ module _ (p : Policy) (decided : IsDecided p) (flows : ℕ) (flow_of : FiveTuple
       → (lost ≡ lost') × (new ≡ new')
   arrival_once old flow w lost lost' new new' a a' =
       let same = decided.overflows_once (set old.lists.queues flow (queue_at old.lists flow ++ w ∷ [])) new.lists.queues new'.lists.queues a.batches a'.batches a.overflow a'.overflow in
-      let listed = with_flow_listed p old flow in (
-        a.lost_in_order ∙ ap packets_of same.0 ∙ sym a'.lost_in_order,
-        a.rest ∙ ap (λ (queues : List (List Waiting)). record listed { lists = record (listed.lists) { queues = queues } }) same.1 ∙ sym a'.rest,
-      )
+      (a.lost_in_order ∙ ap packets_of same.0 ∙ sym a'.lost_in_order, a.rest ∙ ap (with_queues (with_flow_listed p old flow)) same.1 ∙ sym a'.rest)
 
   abbrev SameStep : Answer → List Event → State FairQueues → Answer → List Event → State FairQueues → Type 0
   SameStep said made new said' made' new' = (said ≡ said') × (made ≡ made') × (new ≡ new')
@@ -57,12 +54,12 @@ module _ (p : Policy) (decided : IsDecided p) (flows : ℕ) (flow_of : FiveTuple
   makes_once old new new' (Dequeue moment) said said' made made' m m' =
       let c = m.2.queues in
       let c' = m'.2.queues in
-      let same = chain_once p decided c.turns c'.turns moment old.queues c.service c'.service new.queues new'.queues c.chain c'.chain in
-      let given : m.0 ≡ m'.0 = c.given_by ∙ ap given_in same.1 ∙ sym c'.given_by in
-      let dropped : m.2.dropped ≡ m'.2.dropped = c.dropped_by ∙ ap dropped_in same.1 ∙ sym c'.dropped_by in (
+      let same = chain_once p decided moment c.turns c'.turns old.queues new.queues new'.queues c.chain c'.chain in
+      let given : m.0 ≡ m'.0 = c.given_by ∙ ap (λ (turns : List TurnMade). given_in (service_in turns)) same.0 ∙ sym c'.given_by in
+      let dropped : m.2.dropped ≡ m'.2.dropped = c.dropped_by ∙ ap (λ (turns : List TurnMade). dropped_in (service_in turns)) same.0 ∙ sym c'.dropped_by in (
         m.1 ∙ ap dequeue_answer given ∙ sym m'.1,
         m.2.told ∙ (λ i. map (drop_event moment cause.Codel) (dropped i) ++ sent_events moment (given i)) ∙ sym m'.2.told,
-        same_state new new' same.2 (m.2.next_id ∙ sym m'.2.next_id) (m.2.last ∙ sym m'.2.last) (m.2.closed ∙ sym m'.2.closed),
+        same_state new new' same.1 (m.2.next_id ∙ sym m'.2.next_id) (m.2.last ∙ sym m'.2.last) (m.2.closed ∙ sym m'.2.closed),
       )
   makes_once old new new' (Close moment) said said' made made' m m' = (m.0 ∙ sym m'.0, m.1.told ∙ sym m'.1.told, m.1.state ∙ sym m'.1.state)
 

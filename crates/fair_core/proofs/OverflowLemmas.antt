@@ -1,6 +1,6 @@
 -- Where every packet that waits has a byte at least, there is one overflow of the queues, and no other: some flow is
 -- the fattest, and one alone.
-use Rattle.std.proofs.Common.{◌≡◌, ℕ, zero, suc, ◌*◌, ◌<◌, ◌≤◌, ◌⊎◌, All, List, [], ◌∷◌, drop, get_or, length, set, sum_by, refl, sym, ap, subst, ◌∙◌, inl, inr, arith}
+use Rattle.std.proofs.Common.{◌≡◌, ℕ, zero, suc, ◌*◌, ◌<◌, ◌≤◌, All, List, [], ◌∷◌, drop, get_or, length, set, sum_by, refl, sym, ap, subst, ◌∙◌, inl, inr, arith}
 use Rattle.std.proofs.lemmas.Bool.{cases_lt, cases_order}
 use Rattle.std.proofs.lemmas.List.{get_or_past}
 use Rattle.std.proofs.lemmas.List.Elements.{All-from_get_or, All-get_or, All-head}
@@ -35,78 +35,22 @@ overflow_once limit queues new new' batches batches' (exceeds many flow fattest 
       e ∙ ap (λ (f : ℕ). set queues f (drop (batch_size (length (get_or queues f []))) (get_or queues f []))) same ∙ sym e',
     )
 
--- what holds before a place and at it
-at_end : (P : ℕ → Type 0) (n : ℕ) → ((i : ℕ) → i < n → P i) → P n → (i : ℕ) → i < suc n → P i
-at_end P n before here i below =
-    elim (cases_lt i n) [
-      | inl less ↦ before i less
-      | inr past ↦ let same : n ≡ i = omega arith in subst P same here
-    ]
-
--- place k has the greatest of the first n values, which is above 0, and no place before it has it
-record IsFirstGreatest (value : ℕ → ℕ) (n k : ℕ) : Type 0 where
-  within : k < n
-  some : 0 < value k
-  greatest : (i : ℕ) → i < n → value i ≤ value k
-  least : (i : ℕ) → i < k → value i < value k
-
-abbrev HasFirstGreatest : (ℕ → ℕ) → ℕ → Type 0
-HasFirstGreatest value n = ((i : ℕ) → i < n → value i ≡ 0) ⊎ ((k : ℕ) × IsFirstGreatest value n k)
-
--- where all values are 0 so far, the next one is the first
-behind_zeros : (value : ℕ → ℕ) (n : ℕ) → ((i : ℕ) → i < n → value i ≡ 0) → HasFirstGreatest value (suc n)
-behind_zeros value n none =
-    let most : (i : ℕ) → i < n → value i ≤ value n = λ i below. let e = none i below in omega arith in
-    elim (cases_lt 0 (value n)) [
-      | inl some ↦
-          inr (
-            n,
-            record {
-              within = omega arith;
-              some = some;
-              greatest = at_end (λ i. value i ≤ value n) n most (omega arith);
-              least = λ i below. let e = none i below in omega arith;
-            },
-          )
-      | inr zeros ↦ inl (at_end (λ i. value i ≡ 0) n none (omega arith))
-    ]
-
--- and else it is the greatest only where it is above the one so far
-behind_greatest : (value : ℕ → ℕ) (n k : ℕ) → IsFirstGreatest value n k → HasFirstGreatest value (suc n)
-behind_greatest value n k is =
-    let before = is.within in
-    elim (cases_lt (value k) (value n)) [
-      | inl more ↦
-          let least : (i : ℕ) → i < n → value i < value n = λ i below. let most = is.greatest i below in omega arith in
-          inr (
-            n,
-            record {
-              within = omega arith;
-              some = omega arith;
-              greatest = at_end (λ i. value i ≤ value n) n (λ i below. let less = least i below in omega arith) (omega arith);
-              least = least;
-            },
-          )
-      | inr few ↦
-          inr (
-            k,
-            record {
-              within = omega arith;
-              some = is.some;
-              greatest = at_end (λ i. value i ≤ value k) n is.greatest few;
-              least = is.least;
-            },
-          )
-    ]
-
--- there is such a place, unless all values are 0
-first_greatest : (value : ℕ → ℕ) (n : ℕ) → HasFirstGreatest value n
-first_greatest value zero = inl (λ i below. absurd (omega arith))
+-- the first of n places that has the greatest value of them, and place 0 where there is none
+first_greatest : (value : ℕ → ℕ) (n : ℕ) → (k : ℕ) × ((i : ℕ) → i < n → value i ≤ value k) × ((i : ℕ) → i < k → value i < value k)
+first_greatest value zero = (0, (λ i below. absurd (omega arith)), (λ i below. absurd (omega arith)))
 first_greatest value (suc n) =
-    elim (first_greatest value n) [
-      | inl none ↦ behind_zeros value n none
-      | inr found ↦ behind_greatest value n found.0 found.1
+    let best = first_greatest value n in
+    elim (cases_lt (value best.0) (value n)) [
+      | inl more ↦ (n, at_end (λ i. value i ≤ value n) (λ i below. let most = best.1 i below in omega arith) (omega arith), (λ i below. let most = best.1 i below in omega arith))
+      | inr few ↦ (best.0, at_end (λ i. value i ≤ value best.0) best.1 few, best.2)
     ]
+  where
+    at_end : (P : ℕ → Type 0) → ((i : ℕ) → i < n → P i) → P n → (i : ℕ) → i < suc n → P i
+    at_end P before here i below =
+        elim (cases_lt i n) [
+          | inl less ↦ before i less
+          | inr past ↦ let same : n ≡ i = omega arith in subst P same here
+        ]
 
 -- each packet has a length that packets have
 abbrev HaveLengths : List Waiting → Type 0
@@ -133,25 +77,28 @@ none_waits queues have none =
 fattest_there : (queues : List (List Waiting)) → All HaveLengths queues → 0 < sum_by length queues
     → (flow : ℕ) × IsFattest queues flow
 fattest_there queues have some =
-    elim (first_greatest (bytes_at queues) (length queues)) [
-      | inl none ↦ let few = none_waits queues have none in absurd (omega arith)
-      | inr found ↦ (
-        found.0,
-        record {
-          within = found.1.within;
-          waits = found.1.some;
-          greatest = most_bytes found.0 found.1.greatest;
-          least = found.1.least;
-        },
-      )
+    let best = first_greatest (bytes_at queues) (length queues) in
+    elim (cases_lt 0 (bytes_at queues best.0)) [
+      | inl waits ↦ (best.0, record { within = has_bytes best.0 waits; waits = waits; greatest = most_bytes best.0 best.1; least = best.2 })
+      | inr zeros ↦ let few = none_waits queues have (λ i below. let most = best.1 i below in omega arith) in absurd (omega arith)
     ]
   where
+    no_bytes : (flow : ℕ) → length queues ≤ flow → bytes_at queues flow ≡ 0
+    no_bytes flow past = rw (get_or_past queues flow [] past) refl
+
+    has_bytes : (flow : ℕ) → 0 < bytes_at queues flow → flow < length queues
+    has_bytes flow waits =
+        elim (cases_lt flow (length queues)) [
+          | inl below ↦ below
+          | inr past ↦ let none = no_bytes flow past in absurd (omega arith)
+        ]
+
     most_bytes : (flow : ℕ) → ((i : ℕ) → i < length queues → bytes_at queues i ≤ bytes_at queues flow)
         → (other : ℕ) → bytes_at queues other ≤ bytes_at queues flow
     most_bytes flow most other =
         elim (cases_lt other (length queues)) [
           | inl below ↦ most other below
-          | inr past ↦ rw (get_or_past queues other [] past) (omega arith)
+          | inr past ↦ let none = no_bytes other past in omega arith
         ]
 
 pub overflow_there : (limit : ℕ) (queues : List (List Waiting)) → All HaveLengths queues

@@ -1,20 +1,23 @@
 -- Serving chains: from flows that are sound there is one and no other, and its length has a bound.
-use Rattle.std.proofs.Common.{◌≡◌, ◌≢◌, ℕ, zero, suc, ◌+◌, ◌<◌, ◌≤◌, List, [], ◌∷◌, ◌++◌, All, get_or, set, length, sum_by, Option, Some, None, ℤ, pos, ◌+ℤ◌, ◌≤ℤ◌, refl, sym, ap, subst, ◌∙◌, inl, inr, ◌⊎◌, arith, append_assoc}
+use Rattle.std.proofs.Common.{◌≡◌, ◌≢◌, ℕ, zero, suc, ◌+◌, ◌<◌, ◌≤◌, List, [], ◌∷◌, ◌++◌, All, get_or, set, length, sum_by, Option, Some, None, ℤ, pos, ◌+ℤ◌, ◌≤ℤ◌, refl, sym, ap, subst, ◌∙◌, inl, inr, arith, append_assoc}
 use Rattle.std.proofs.lemmas.Int.{ints}
 use Rattle.std.proofs.lemmas.List.{get_or-set_other, get_or-set_same, length-set}
-use Rattle.std.proofs.lemmas.List.Elements.{All-cons, All-head, All-nil, All-push, All-tail, recursion_from_All}
+use Rattle.std.proofs.lemmas.List.Elements.{All-from_recursion, All-head, All-nil, All-push, All-tail, recursion_from_All}
 use Rattle.std.proofs.lemmas.List.Sums.{sum_by-cons, sum_by_push}
-use Rattle.flow_core.specs.FlowLists.{AreDistinct, AreListed}
+use Rattle.flow_core.specs.FlowLists.{AreDistinct, FlowLists}
 use Rattle.fair_core.specs.declared.account.Account.{Account}
-use Rattle.fair_core.specs.FairQueues.{AreSound, FairQueues, Head, account_at, head_of, head_of_lists, new_account, to_old, unlisted}
+use Rattle.fair_core.specs.declared.backlog.FlowList.{FlowList}
 use Rattle.fair_core.specs.declared.backlog.FlowList.TheVariants.{New, Old}
+use Rattle.fair_core.specs.declared.backlog.Head.{Head}
+use Rattle.fair_core.specs.FairQueues.{AreSound, FairQueues, account_at, emptied_by, head_of, new_account, to_old, unlisted, with_account}
 use Rattle.fair_core.specs.Policies.{IsDecided}
 use Rattle.fair_core.specs.TurnBound.{AreQuantaOwed, quanta_owed, turns_at_most}
-use Rattle.fair_core.specs.Turns.{Chain, Policy, Service, Turn}
-use Rattle.fair_core.specs.Turns.Turn.{used_up, emptied_new, emptied_old, serving}
-use Rattle.journal_core.proofs.ListLemmas.{ByRecursion-weaker, sum_by_agree_on}
+use Rattle.fair_core.specs.Turns.{Chain, Does, Policy, Service, Turn, TurnKind, TurnMade, service_by}
+use Rattle.fair_core.specs.Turns.TurnKind.{used_up, emptied, serving}
+use Rattle.journal_core.proofs.ListLemmas.{ByRecursion-parts, ByRecursion-weaker, sum_by_agree_on}
+use Rattle.fair_core.proofs.HeadLemmas.{IsHead, by_head, listed_from_head, others}
 use Rattle.fair_core.proofs.QuantaOwed.{one_owed_less, owed_once, quanta_owed_is}
-use Rattle.fair_core.proofs.SingleTurns.{turn_once, turn_there}
+use Rattle.fair_core.proofs.TurnLemmas.{turn_once, turn_there}
 
 -- a flow that goes to the end of a list of distinct flows
 distinct_push : (ns : List ℕ) (n : ℕ) → AreDistinct ns → All (λ other. other ≢ n) ns → AreDistinct (ns ++ n ∷ [])
@@ -23,224 +26,207 @@ distinct_push (m ∷ ns) n once apart =
     let other = All-head (λ k. k ≢ n) m ns apart in
     (All-push (λ k. k ≢ m) ns n once.0 (λ e. other (sym e)), distinct_push ns n once.1 (All-tail (λ k. k ≢ n) m ns apart))
 
-rotated : (n : ℕ) (ms ns : List ℕ) → ms ++ (ns ++ n ∷ []) ≡ (ms ++ ns) ++ n ∷ []
-rotated n ms ns = sym (append_assoc ms ns (n ∷ []))
+-- A listed head is a flow, and stands in no list behind it.
+record HeadFits (s : FairQueues) (head : Head) : Type 0 where
+  within : head.flow < length s.lists.queues
+  apart : All (λ other. other ≢ head.flow) (others s.lists head)
+  rest_within : All (λ flow. flow < length s.lists.queues) (others s.lists head)
+  rest_once : AreDistinct (others s.lists head)
+
+head_fits : (s : FairQueues) (head : Head) → AreSound s → IsHead s.lists head → HeadFits s head
+head_fits s head sound at =
+    let e = listed_from_head s.lists head at in
+    let within = subst (λ flows. All (λ flow. flow < length s.lists.queues) flows) e sound.listed.within in
+    let once = subst AreDistinct e sound.listed.once in
+    record {
+      within = All-head (λ flow. flow < length s.lists.queues) head.flow (others s.lists head) within;
+      apart = once.0;
+      rest_within = All-tail (λ flow. flow < length s.lists.queues) head.flow (others s.lists head) within;
+      rest_once = once.1;
+    }
+
+-- Behind a turn that doesn't serve, the flow stands at the end of the list of old flows or in no list.
+module _ (s : FairQueues) (head : Head) (account : Account) (sound : AreSound s) (at : IsHead s.lists head) where
+  sound_behind : (from : FlowList) → AreSound (with_account s (emptied_by from s.lists head) head.flow account)
+  sound_behind New =
+      let fits = head_fits s head sound at in
+      let e = append_assoc (unlisted s.lists head).new_flows (unlisted s.lists head).old_flows (head.flow ∷ []) in
+      record {
+        listed = record {
+          within = rw (← e) (All-push (λ flow. flow < length s.lists.queues) (others s.lists head) head.flow fits.rest_within fits.within);
+          once = rw (← e) (distinct_push (others s.lists head) head.flow fits.rest_once fits.apart);
+        };
+        accounts = length-set s.accounts head.flow account ∙ sound.accounts;
+      }
+  sound_behind Old =
+      let fits = head_fits s head sound at in
+      record {
+        listed = record { within = fits.rest_within; once = fits.rest_once };
+        accounts = length-set s.accounts head.flow account ∙ sound.accounts;
+      }
+
+-- THE BOUND
+
+-- how many turns a flow at the head may take beside those for quanta
+abbrev extra : FlowList → ℕ
+extra New = 2
+extra Old = 1
+
+-- how many turns it may take once it left the head of that list without a packet, and quanta are owed to it
+abbrev left_for : FlowList → ℕ → ℕ
+left_for New owed = owed + 1
+left_for Old owed = 0
+
+less_left : (from : FlowList) (owed : ℕ) → left_for from owed + 1 ≤ owed + extra from
+less_left New owed = omega arith
+less_left Old owed = omega arith
+
+some_extra : (from : FlowList) → 1 ≤ extra from
+some_extra New = omega arith
+some_extra Old = omega arith
 
 -- how many turns the flows of a list may take
 module _ (quantum : ℕ) where
-  abbrev owed_in : List Account → ℕ → ℕ
-  owed_in accounts flow = quanta_owed quantum ((get_or accounts flow new_account).credits)
+  abbrev owed : List Account → ℕ → ℕ
+  owed accounts flow = quanta_owed quantum ((get_or accounts flow new_account).credits)
 
   abbrev turns_in : ℕ → List Account → List ℕ → ℕ
-  turns_in more accounts flows = sum_by (λ flow. owed_in accounts flow + more) flows
+  turns_in more accounts flows = sum_by (λ flow. owed accounts flow + more) flows
 
   -- a change of another flow's account does not matter
   turns_in_same : (more : ℕ) (accounts : List Account) (flow : ℕ) (account : Account) (flows : List ℕ) → All (λ other. other ≢ flow) flows → turns_in more (set accounts flow account) flows ≡ turns_in more accounts flows
   turns_in_same more accounts flow account flows apart =
-      sum_by_agree_on (λ f. owed_in (set accounts flow account) f + more) (λ f. owed_in accounts f + more) flows
-      (ByRecursion-weaker (λ f. f ≢ flow) (λ f. owed_in (set accounts flow account) f + more ≡ owed_in accounts f + more) flows
+      sum_by_agree_on (λ f. owed (set accounts flow account) f + more) (λ f. owed accounts f + more) flows
+      (ByRecursion-weaker (λ f. f ≢ flow) (λ f. owed (set accounts flow account) f + more ≡ owed accounts f + more) flows
       (λ f other. ap (λ (a : Account). quanta_owed quantum a.credits + more) (get_or-set_other accounts flow f account new_account other))
       (recursion_from_All (λ f. f ≢ flow) flows apart))
 
--- what a listed head is, and what stays without it
-data HeadIs (s : FairQueues) (head : Head) : Type 0 where
-  of_new : head.from ≡ New → s.lists.new_flows ≡ head.flow ∷ head.new_flows → s.lists.old_flows ≡ head.old_flows → HeadIs s head
-  of_old : head.from ≡ Old → s.lists.new_flows ≡ [] → head.new_flows ≡ [] → s.lists.old_flows ≡ head.flow ∷ head.old_flows → HeadIs s head
+  -- the turns of the flows behind the head
+  abbrev turns_behind : List Account → FlowLists → Head → ℕ
+  turns_behind accounts lists head = turns_in 2 accounts (unlisted lists head).new_flows + turns_in 1 accounts (unlisted lists head).old_flows
 
-head_is : (s : FairQueues) (head : Head) → head_of s ≡ Some head → HeadIs s head
-head_is s head at = go s.lists.new_flows s.lists.old_flows refl refl
+  bound_before : (accounts : List Account) (lists : FlowLists) (head : Head) → IsHead lists head
+      → turns_at_most quantum (record { lists = lists; accounts = accounts }) ≡ owed accounts head.flow + extra head.from + turns_behind accounts lists head
+  bound_before accounts =
+      by_head (λ lists head. turns_at_most quantum (record { lists = lists; accounts = accounts }) ≡ owed accounts head.flow + extra head.from + turns_behind accounts lists head)
+      (λ queues flow rest old. let first = sum_by-cons (λ f. owed accounts f + 2) flow rest in omega arith)
+      (λ queues flow rest. let first = sum_by-cons (λ f. owed accounts f + 1) flow rest in omega arith)
+
+  -- and behind one, once the flow left the head as an emptied flow of that list does
+  module _ (s : FairQueues) (head : Head) (account : Account) (sound : AreSound s) (at : IsHead s.lists head) where
+    bound_behind : (from : FlowList) → turns_at_most quantum (with_account s (emptied_by from s.lists head) head.flow account) ≡ turns_behind s.accounts s.lists head + left_for from (quanta_owed quantum account.credits)
+    bound_behind from =
+        let fits = head_fits s head sound at in
+        let flows = unlisted s.lists head in
+        let apart = ByRecursion-parts (λ other. other ≢ head.flow) flows.new_flows flows.old_flows (recursion_from_All (λ other. other ≢ head.flow) (others s.lists head) fits.apart) in
+        let new = turns_in_same 2 s.accounts head.flow account flows.new_flows (All-from_recursion (λ other. other ≢ head.flow) flows.new_flows apart.0) in
+        let old = turns_in_same 1 s.accounts head.flow account flows.old_flows (All-from_recursion (λ other. other ≢ head.flow) flows.old_flows apart.1) in
+        let own = ap (λ (a : Account). quanta_owed quantum a.credits) (get_or-set_same s.accounts head.flow account new_account (rw sound.accounts fits.within)) in
+        let last = sum_by_push (λ flow. owed (set s.accounts head.flow account) flow + 1) flows.old_flows head.flow in
+        by_list from new old own last
+      where
+        by_list : (from : FlowList) → turns_in 2 (set s.accounts head.flow account) (unlisted s.lists head).new_flows ≡ turns_in 2 s.accounts (unlisted s.lists head).new_flows
+            → turns_in 1 (set s.accounts head.flow account) (unlisted s.lists head).old_flows ≡ turns_in 1 s.accounts (unlisted s.lists head).old_flows → owed (set s.accounts head.flow account) head.flow ≡ quanta_owed quantum account.credits
+            → turns_in 1 (set s.accounts head.flow account) ((unlisted s.lists head).old_flows ++ head.flow ∷ []) ≡ turns_in 1 (set s.accounts head.flow account) (unlisted s.lists head).old_flows + (owed (set s.accounts head.flow account) head.flow + 1)
+            → turns_at_most quantum (with_account s (emptied_by from s.lists head) head.flow account) ≡ turns_behind s.accounts s.lists head + left_for from (quanta_owed quantum account.credits)
+        by_list New new old own last = omega arith
+        by_list Old new old own last = omega arith
+
+-- once a flow without credits got a quantum more, it is owed one less
+raised_owed : (quantum : ℕ) (credits : ℤ) → 0 < quantum → credits ≤ℤ pos 0 → quanta_owed quantum (credits +ℤ pos quantum) + 1 ≡ quanta_owed quantum credits
+raised_owed quantum credits some none = go (quanta_owed quantum credits) refl
   where
-    go : (new old : List ℕ) → s.lists.new_flows ≡ new → s.lists.old_flows ≡ old → HeadIs s head
-    go (flow ∷ rest) old n o =
-        let found : Some (record { flow = flow; from = New; new_flows = rest; old_flows = old }) ≡ Some head = ap (λ l. head_of_lists l old) (sym n) ∙ ap (head_of_lists s.lists.new_flows) (sym o) ∙ at in
-        let e : record { flow = flow; from = New; new_flows = rest; old_flows = old } ≡ head = cc in
-        of_new (sym (ap (λ (h : Head). h.from) e)) (n ∙ ap (λ (h : Head). h.flow ∷ h.new_flows) e) (o ∙ ap (λ (h : Head). h.old_flows) e)
-    go [] (flow ∷ rest) n o =
-        let found : Some (record { flow = flow; from = Old; new_flows = []; old_flows = rest }) ≡ Some head = ap (λ l. head_of_lists l (flow ∷ rest)) (sym n) ∙ ap (head_of_lists s.lists.new_flows) (sym o) ∙ at in
-        let e : record { flow = flow; from = Old; new_flows = []; old_flows = rest } ≡ head = cc in
-        of_old (sym (ap (λ (h : Head). h.from) e)) n (sym (ap (λ (h : Head). h.new_flows) e)) (o ∙ ap (λ (h : Head). h.flow ∷ h.old_flows) e)
-    go [] [] n o =
-        let found : None ≡ Some head = ap (λ l. head_of_lists l []) (sym n) ∙ ap (head_of_lists s.lists.new_flows) (sym o) ∙ at in
-        absurd cc
+    go : (n : ℕ) → quanta_owed quantum credits ≡ n → quanta_owed quantum (credits +ℤ pos quantum) + 1 ≡ quanta_owed quantum credits
+    go zero is = let enough = (subst (AreQuantaOwed quantum credits) is (quanta_owed_is quantum credits some)).enough in absurd (omega (arith, ints))
+    go (suc n) is =
+        let less = one_owed_less quantum credits n (subst (AreQuantaOwed quantum credits) is (quanta_owed_is quantum credits some)) in
+        let same = owed_once quantum (credits +ℤ pos quantum) _ n (quanta_owed_is quantum (credits +ℤ pos quantum) some) less in
+        omega arith
 
--- A listed head is a flow, and stands in no list behind it.
-record HeadFits (s : FairQueues) (head : Head) : Type 0 where
-  within : head.flow < length s.lists.queues
-  apart : All (λ other. other ≢ head.flow) (head.new_flows ++ head.old_flows)
-  rest_within : All (λ flow. flow < length s.lists.queues) (head.new_flows ++ head.old_flows)
-  rest_once : AreDistinct (head.new_flows ++ head.old_flows)
-
-fits_at : (s : FairQueues) (head : Head) → AreListed s.lists → s.lists.new_flows ++ s.lists.old_flows ≡ head.flow ∷ (head.new_flows ++ head.old_flows) → HeadFits s head
-fits_at s head l e =
-    let within = subst (λ flows. All (λ flow. flow < length s.lists.queues) flows) e l.within in
-    let once = subst AreDistinct e l.once in
-    record {
-      within = All-head (λ flow. flow < length s.lists.queues) head.flow (head.new_flows ++ head.old_flows) within;
-      apart = once.0;
-      rest_within = All-tail (λ flow. flow < length s.lists.queues) head.flow (head.new_flows ++ head.old_flows) within;
-      rest_once = once.1;
-    }
-
-head_fits : (s : FairQueues) (head : Head) → AreListed s.lists → HeadIs s head → HeadFits s head
-head_fits s head l (of_new from n o) = fits_at s head l (rw (n, o) refl)
-head_fits s head l (of_old from n none o) = fits_at s head l (rw (n, o, none) refl)
-
--- the lists behind a turn are sound
-sound_to_old : (s : FairQueues) (head : Head) (account : Account) → AreSound s → HeadIs s head → AreSound (record { lists = to_old s head; accounts = set s.accounts head.flow account })
-sound_to_old s head account sound is =
-    let fits = head_fits s head sound.listed is in
-    let e = rotated head.flow head.new_flows head.old_flows in
-    record {
-      listed = record {
-        within = rw e (All-push (λ flow. flow < length s.lists.queues) (head.new_flows ++ head.old_flows) head.flow fits.rest_within fits.within);
-        once = rw e (distinct_push (head.new_flows ++ head.old_flows) head.flow fits.rest_once fits.apart);
-      };
-      accounts = length-set s.accounts head.flow account ∙ sound.accounts;
-    }
-
-sound_unlisted : (s : FairQueues) (head : Head) (account : Account) → AreSound s → HeadIs s head → AreSound (record { lists = unlisted s head; accounts = set s.accounts head.flow account })
-sound_unlisted s head account sound is =
-    let fits = head_fits s head sound.listed is in
-    record {
-      listed = record { within = fits.rest_within; once = fits.rest_once };
-      accounts = length-set s.accounts head.flow account ∙ sound.accounts;
-    }
-
--- the two halves of what is apart
-apart_parts : (flow : ℕ) (ms ns : List ℕ) → All (λ other. other ≢ flow) (ms ++ ns) → All (λ other. other ≢ flow) ms × All (λ other. other ≢ flow) ns
-apart_parts flow [] ns h = (All-nil (λ other. other ≢ flow), h)
-apart_parts flow (m ∷ ms) ns h =
-    let rest = apart_parts flow ms ns (All-tail (λ other. other ≢ flow) m (ms ++ ns) h) in
-    (All-cons (λ other. other ≢ flow) m ms (All-head (λ other. other ≢ flow) m (ms ++ ns) h) rest.0, rest.1)
-
-module _ (p : Policy) (some_quantum : 0 < p.quantum) where
-  abbrev owed : List Account → ℕ → ℕ
-  owed accounts flow = owed_in p.quantum accounts flow
-
-  -- the bound before a turn, by its head
-  bound_before : (s : FairQueues) (head : Head) → HeadIs s head
-      → ((head.from ≡ New) × (turns_at_most p.quantum s ≡ (owed s.accounts head.flow + 2) + turns_in p.quantum 2 s.accounts head.new_flows + turns_in p.quantum 1 s.accounts head.old_flows))
-      ⊎ ((head.from ≡ Old) × (turns_at_most p.quantum s ≡ (owed s.accounts head.flow + 1) + turns_in p.quantum 2 s.accounts head.new_flows + turns_in p.quantum 1 s.accounts head.old_flows))
-  bound_before s head (of_new from n o) =
-      let first = sum_by-cons (λ flow. owed s.accounts flow + 2) head.flow head.new_flows in
-      inl (from, rw (n, o, first) refl)
-  bound_before s head (of_old from n none o) =
-      let first = sum_by-cons (λ flow. owed s.accounts flow + 1) head.flow head.old_flows in
-      inr (from, rw (n, o, none, first) (omega arith))
-
-  -- and behind one, where the flow goes to the end of the list of old flows
-  bound_to_old : (s : FairQueues) (head : Head) (account : Account) → AreSound s → HeadIs s head
-      → turns_at_most p.quantum (record { lists = to_old s head; accounts = set s.accounts head.flow account })
-      ≡ turns_in p.quantum 2 s.accounts head.new_flows + turns_in p.quantum 1 s.accounts head.old_flows + (quanta_owed p.quantum account.credits + 1)
-  bound_to_old s head account sound is =
-      let fits = head_fits s head sound.listed is in
-      let apart = apart_parts head.flow head.new_flows head.old_flows fits.apart in
-      let own : owed (set s.accounts head.flow account) head.flow ≡ quanta_owed p.quantum account.credits = ap (λ (a : Account). quanta_owed p.quantum a.credits) (get_or-set_same s.accounts head.flow account new_account (rw sound.accounts fits.within)) in
-      rw (sum_by_push (λ flow. owed (set s.accounts head.flow account) flow + 1) head.old_flows head.flow, own, turns_in_same p.quantum 2 s.accounts head.flow account head.new_flows apart.0, turns_in_same p.quantum 1 s.accounts head.flow account head.old_flows apart.1)
-      (omega arith)
-
-  bound_unlisted : (s : FairQueues) (head : Head) (account : Account) → AreSound s → HeadIs s head
-      → turns_at_most p.quantum (record { lists = unlisted s head; accounts = set s.accounts head.flow account })
-      ≡ turns_in p.quantum 2 s.accounts head.new_flows + turns_in p.quantum 1 s.accounts head.old_flows
-  bound_unlisted s head account sound is =
-      let apart = apart_parts head.flow head.new_flows head.old_flows (head_fits s head sound.listed is).apart in
-      rw (turns_in_same p.quantum 2 s.accounts head.flow account head.new_flows apart.0, turns_in_same p.quantum 1 s.accounts head.flow account head.old_flows apart.1) refl
-
+module _ (p : Policy) (some_quantum : 0 < p.quantum) (now : ℕ) where
   -- what a turn that doesn't serve leaves is sound, and may take a turn less
-  pub turn_lowers : (now : ℕ) (s next : FairQueues) → AreSound s → Turn p now s None next → AreSound next × (turns_at_most p.quantum next + 1 ≤ turns_at_most p.quantum s)
-  turn_lowers now s next sound (used_up head at credits none e) =
-      let is = head_is s head at in
-      let account = record (account_at s head.flow) { credits = (account_at s head.flow).credits +ℤ pos p.quantum } in
-      let after = bound_to_old s head account sound is in
-      let less : quanta_owed p.quantum account.credits + 1 ≡ owed s.accounts head.flow = owed_less ((account_at s head.flow).credits) credits in
-      rw e (sound_to_old s head account sound is, elim (bound_before s head is) [ inl b ↦ let before = b.1 in omega arith | inr b ↦ let before = b.1 in omega arith ])
+  abbrev Lower : FairQueues → FairQueues → Type 0
+  Lower s next = AreSound next × (turns_at_most p.quantum next + 1 ≤ turns_at_most p.quantum s)
+
+  pub turn_lowers : (s next : FairQueues) (made : TurnMade) → AreSound s → Turn p now s made next → service_by made.kind ≡ None → Lower s next
+  turn_lowers s next made sound t unserved = go made.kind t.does unserved
     where
-      owed_less : (credits : ℤ) → credits ≤ℤ pos 0 → quanta_owed p.quantum (credits +ℤ pos p.quantum) + 1 ≡ quanta_owed p.quantum credits
-      owed_less credits none = go (quanta_owed p.quantum credits) refl
-        where
-          go : (n : ℕ) → quanta_owed p.quantum credits ≡ n → quanta_owed p.quantum (credits +ℤ pos p.quantum) + 1 ≡ quanta_owed p.quantum credits
-          go zero is = let enough = (subst (AreQuantaOwed p.quantum credits) is (quanta_owed_is p.quantum credits some_quantum)).enough in absurd (omega (arith, ints))
-          go (suc n) is =
-              let now' = subst (AreQuantaOwed p.quantum credits) is (quanta_owed_is p.quantum credits some_quantum) in
-              let same = owed_once p.quantum (credits +ℤ pos p.quantum) _ n (quanta_owed_is p.quantum (credits +ℤ pos p.quantum) some_quantum) (one_owed_less p.quantum credits n now') in
-              omega arith
-  turn_lowers now s next sound (emptied_new head at from credits empty mark codel verdict none e) =
-      let is = head_is s head at in
-      let account = record (account_at s head.flow) { codel = codel } in
-      let after = bound_to_old s head account sound is in
-      rw e (sound_to_old s head account sound is, elim (bound_before s head is) [ inl b ↦ let before = b.1 in omega arith | inr b ↦ absurd (let e : New ≡ Old = sym from ∙ b.0 in cc) ])
-  turn_lowers now s next sound (emptied_old head at from credits empty mark codel verdict none e) =
-      let is = head_is s head at in
-      let account = record (account_at s head.flow) { codel = codel } in
-      let after = bound_unlisted s head account sound is in
-      rw e (sound_unlisted s head account sound is, elim (bound_before s head is) [ inl b ↦ absurd (let e : New ≡ Old = sym b.0 ∙ from in cc) | inr b ↦ let before = b.1 in omega arith ])
-  turn_lowers now s next sound (serving head at credits drops mark codel verdict w found some e) = absurd cc
+      left : (from : FlowList) (account : Account) → next ≡ with_account s (emptied_by from s.lists made.head) made.head.flow account → left_for from (quanta_owed p.quantum account.credits) + 1 ≤ owed p.quantum s.accounts made.head.flow + extra made.head.from → Lower s next
+      left from account is less =
+          let before = bound_before p.quantum s.accounts s.lists made.head t.looks in
+          let after = bound_behind p.quantum s made.head account sound t.looks from in
+          rw is (sound_behind s made.head account sound t.looks from, omega arith)
+
+      go : (kind : TurnKind) → Does p now s made.head kind next → service_by kind ≡ None → Lower s next
+      go used_up d none =
+          let less = raised_owed p.quantum ((account_at s made.head.flow).credits) some_quantum d.credits in
+          let more = some_extra made.head.from in
+          left New (record (account_at s made.head.flow) { credits = (account_at s made.head.flow).credits +ℤ pos p.quantum }) d.leaves (omega arith)
+      go emptied d none = left made.head.from (record (account_at s made.head.flow) { codel = d.codel }) d.leaves (less_left made.head.from (owed p.quantum s.accounts made.head.flow))
+      go (serving service) d none = absurd cc
 
   -- one turn at least may be made where a flow is listed
   turn_left : (s : FairQueues) (head : Head) → head_of s ≡ Some head → 1 ≤ turns_at_most p.quantum s
-  turn_left s head at = elim (bound_before s head (head_is s head at)) [ inl b ↦ let before = b.1 in omega arith | inr b ↦ let before = b.1 in omega arith ]
-
-  turn_has_head : (now : ℕ) (s : FairQueues) (service : Option Service) (next : FairQueues) → Turn p now s service next → (head : Head) × (head_of s ≡ Some head)
-  turn_has_head now s service next (used_up head at credits none e) = (head, at)
-  turn_has_head now s service next (emptied_new head at from credits empty mark codel verdict none e) = (head, at)
-  turn_has_head now s service next (emptied_old head at from credits empty mark codel verdict none e) = (head, at)
-  turn_has_head now s service next (serving head at credits drops mark codel verdict w found some e) = (head, at)
+  turn_left s head at = let before = bound_before p.quantum s.accounts s.lists head at in let some = some_extra head.from in omega arith
 
   -- the bound on turns
-  pub chain_bound : (turns now : ℕ) (s : FairQueues) (service : Option Service) (new : FairQueues) → AreSound s → Chain p now s turns service new → turns ≤ turns_at_most p.quantum s
-  chain_bound zero now s service new sound c = omega arith
-  chain_bound (suc more) now s service new sound (inl c) = let has = turn_has_head now s (Some c.1) new c.3 in let left = turn_left s has.0 has.1 in let last = c.0 in omega arith
-  chain_bound (suc more) now s service new sound (inr c) =
-      let lower = turn_lowers now s c.0 sound c.1 in
-      let rest = chain_bound more now c.0 service new lower.0 c.2 in
+  pub chain_bound : (turns : List TurnMade) (s new : FairQueues) → AreSound s → Chain p now s turns new → length turns ≤ turns_at_most p.quantum s
+  chain_bound [] s new sound c = omega arith
+  chain_bound (made ∷ more) s new sound (inl c) = let left = turn_left s made.head c.3.looks in let last = ap length c.2 in omega arith
+  chain_bound (made ∷ more) s new sound (inr c) =
+      let lower = turn_lowers s c.0 made sound c.2 c.1 in
       let less = lower.1 in
+      let rest = chain_bound more c.0 new lower.0 c.3 in
       omega arith
 
-module _ (p : Policy) (decided : IsDecided p) where
-  -- there is a chain
-  abbrev ChainThere : ℕ → FairQueues → Type 0
-  ChainThere now s = (turns : ℕ) × (service : Option Service) × (new : FairQueues) × Chain p now s turns service new
+-- THE CHAIN
 
-  chain_within : (most now : ℕ) (s : FairQueues) → AreSound s → turns_at_most p.quantum s ≤ most → ChainThere now s
-  chain_within zero now s sound few = go (head_of s) refl
+module _ (p : Policy) (decided : IsDecided p) (now : ℕ) where
+  -- there is one
+  abbrev ChainThere : FairQueues → Type 0
+  ChainThere s = (turns : List TurnMade) × (new : FairQueues) × Chain p now s turns new
+
+  one_more : (s : FairQueues) → AreSound s → ((next : FairQueues) → AreSound next → turns_at_most p.quantum next < turns_at_most p.quantum s → ChainThere next) → ChainThere s
+  one_more s sound shorter = go (head_of s) refl
     where
-      go : (h : Option Head) → head_of s ≡ h → ChainThere now s
-      go None at = (0, None, s, (at, refl, refl))
-      go (Some head) at = let left = turn_left p decided.quantum s head at in absurd (omega arith)
-  chain_within (suc most) now s sound few = go (λ next sound' few'. chain_within most now next sound' few') (head_of s) refl
-    where
-      goes_on : ((next : FairQueues) → AreSound next → turns_at_most p.quantum next ≤ most → ChainThere now next) → (service : Option Service) (next : FairQueues) → Turn p now s service next → ChainThere now s
-      goes_on shorter None next t =
-          let lower = turn_lowers p decided.quantum now s next sound t in
+      goes_on : (made : TurnMade) (next : FairQueues) → Turn p now s made next → (o : Option Service) → service_by made.kind ≡ o → ChainThere s
+      goes_on made next t None unserved =
+          let lower = turn_lowers p decided.quantum now s next made sound t unserved in
           let less = lower.1 in
           let rest = shorter next lower.0 (omega arith) in
-          (suc rest.0, rest.1, rest.2, inr (next, t, rest.3))
-      goes_on shorter (Some service) next t = (1, Some service, next, inl (refl, service, refl, t))
+          (made ∷ rest.0, rest.1, inr (next, unserved, t, rest.2))
+      goes_on made next t (Some service) served = (made ∷ [], next, inl (service, served, refl, t))
 
-      go : ((next : FairQueues) → AreSound next → turns_at_most p.quantum next ≤ most → ChainThere now next) → (h : Option Head) → head_of s ≡ h → ChainThere now s
-      go shorter None at = (0, None, s, (at, refl, refl))
-      go shorter (Some head) at = let t = turn_there p decided now s head at in goes_on shorter t.0 t.1 t.2
+      go : (h : Option Head) → head_of s ≡ h → ChainThere s
+      go None at = ([], s, (at, refl))
+      go (Some head) at = let t = turn_there p decided now s head at in goes_on t.0 t.1 t.2 (service_by t.0.kind) refl
 
-  pub chain_there : (now : ℕ) (s : FairQueues) → AreSound s → ChainThere now s
-  chain_there now s sound = chain_within (turns_at_most p.quantum s) now s sound (omega arith)
+  chain_within : (most : ℕ) (s : FairQueues) → AreSound s → turns_at_most p.quantum s ≤ most → ChainThere s
+  chain_within zero s sound few = one_more s sound (λ next sound' less. absurd (omega arith))
+  chain_within (suc most) s sound few = one_more s sound (λ next sound' less. chain_within most next sound' (omega arith))
+
+  pub chain_there : (s : FairQueues) → AreSound s → ChainThere s
+  chain_there s sound = chain_within (turns_at_most p.quantum s) s sound (omega arith)
 
   -- and no other
-  no_head : (now : ℕ) (s : FairQueues) (service : Option Service) (next : FairQueues) → head_of s ≡ None → Turn p now s service next → ⊥
-  no_head now s service next none t = let has = turn_has_head p decided.quantum now s service next t in let e : None ≡ Some has.0 = sym none ∙ has.1 in absurd cc
+  idle_makes_none : (s next : FairQueues) (made : TurnMade) → head_of s ≡ None → Turn p now s made next → ⊥
+  idle_makes_none s next made none t = let e : None ≡ Some made.head = sym none ∙ t.looks in absurd cc
 
-  pub chain_once : (turns turns' now : ℕ) (s : FairQueues) (service service' : Option Service) (new new' : FairQueues) → Chain p now s turns service new → Chain p now s turns' service' new'
-      → (turns ≡ turns') × (service ≡ service') × (new ≡ new')
-  chain_once zero zero now s service service' new new' c c' = (refl, c.1 ∙ sym c'.1, c.2 ∙ sym c'.2)
-  chain_once zero (suc more) now s service service' new new' c (inl c') = absurd (no_head now s (Some c'.1) new' c.0 c'.3)
-  chain_once zero (suc more) now s service service' new new' c (inr c') = absurd (no_head now s None c'.0 c.0 c'.1)
-  chain_once (suc more) zero now s service service' new new' (inl c) c' = absurd (no_head now s (Some c.1) new c'.0 c.3)
-  chain_once (suc more) zero now s service service' new new' (inr c) c' = absurd (no_head now s None c.0 c'.0 c.1)
-  chain_once (suc more) (suc more') now s service service' new new' (inl c) (inl c') =
-      let same = turn_once p decided now s (Some c.1) (Some c'.1) new new' c.3 c'.3 in
-      (ap suc (c.0 ∙ sym c'.0), c.2 ∙ same.0 ∙ sym c'.2, same.1)
-  chain_once (suc more) (suc more') now s service service' new new' (inl c) (inr c') = let same = turn_once p decided now s (Some c.1) None new c'.0 c.3 c'.1 in absurd (let e = same.0 in cc)
-  chain_once (suc more) (suc more') now s service service' new new' (inr c) (inl c') = let same = turn_once p decided now s None (Some c'.1) c.0 new' c.1 c'.3 in absurd (let e = same.0 in cc)
-  chain_once (suc more) (suc more') now s service service' new new' (inr c) (inr c') =
-      let same = turn_once p decided now s None None c.0 c'.0 c.1 c'.1 in
-      let rest = chain_once more more' now c.0 service service' new new' c.2 (subst (λ (s : FairQueues). Chain p now s more' service' new') (sym same.1) c'.2) in
-      (ap suc rest.0, rest.1, rest.2)
+  serves_or_not : (made made' : TurnMade) (service : Service) → made ≡ made' → service_by made.kind ≡ Some service → service_by made'.kind ≡ None → ⊥
+  serves_or_not made made' service same some none = let e : Some service ≡ None = sym some ∙ ap (λ (m : TurnMade). service_by m.kind) same ∙ none in absurd cc
+
+  pub chain_once : (turns turns' : List TurnMade) (s new new' : FairQueues) → Chain p now s turns new → Chain p now s turns' new' → (turns ≡ turns') × (new ≡ new')
+  chain_once [] [] s new new' c c' = (refl, c.1 ∙ sym c'.1)
+  chain_once [] (made' ∷ more') s new new' c (inl c') = absurd (idle_makes_none s new' made' c.0 c'.3)
+  chain_once [] (made' ∷ more') s new new' c (inr c') = absurd (idle_makes_none s c'.0 made' c.0 c'.2)
+  chain_once (made ∷ more) [] s new new' (inl c) c' = absurd (idle_makes_none s new made c'.0 c.3)
+  chain_once (made ∷ more) [] s new new' (inr c) c' = absurd (idle_makes_none s c.0 made c'.0 c.2)
+  chain_once (made ∷ more) (made' ∷ more') s new new' (inl c) (inl c') =
+      let same = turn_once p decided now s made made' new new' c.3 c'.3 in
+      ((λ i. same.0 i ∷ (c.2 ∙ sym c'.2) i), same.1)
+  chain_once (made ∷ more) (made' ∷ more') s new new' (inl c) (inr c') = absurd (serves_or_not made made' c.0 (turn_once p decided now s made made' new c'.0 c.3 c'.2).0 c.1 c'.1)
+  chain_once (made ∷ more) (made' ∷ more') s new new' (inr c) (inl c') = absurd (serves_or_not made' made c'.0 (turn_once p decided now s made' made new' c.0 c'.3 c.2).0 c'.1 c.1)
+  chain_once (made ∷ more) (made' ∷ more') s new new' (inr c) (inr c') =
+      let same = turn_once p decided now s made made' c.0 c'.0 c.2 c'.2 in
+      let rest = chain_once more more' c.0 new new' c.3 (subst (λ (next : FairQueues). Chain p now next more' new') (sym same.1) c'.3) in
+      ((λ i. same.0 i ∷ rest.0 i), rest.1)

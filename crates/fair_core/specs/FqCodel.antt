@@ -8,7 +8,8 @@ use Rattle.fair_core.specs.FairQueues.{FairQueues}
 use Rattle.fair_core.specs.Overflow.{Overflow}
 use Rattle.fair_core.specs.Turns.{Policy}
 
--- CoDel drops from the queue that is served (RFC 8289, section 5), and the fattest flow loses packets where too many wait.
+-- CoDel drops from the queue that is served (RFC 8289, section 5), and the fattest flow loses packets where too many
+-- wait.
 abbrev pub fq_codel_policy : ParamFields → Policy
 fq_codel_policy p = record {
   quantum = p.quantum;

@@ -18,11 +18,14 @@ pub record IsFirstReady (s : FairQueues) (flow : ℕ) : Type 0 where
   pub ready : IsReady s flow
   pub others : All (λ other. ¬ IsReady s other) before
 
--- That service is the flow's: what is dropped and what is given stood at the head of its queue, and no other queue changed.
-pub record SendsFrom (flow : ℕ) (queues : List (List Waiting)) (service : Option Service) (queues' : List (List Waiting)) : Type 0 where
+-- That service is the flow's: what is dropped and what is given stood at the head of its queue, and no other queue
+-- changed.
+pub record SendsFrom (flow : ℕ) (queues : List (List Waiting)) (service : Option Service)
+    (queues' : List (List Waiting)) : Type 0 where
   pub drops : ℕ
   pub mark : Mark
   pub given : Waiting
   pub stands : slice_get (get_or queues flow []) drops ≡ Some given
-  pub served : service ≡ Some (record { dropped = take drops (get_or queues flow []); given = record { waiting = given; mark = mark } })
+  pub served : service
+      ≡ Some (record { dropped = take drops (get_or queues flow []); given = record { waiting = given; mark = mark } })
   pub rest : queues' ≡ set queues flow (drop (drops + 1) (get_or queues flow []))

@@ -6,8 +6,8 @@ use Rattle.codel_core.specs.declared.state.CodelState.{CodelState}
 use Rattle.journal_core.specs.Disciplines.{Batch, LeaveHeads, MayHave}
 use Rattle.fair_core.specs.Turns.{Policy}
 
--- The laws of the journal ask this of a policy: it marks only packets that may be marked, and what overflows leaves from the heads of
--- the queues.
+-- The laws of the journal ask this of a policy: it marks only packets that may be marked, and what overflows leaves
+-- from the heads of the queues.
 pub record DropsFromHeads (p : Policy) : Type 0 where
   pub honest : (now : ℕ) (queue : List Waiting) (codel : CodelState) (drops : ℕ) (mark : Mark) (codel' : CodelState)
       → p.verdict now queue codel drops mark codel'
@@ -26,8 +26,10 @@ pub record IsDecided (p : Policy) : Type 0 where
   pub gives : (now : ℕ) (w : Waiting) (queue : List Waiting) (codel : CodelState)
       → (drops : ℕ) × (mark : Mark) × (codel' : CodelState) × (given : Waiting)
       × (p.verdict now (w ∷ queue) codel drops mark codel') × (slice_get (w ∷ queue) drops ≡ Some given)
-  pub empties : (now : ℕ) (codel : CodelState) → (mark : Mark) × (codel' : CodelState) × p.verdict now [] codel 0 mark codel'
-  pub once : (now : ℕ) (queue : List Waiting) (codel : CodelState) (drops drops' : ℕ) (mark mark' : Mark) (codel' codel'' : CodelState)
+  pub empties : (now : ℕ) (codel : CodelState)
+      → (mark : Mark) × (codel' : CodelState) × p.verdict now [] codel 0 mark codel'
+  pub once : (now : ℕ) (queue : List Waiting) (codel : CodelState)
+      (drops drops' : ℕ) (mark mark' : Mark) (codel' codel'' : CodelState)
       → p.verdict now queue codel drops mark codel' → p.verdict now queue codel drops' mark' codel''
       → (drops ≡ drops') × (mark ≡ mark') × (codel' ≡ codel'')
   pub overflows : (queues : List (List Waiting)) → All (All (λ w. IsLengthInRange w.packet.len)) queues

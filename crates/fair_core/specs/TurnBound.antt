@@ -12,8 +12,8 @@ quanta_owed quantum (pos zero) = 1
 quanta_owed quantum (pos (suc n)) = 0
 quanta_owed quantum (negsuc n) = suc n / quantum + 1
 
--- At most so many turns are made until a packet is given: as many for each listed flow as quanta bring its credits above 0, and one more
--- for an old flow, two for a new one.
+-- At most so many turns are made until a packet is given: as many for each listed flow as quanta bring its credits
+-- above 0, and one more for an old flow, two for a new one.
 abbrev pub turns_at_most : ℕ → FairQueues → ℕ
 turns_at_most quantum s =
     sum_by (λ flow. quanta_owed quantum ((account_at s flow).credits) + 2) s.lists.new_flows

@@ -1,15 +1,13 @@
 //! The packets that wait in flows that take turns, and what arrives, is served and overflows.
 
-ghost use Rattle.std.specs.Prelude.{◌≡◌, ℕ, ◌+◌, ◌^◌, ◌<◌, ◌≤◌, IfOk, IfSome, OnErr, OnOk, Some, length, min, option_map, pos, take, ◌<ℤ◌, ◌≤ℤ◌};
+ghost use Rattle.std.specs.Prelude.{◌≡◌, ℕ, ◌+◌, ◌^◌, ◌<◌, ◌≤◌, IfOk, IfSome, OnErr, OnOk, Some, length, min, pos, ◌<ℤ◌, ◌≤ℤ◌};
 ghost use Rattle.codel_core.specs.Schedule.{IsStateInRange};
 ghost use Rattle.flow_core.specs.FlowLists.{queue_at, waiting_in};
 ghost use Rattle.flow_core.specs.Winners.{CountsFew};
-ghost use Rattle.fair_core.specs.Backlogs.{DropsOverflow, MakesTurn, ServesChain, ServesFlow, ServesQueue, emptied_lists, list_of, shown_head, with_arrival_listed, with_credits_raised, with_lists, without_head};
-ghost use Rattle.journal_core.specs.JournalDrops.{with_drops};
+ghost use Rattle.fair_core.specs.Backlogs.{DropsHeads, DropsOverflow, MakesChain, MakesTurn, ServesFlow, ServesQueue, with_arrival_listed, with_credits_raised, with_lists};
 ghost use Rattle.fair_core.specs.Shown.{flow_shown};
 ghost use Rattle.fair_core.specs.TurnBound.{turns_at_most};
-ghost use Rattle.journal_core.specs.declared.event.Cause.TheVariants as cause;
-ghost use Rattle.fair_core.specs.FairQueues.{AreSound, account_at, head_of, no_queues, to_old};
+ghost use Rattle.fair_core.specs.FairQueues.{AreSound, account_at, emptied_lists, head_of, no_queues, to_old};
 
 use crate::account::Account;
 use crate::flow_view::FlowView;
@@ -141,7 +139,7 @@ impl Backlog {
 
     /// The flow that a turn looks at (RFC 8290, section 4.2).
     fn head(&self) -> Option<Head>
-        ensures value { result ≡ option_map shown_head (head_of self.now.queues) }
+        ensures value { result ≡ head_of self.now.queues }
         ensures within { IfSome result (λ head. head.flow < length self.now.queues.lists.queues) }
         ensures sound { AreSound self.now.queues }
         ensures bound { (quantum : ℕ) → 0 < quantum → turns_at_most quantum self.now.queues ≤ 2 ^ 40 }
@@ -170,8 +168,10 @@ impl Backlog {
         ensures queues { self.new.queues ≡ with_arrival_listed params.now self.old.queues flow waiting }
         ensures arrived { self.new.arrived ≡ self.old.arrived + 1 }
         ensures room { self.new.room + 1 ≡ self.old.room }
-        ensures few_comparisons { CountsFew (length self.old.queues.lists.queues) 1 self.old.comparisons self.new.comparisons }
-        ensures compares { 2 ≤ length self.old.queues.lists.queues → min (self.old.comparisons + 1) u64.MAX ≤ self.new.comparisons }
+        ensures few_comparisons { CountsFew (length self.old.queues.lists.queues) 1
+            self.old.comparisons self.new.comparisons }
+        ensures compares { 2 ≤ length self.old.queues.lists.queues
+            → min (self.old.comparisons + 1) u64.MAX ≤ self.new.comparisons }
     {
         self.flows.push(flow, waiting);
         self.arrived += 1;
@@ -208,7 +208,7 @@ impl Backlog {
     ) -> Serving
         requires moment { now < 2 ^ 60 }
         requires room { waiting_in self.old.queues.lists ≤ journal.old.room }
-        ensures chain { ServesChain params.now now self.old journal.old result.turns result.served self.new journal.new }
+        ensures chain { MakesChain params.now now self.old journal.old result.turns result.served self.new journal.new }
         ensures arrived { self.new.arrived ≡ self.old.arrived }
         ensures room { self.new.room ≡ self.old.room }
         ensures sound { AreSound self.old.queues }
@@ -240,7 +240,7 @@ impl Backlog {
         params: &Params,
         journal: &mut Journal<K>,
     ) -> Option<Served>
-        requires head { option_map shown_head (head_of self.old.queues) ≡ Some head }
+        requires head { head_of self.old.queues ≡ Some head }
         requires flow { head.flow < length self.old.queues.lists.queues }
         requires moment { now < 2 ^ 60 }
         requires room { waiting_in self.old.queues.lists ≤ journal.old.room }
@@ -248,12 +248,12 @@ impl Backlog {
     {
         if self.credits(head.flow) <= 0 {
             self.raise_credits(head.flow, params);
-            self.move_to_old(head.from);
+            self.move_to_old(head);
             return None;
         }
         let served = self.serve_flow(head.flow, now, params, journal);
         if served.is_none() {
-            self.leave(head.from);
+            self.leave(head);
         }
         served
     }
@@ -275,23 +275,23 @@ impl Backlog {
         self.accounts[flow as usize].credits += i64::from(params.quantum());
     }
 
-    /// The flow at the head of that list goes to the end of the list of old flows.
-    fn move_to_old(&mut self, from: FlowList)
-        requires { option_map list_of (head_of self.old.queues) ≡ Some from }
-        ensures { IfSome (head_of self.old.queues) (λ head. self.new ≡ with_lists self.old (to_old self.old.queues head)) }
+    /// The flow at the head of the lists goes to the end of the list of old flows.
+    fn move_to_old(&mut self, head: Head)
+        requires { head_of self.old.queues ≡ Some head }
+        ensures { self.new ≡ with_lists self.old (to_old self.old.queues.lists head) }
     {
-        match from {
+        match head.from {
             FlowList::New => self.flows.new_to_old(),
             FlowList::Old => self.flows.rotate_old(),
         }
     }
 
-    /// The flow at the head of that list has no packet: a new flow becomes an old one, and an old flow leaves.
-    fn leave(&mut self, from: FlowList)
-        requires { option_map list_of (head_of self.old.queues) ≡ Some from }
-        ensures { IfSome (head_of self.old.queues) (λ head. self.new ≡ with_lists self.old (emptied_lists self.old.queues head)) }
+    /// The flow at the head of the lists has no packet: a new flow becomes an old one, and an old flow leaves.
+    fn leave(&mut self, head: Head)
+        requires { head_of self.old.queues ≡ Some head }
+        ensures { self.new ≡ with_lists self.old (emptied_lists self.old.queues.lists head) }
     {
-        match from {
+        match head.from {
             FlowList::New => self.flows.new_to_old(),
             FlowList::Old => self.flows.leave_old(),
         }
@@ -359,9 +359,7 @@ fn drop_batch<K: Keeps>(
 )
     requires flow { flow < length flows.old.lists.queues }
     requires room { length (queue_at flows.old.lists flow) ≤ journal.old.room }
-    ensures flows { flows.new ≡ without_head flows.old flow batch flows.new.comparisons }
-    ensures few_comparisons { CountsFew (length flows.old.lists.queues) (length (take batch (queue_at flows.old.lists flow))) flows.old.comparisons flows.new.comparisons }
-    ensures journal { journal.new ≡ with_drops journal.old moment cause.Overflow (take batch (queue_at flows.old.lists flow)) }
+    ensures { DropsHeads flow batch moment flows.old journal.old flows.new journal.new }
 {
     for _ in 0..batch {
         if let Some(dropped) = flows.pop(flow) {

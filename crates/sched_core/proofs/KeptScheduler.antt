@@ -22,7 +22,7 @@ use Rattle.journal_core.specs.declared.outcome.Answer.{Answer}
 use Rattle.journal_core.specs.declared.outcome.Answer.TheVariants as answer
 use Rattle.journal_core.specs.declared.step.Step.{Step}
 use Rattle.journal_core.specs.declared.step.Step.TheVariants.{Enqueue, Dequeue, Close}
-use Rattle.fair_core.specs.Backlogs.{DropsOverflow, Held, ServesChain, leaving, shown_service, with_arrival_listed}
+use Rattle.fair_core.specs.Backlogs.{DropsOverflow, Held, MakesChain, leaving, shown_service, with_arrival_listed}
 use Rattle.journal_core.specs.Books.{Book, count_accepted, count_drops, count_sent, with_event}
 use Rattle.journal_core.specs.Calls.{Advances, Standing, sent_at}
 use Rattle.journal_core.specs.Disciplines.{Batch, Given, IsFifoByFlow, given_packet, heads, packets_of, with_arrival}
@@ -40,7 +40,7 @@ use Rattle.sched_core.specs.Schedulers.{ComparesFew, IsServed, Scheduler, discip
 use Rattle.journal_core.specs.State.{State, arrival, refusal_of}
 use Rattle.journal_core.specs.Statistics.{length_named, statistics}
 use Rattle.journal_core.specs.Steps.{Serves, dequeue_answer, drop_event, sent_events}
-use Rattle.fair_core.specs.Turns.{Service}
+use Rattle.fair_core.specs.Turns.{Service, service_in}
 use Rattle.flow_core.proofs.NodeLemmas.{levels_least}
 use Rattle.flow_core.proofs.ReadLemmas.{length-at}
 use Rattle.journal_core.proofs.CountLemmas.{counts_accept, counts_close, counts_drops, counts_send}
@@ -57,7 +57,8 @@ use Rattle.fair_core.proofs.FairFifo.{fair_is_fifo}
 use Rattle.fair_core.proofs.FqCodelPolicy.{policy_drops}
 use Rattle.fair_core.proofs.NewFlowsFirst.{new_flows_first}
 use Rattle.fair_core.proofs.ServingChains.{chain_bound}
-use Rattle.sched_core.proofs.FqCodelRuns.{flow_below, steps_as_many}
+use Rattle.fair_core.proofs.SoundFlows.{makes_as_many}
+use Rattle.sched_core.proofs.FqCodelRuns.{flow_below}
 
 -- the least number of doublings that gives each flow a leaf
 levels_over : (flows : ℕ) → (levels : ℕ) × IsLevels flows levels
@@ -121,7 +122,7 @@ module _ (p : ParamFields) (seed : Seed) where
       → room' ≤ spare' → room' + new.next_id ≡ room + old.next_id → IsBookKept p seed new spare' book' room'
   kept_on {old} {new} {spare} {spare'} {room} {room'} {book} {book'} step said h a taken counts each few soon reserved rooms =
       let d = fq_codel p seed in
-      let flows = steps_as_many (fq_codel_policy p) (policy_drops p) p.flows d.flow_of old new step said a.made (rw a.fits a.makes) ∙ h.flows in
+      let flows = makes_as_many (fq_codel_policy p) (policy_drops p) p.flows d.flow_of old new step said a.made a.makes ∙ h.flows in
       let history : IsHistory d.flow_of (queue_of new.queues) book'.events new.next_id new.last new.closed =
       rw a.journal (keeps_makes d queue_of fifo old new step said a.made book.events a.fits a.makes h.history) in
       let waits = waits_at old book.events h.some h.flows h.history in
@@ -297,53 +298,51 @@ module _ (p : ParamFields) (seed : Seed) where
   abbrev seen : State FairQueues → Book → ℕ → ℕ → ℕ → Scheduler
   seen s book turns comparisons room = record { params = p; seed = seed; standing = standing_of s book; turns = turns; comparisons = comparisons; room = room }
 
-  module _ {held held' : Held} {book book' : Book} {moment turns : ℕ} {answer : Option Served} (s : ServesChain p moment held book turns answer held' book') where
-    served_next : ServesNext (fq_codel_policy p) moment held.queues (dropped_in s.service) (given_in s.service) held'.queues
-    served_next = record { turns = turns; service = s.service; chain = s.chain; dropped_by = refl; given_by = refl }
+  module _ {held held' : Held} {book book' : Book} {moment turns : ℕ} {answer : Option Served} (s : MakesChain p moment held book turns answer held' book') where
+    served_next : ServesNext (fq_codel_policy p) moment held.queues (dropped_in (service_in s.turns)) (given_in (service_in s.turns)) held'.queues
+    served_next = record { turns = s.turns; chain = s.chain; dropped_by = refl; given_by = refl }
 
-    book_is : with_sent book' moment answer ≡ served_book book moment s.service
-    book_is = ap (with_sent book' moment) s.given ∙ ap (λ b. with_sent b moment (option_map shown_service s.service)) s.journal
+    book_is : with_sent book' moment answer ≡ served_book book moment (service_in s.turns)
+    book_is = ap (with_sent book' moment) s.answers.given ∙ ap (λ b. with_sent b moment (option_map shown_service (service_in s.turns))) s.answers.journal
 
-    journal_is : (with_sent book' moment answer).events ≡ book.events ++ served_events moment s.service
-    journal_is = ap (λ (b : Book). b.events) book_is ∙ served_grown book moment s.service
+    journal_is : (with_sent book' moment answer).events ≡ book.events ++ served_events moment (service_in s.turns)
+    journal_is = ap (λ (b : Book). b.events) book_is ∙ served_grown book moment (service_in s.turns)
 
     -- what the code does in a dequeue is one of the definition
     served : (last : ℕ) (closed : Bool) → held'.arrived ≡ held.arrived
-        → Serves (fq_codel p seed) (state_of held last closed) moment (given_in s.service) (served_events moment s.service) (state_of held' moment closed)
-    served last closed arrived = record { dropped = dropped_in s.service; queues = served_next; told = refl; next_id = arrived; last = refl; closed = refl }
+        → Serves (fq_codel p seed) (state_of held last closed) moment (given_in (service_in s.turns)) (served_events moment (service_in s.turns)) (state_of held' moment closed)
+    served last closed arrived = record { dropped = dropped_in (service_in s.turns); queues = served_next; told = refl; next_id = arrived; last = refl; closed = refl }
 
     -- what leaves stood at the head of one queue
-    left_head : (flow : ℕ) × (queue_of held.queues flow ≡ packets_in s.service ++ queue_of held'.queues flow)
+    left_head : (flow : ℕ) × (queue_of held.queues flow ≡ packets_in (service_in s.turns) ++ queue_of held'.queues flow)
     left_head =
-        let leaves = ((fifo p seed).serves held.queues moment (dropped_in s.service) (given_in s.service) held'.queues served_next).0 in
+        let leaves = ((fifo p seed).serves held.queues moment (dropped_in (service_in s.turns)) (given_in (service_in s.turns)) held'.queues served_next).0 in
         (leaves.0, rw (eq-eqb leaves.0 leaves.0 refl) at (leaves.1 leaves.0))
 
   -- a dequeue
-  pub kept_serves : (held held' : Held) (book book' : Book) (last moment turns room : ℕ) (closed : Bool) (answer : Option Served) → ServesChain p moment held book turns answer held' book'
+  pub kept_serves : (held held' : Held) (book book' : Book) (last moment turns room : ℕ) (closed : Bool) (answer : Option Served) → MakesChain p moment held book turns answer held' book'
       → held'.arrived ≡ held.arrived → held'.room ≡ held.room → refusal_of (state_of held last closed) (Dequeue moment) ≡ None
       → IsBookKept p seed (state_of held last closed) held.room book room → IsBookKept p seed (state_of held' moment closed) held'.room (with_sent book' moment answer) room
   kept_serves held held' book book' last moment turns room closed answer s arrived same_room fits h =
       let left = left_head s in
       let waiting = waiting_known (fq_codel p seed).flow_of (queue_of held.queues) book.events held.arrived last closed h.history left.0 in
-      let named = (ByRecursion-parts (IsNamed book.events) (packets_in s.service) (queue_of held'.queues left.0) (rw left.1 at waiting)).0 in
-      kept_on p seed (Dequeue moment) (dequeue_answer (given_in s.service)) h (record { fits = fits; made = served_events moment s.service; makes = (given_in s.service, refl, served s last closed arrived); journal = journal_is s })
-      (rw (book_is s) (served_room book moment s.service)) (rw (book_is s) (served_counts book moment s.service named h.counts))
-      (omega (arith, all_fates moment cause.Codel (dropped_in s.service) (given_in s.service))) (rw arrived h.few) (dequeue_next (state_of held last closed) moment fits).soon (rw same_room h.reserved) (ap (λ n. room + n) arrived)
+      let named = (ByRecursion-parts (IsNamed book.events) (packets_in (service_in s.turns)) (queue_of held'.queues left.0) (rw left.1 at waiting)).0 in
+      kept_on p seed (Dequeue moment) (dequeue_answer (given_in (service_in s.turns))) h (record { fits = fits; made = served_events moment (service_in s.turns); makes = (given_in (service_in s.turns), refl, served s last closed arrived); journal = journal_is s })
+      (rw (book_is s) (served_room book moment (service_in s.turns))) (rw (book_is s) (served_counts book moment (service_in s.turns) named h.counts))
+      (omega (arith, all_fates moment cause.Codel (dropped_in (service_in s.turns)) (given_in (service_in s.turns)))) (rw arrived h.few) (dequeue_next (state_of held last closed) moment fits).soon (rw same_room h.reserved) (ap (λ n. room + n) arrived)
 
   -- what is answered to a dequeue
-  pub is_served : (held held' : Held) (book book' : Book) (last moment turns0 turns before after room : ℕ) (closed : Bool) (answer : Option Served) (s : ServesChain p moment held book turns answer held' book')
+  pub is_served : (held held' : Held) (book book' : Book) (last moment turns0 turns before after room : ℕ) (closed : Bool) (answer : Option Served) (s : MakesChain p moment held book turns answer held' book')
       → held'.arrived ≡ held.arrived → AreSound held.queues → 0 < p.quantum → refusal_of (state_of held last closed) (Dequeue moment) ≡ None
-      → IsServed (seen (state_of held last closed) book turns0 before room) moment (option_map (λ (s : Service). sent_at moment s.given) s.service)
+      → IsServed (seen (state_of held last closed) book turns0 before room) moment (option_map (λ (s : Service). sent_at moment s.given) (service_in s.turns))
       (seen (state_of held' moment closed) (with_sent book' moment answer) turns after room)
   is_served held held' book book' last moment turns0 turns before after room closed answer s arrived sound some fits =
-      let made = served_events moment s.service in
+      let made = served_events moment (service_in s.turns) in
       record {
-        gives = record { fits = fits; given = given_in s.service; made = made; serves = served s last closed arrived; journal = journal_is s; told = told s.service };
-        service = s.service;
-        chain = s.chain;
-        told = refl;
-        bound = chain_bound (fq_codel_policy p) some turns moment held.queues s.service held'.queues sound s.chain;
-        new_first = λ flow first. new_flows_first (fq_codel_policy p) some moment turns held.queues s.service held'.queues flow sound first s.chain;
+        gives = record { fits = fits; given = given_in (service_in s.turns); made = made; serves = served s last closed arrived; journal = journal_is s; told = told (service_in s.turns) };
+        turns = s.count_is;
+        bound = rw s.count_is (chain_bound (fq_codel_policy p) some moment s.turns held.queues held'.queues sound s.chain);
+        new_first = λ flow first. new_flows_first (fq_codel_policy p) some moment s.turns held.queues held'.queues flow sound first s.chain;
         params = refl;
         seed = refl;
         room = refl;
@@ -354,12 +353,12 @@ module _ (p : ParamFields) (seed : Seed) where
       told (Some s) = refl
 
   -- the comparisons of a dequeue
-  pub few_served : (held held' : Held) (book book' : Book) (last moment turns0 turns before room : ℕ) (closed : Bool) (answer : Option Served) → ServesChain p moment held book turns answer held' book'
+  pub few_served : (held held' : Held) (book book' : Book) (last moment turns0 turns before room : ℕ) (closed : Bool) (answer : Option Served) → MakesChain p moment held book turns answer held' book'
       → length held.queues.lists.queues ≡ p.flows → held.comparisons ≡ 0
       → ComparesFew (seen (state_of held last closed) book turns0 before room) (seen (state_of held' moment closed) (with_sent book' moment answer) turns held'.comparisons room)
   few_served held held' book book' last moment turns0 turns before room closed answer s flows zero_before =
-      let grown = ap length (journal_is s) ∙ length-append book.events (served_events moment s.service) ∙ ap (λ n. length book.events + n) (served_length moment s.service) in
-      few_compared _ _ (leaving s.service) grown (rw (flows, zero_before) at s.few_comparisons)
+      let grown = ap length (journal_is s) ∙ length-append book.events (served_events moment (service_in s.turns)) ∙ ap (λ n. length book.events + n) (served_length moment (service_in s.turns)) in
+      few_compared _ _ (leaving (service_in s.turns)) grown (rw (flows, zero_before) at s.answers.few_comparisons)
 
   -- an answer that is there, and one that is not
   pub told_none : (moment : ℕ) (service : Option Service) → None ≡ option_map shown_service service → None ≡ option_map (λ (s : Service). sent_at moment s.given) service
@@ -372,14 +371,14 @@ module _ (p : ParamFields) (seed : Seed) where
   told_some moment (Some s) served e = let same : served ≡ shown_service s = cc in ap (λ (v : Served). Some (record { id = v.waiting.id; moment = moment; packet = v.waiting.packet; mark = v.mark })) same
 
   -- a packet that is given has room for its fate
-  pub room_for_sent : (held held' : Held) (book book' : Book) (last moment turns room : ℕ) (closed : Bool) (served : Served) → ServesChain p moment held book turns (Some served) held' book'
+  pub room_for_sent : (held held' : Held) (book book' : Book) (last moment turns room : ℕ) (closed : Bool) (served : Served) → MakesChain p moment held book turns (Some served) held' book'
       → IsBookKept p seed (state_of held last closed) held.room book room → 0 < book'.room
   room_for_sent held held' book book' last moment turns room closed served s h =
       let left = left_head s in
-      let parts = ap length left.1 ∙ length-append (packets_in s.service) (queue_of held'.queues left.0) in
-      let gone = length-append (dropped_in s.service) (given_packet (given_in s.service)) in
-      let room_is : book'.room ≡ book.room - length (dropped_in s.service) = ap (λ (b : Book). b.room) s.journal in
-      omega (arith, h.space, one_given served s.service s.given, length-at held.queues.lists.queues left.0)
+      let parts = ap length left.1 ∙ length-append (packets_in (service_in s.turns)) (queue_of held'.queues left.0) in
+      let gone = length-append (dropped_in (service_in s.turns)) (given_packet (given_in (service_in s.turns))) in
+      let room_is : book'.room ≡ book.room - length (dropped_in (service_in s.turns)) = ap (λ (b : Book). b.room) s.answers.journal in
+      omega (arith, h.space, one_given served (service_in s.turns) s.answers.given, length-at held.queues.lists.queues left.0)
 
   -- what is kept says nothing of comparisons
   pub kept_counted : (held : Held) (book : Book) (last room comparisons : ℕ) (closed : Bool) → IsBookKept p seed (state_of held last closed) held.room book room

@@ -39,9 +39,10 @@ module _ (steps : List Step) (outcomes : List Outcome) (old new : Scheduler) (st
         before = old.standing.state;
         runs = run.runs;
         fits = d.serves.gives.fits;
-        service = d.serves.service;
+        turns_made = d.serves.gives.serves.queues.turns;
         behind = new.standing.state.queues;
-        chain = d.serves.chain;
+        chain = d.serves.gives.serves.queues.chain;
+        told = d.serves.turns;
       }
 
       told : (said : Answer) → GoesOn old step said new

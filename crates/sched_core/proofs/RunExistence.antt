@@ -3,7 +3,6 @@
 use Rattle.std.proofs.Common.{◌≡◌, ℕ, ◌+◌, ◌<◌, true, All, List, [], ◌∷◌, ◌++◌, eqb, length, map, set, Option, Some, None, MatchOption, refl, subst, ◌∙◌, inl, inr}
 use Rattle.std.specs.List.{AllByRecursion}
 use Rattle.std.proofs.lemmas.Bool.{cases_Bool}
-use Rattle.std.proofs.lemmas.List.{length-replicate}
 use Rattle.std.proofs.lemmas.List.Elements.{All-from_get_or, All-from_recursion, All-push, All-set, recursion_from_All}
 use Rattle.packet_core.specs.FlowNumber.{flow_number}
 use Rattle.packet_core.specs.Packets.{IsLengthInRange, PacketParts}
@@ -21,21 +20,22 @@ use Rattle.journal_core.specs.declared.outcome.Answer.TheVariants as answer
 use Rattle.journal_core.specs.declared.step.Refusal.{Refusal}
 use Rattle.journal_core.specs.declared.step.Step.{Step}
 use Rattle.journal_core.specs.declared.step.Step.TheVariants.{Enqueue, Dequeue, Close}
-use Rattle.journal_core.specs.Disciplines.{Discipline, IsFifoByFlow, packets_of, with_arrival}
-use Rattle.fair_core.specs.FairQueueing.{dropped_in, fair_queueing, given_in, with_flow_listed}
-use Rattle.fair_core.specs.FairQueues.{AreSound, FairQueues, no_queues, queue_of}
+use Rattle.journal_core.specs.Disciplines.{Given, packets_of, with_arrival}
+use Rattle.fair_core.specs.FairQueueing.{Arrives, ServesNext, dropped_in, fair_queueing, given_in, with_flow_listed, with_queues}
+use Rattle.fair_core.specs.FairQueues.{FairQueues, no_queues, queue_of}
 use Rattle.fair_core.specs.FqCodel.{fq_codel, fq_codel_policy}
 use Rattle.fair_core.specs.Policies.{DropsFromHeads, IsDecided}
 use Rattle.journal_core.specs.Runs.{HasLengthInRange, Made, Runs}
 use Rattle.journal_core.specs.State.{State, arrival, opening_state, refusal_of}
 use Rattle.journal_core.specs.Steps.{Makes, Steps, dequeue_answer, drop_event, sent_events}
-use Rattle.fair_core.specs.Turns.{Policy}
+use Rattle.fair_core.specs.Turns.{Policy, service_in}
 use Rattle.fair_core.proofs.ServingChains.{chain_there}
 use Rattle.fair_core.proofs.FairFifo.{fair_is_fifo}
 use Rattle.fair_core.proofs.FqCodelPolicy.{VerdictLaws, policy_decided, policy_drops}
-use Rattle.sched_core.proofs.FqCodelRuns.{flow_below, steps_as_many}
+use Rattle.sched_core.proofs.FqCodelRuns.{flow_below}
 use Rattle.journal_core.proofs.ListLemmas.{ByRecursion-append, ByRecursion-parts}
-use Rattle.fair_core.proofs.SoundFlows.{opening_sound, steps_sound}
+use Rattle.fair_core.proofs.RunInvariants.{BringsFitting, steps_keep}
+use Rattle.fair_core.proofs.SoundFlows.{AreSoundFlows, arrival_sound, chain_sound, opening_sound}
 
 -- a packet that waits has a length that packets have
 abbrev pub HasLength : Waiting → Type 0
@@ -45,66 +45,46 @@ HasLength w = IsLengthInRange w.packet.len
 behind : (gone q : List Waiting) → AllByRecursion HasLength (gone ++ q) → AllByRecursion HasLength q
 behind gone q have = (ByRecursion-parts HasLength gone q have).1
 
--- Each packet that waits has one, in any discipline that is first in, first out by flow.
-module _ {Q : Type 0} (d : Discipline Q) (queue_of : Q → ℕ → List Waiting) (fifo : IsFifoByFlow d queue_of) where
-  abbrev HaveLengths : Q → Type 0
-  HaveLengths s = (flow : ℕ) → AllByRecursion HasLength (queue_of s flow)
+length_fits : (step : Step) → HasLengthInRange step → BringsFitting (λ packet. IsLengthInRange packet.len) step
+length_fits (Enqueue moment lane packet) has = has
+length_fits (Dequeue moment) has = tt
+length_fits (Close moment) has = tt
 
-  with_one_more : (old : Q) (flow : ℕ) (w : Waiting) → HasLength w → HaveLengths old
-      → (f : ℕ) → AllByRecursion HasLength (with_arrival (queue_of old) flow w f)
-  with_one_more old flow w has have f =
-      elim (cases_Bool (eqb flow f)) [
-        | inl t ↦ rw t (ByRecursion-append HasLength (queue_of old f) (w ∷ []) (have f) (has, tt))
-        | inr t ↦ rw t (ByRecursion-append HasLength (queue_of old f) [] (have f) tt)
-      ]
-
-  makes_keep_lengths : (old new : State Q) (step : Step) (said : Answer) (made : List Event)
-      → Makes d old step said made new → HasLengthInRange step → HaveLengths old.queues → HaveLengths new.queues
-  makes_keep_lengths old new (Enqueue moment lane packet) said made m has have =
-      let w = arrival old moment packet in
-      let admits = fifo.admits old.queues w m.1.lost new.queues m.1.queues in
-      let arrived = with_one_more old.queues (d.flow_of packet.tuple) w has have in
-      λ f. behind _ (queue_of new.queues f) (subst (AllByRecursion HasLength) (admits.2 f) (arrived f))
-  makes_keep_lengths old new (Dequeue moment) said made m has have =
-      let serves = fifo.serves old.queues moment m.2.dropped m.0 new.queues m.2.queues in
-      λ f. behind _ (queue_of new.queues f) (subst (AllByRecursion HasLength) (serves.0.1 f) (have f))
-  makes_keep_lengths old new (Close moment) said made m has have = rw m.1.state have
-
-  pub steps_keep_lengths : (old new : State Q) (step : Step) (said : Answer) (made : List Event)
-      → Steps d old step said made new → HasLengthInRange step → HaveLengths old.queues → HaveLengths new.queues
-  steps_keep_lengths old new step said made s has have = go (refusal_of old step) s
-    where
-      go : (o : Option Refusal)
-          → MatchOption o (Makes d old step said made new) (λ r. (said ≡ answer.Refused r) × (made ≡ []) × (new ≡ old))
-          → HaveLengths new.queues
-      go None m = makes_keep_lengths old new step said made m has have
-      go (Some r) m = rw m.2 have
+with_one_more : (s : FairQueues) (flow : ℕ) (w : Waiting) → HasLength w → ((f : ℕ) → AllByRecursion HasLength (queue_of s f))
+    → (f : ℕ) → AllByRecursion HasLength (with_arrival (queue_of s) flow w f)
+with_one_more s flow w has have f =
+    elim (cases_Bool (eqb flow f)) [
+      | inl t ↦ rw t (ByRecursion-append HasLength (queue_of s f) (w ∷ []) (have f) (has, tt))
+      | inr t ↦ rw t (ByRecursion-append HasLength (queue_of s f) [] (have f) tt)
+    ]
 
 module _ (p : Policy) (drops : DropsFromHeads p) (decided : IsDecided p) (flows : ℕ) (flow_of : FiveTuple → ℕ)
     (flow_is : (tuple : FiveTuple) → flow_of tuple < flows) where
   -- the flows that any step may be made from
   pub record AreReady (s : FairQueues) : Type 0 where
-    pub sound : AreSound s
-    pub as_many : length s.lists.queues ≡ flows
+    pub flows_sound : AreSoundFlows flows s
     pub lengths : (flow : ℕ) → AllByRecursion HasLength (queue_of s flow)
 
   opening_ready : AreReady (no_queues flows)
-  opening_ready = record {
-    sound = opening_sound flows;
-    as_many = length-replicate {A = List Waiting} flows [];
-    lengths = λ flow. rw ((fair_is_fifo p drops flows flow_of).opens flow) tt;
+  opening_ready = record { flows_sound = opening_sound flows; lengths = λ flow. rw ((fair_is_fifo p drops flows flow_of).opens flow) tt }
+
+  arrival_ready : (old : FairQueues) (w : Waiting) (lost : List Waiting) (new : FairQueues) → Arrives p old (flow_of w.packet.tuple) w lost new → HasLength w → AreReady old → AreReady new
+  arrival_ready old w lost new a has ready = record {
+    flows_sound = arrival_sound p drops flows old (flow_of w.packet.tuple) w lost new a ready.flows_sound;
+    lengths = λ f. behind _ (queue_of new f) (subst (AllByRecursion HasLength) (((fair_is_fifo p drops flows flow_of).admits old w lost new a).2 f) (with_one_more old (flow_of w.packet.tuple) w has ready.lengths f));
+  }
+
+  serve_ready : (old : FairQueues) (dropped : List Waiting) (given : Option Given) (new : FairQueues) (moment : ℕ) → ServesNext p moment old dropped given new → AreReady old → AreReady new
+  serve_ready old dropped given new moment n ready = record {
+    flows_sound = chain_sound p decided.quantum flows moment n.turns old new n.chain ready.flows_sound;
+    lengths = λ f. behind _ (queue_of new f) (subst (AllByRecursion HasLength) (((fair_is_fifo p drops flows flow_of).serves old moment dropped given new n).0.1 f) (ready.lengths f));
   }
 
   steps_ready : (old new : State FairQueues) (step : Step) (said : Answer) (made : List Event)
       → Steps (fair_queueing p flows flow_of) old step said made new → HasLengthInRange step
       → AreReady old.queues → AreReady new.queues
-  steps_ready old new step said made s has ready = record {
-    sound = steps_sound p drops decided.quantum flows flow_of old new step said made s ready.sound;
-    as_many = steps_as_many p drops flows flow_of old new step said made s ∙ ready.as_many;
-    lengths =
-        steps_keep_lengths (fair_queueing p flows flow_of) queue_of (fair_is_fifo p drops flows flow_of)
-        old new step said made s has ready.lengths;
-  }
+  steps_ready old new step said made s has ready =
+      steps_keep (fair_queueing p flows flow_of) AreReady (λ packet. IsLengthInRange packet.len) arrival_ready serve_ready old new step said made s (length_fits step has) ready
 
   -- with a packet more in one queue
   arrived_lengths : (s : FairQueues) (flow : ℕ) (w : Waiting) → AreReady s → HasLength w
@@ -129,7 +109,7 @@ module _ (p : Policy) (drops : DropsFromHeads p) (decided : IsDecided p) (flows 
         answer.Accepted,
         event.Accepted old.next_id moment lane flow packet ∷ map (drop_event moment cause.Overflow) (packets_of overflow.0),
         record {
-          queues = record listed { lists = record (listed.lists) { queues = overflow.1 } };
+          queues = with_queues listed overflow.1;
           next_id = old.next_id + 1;
           last = moment;
           closed = old.closed;
@@ -139,7 +119,7 @@ module _ (p : Policy) (drops : DropsFromHeads p) (decided : IsDecided p) (flows 
           record {
             lost = packets_of overflow.0;
             queues = record {
-              within = rw ready.as_many (flow_is packet.tuple);
+              within = rw ready.flows_sound.as_many (flow_is packet.tuple);
               batches = overflow.0;
               overflow = overflow.2;
               lost_in_order = refl;
@@ -155,16 +135,17 @@ module _ (p : Policy) (drops : DropsFromHeads p) (decided : IsDecided p) (flows 
 
   serves_there : (old : State FairQueues) (moment : ℕ) → AreReady old.queues → MakesThere old (Dequeue moment)
   serves_there old moment ready =
-      let c = chain_there p decided moment old.queues ready.sound in (
-        dequeue_answer (given_in c.1),
-        map (drop_event moment cause.Codel) (dropped_in c.1) ++ sent_events moment (given_in c.1),
-        record { queues = c.2; next_id = old.next_id; last = moment; closed = old.closed },
+      let c = chain_there p decided moment old.queues ready.flows_sound.sound in
+      let service = service_in c.0 in (
+        dequeue_answer (given_in service),
+        map (drop_event moment cause.Codel) (dropped_in service) ++ sent_events moment (given_in service),
+        record { queues = c.1; next_id = old.next_id; last = moment; closed = old.closed },
         (
-          given_in c.1,
+          given_in service,
           refl,
           record {
-            dropped = dropped_in c.1;
-            queues = record { turns = c.0; service = c.1; chain = c.3; dropped_by = refl; given_by = refl };
+            dropped = dropped_in service;
+            queues = record { turns = c.0; chain = c.2; dropped_by = refl; given_by = refl };
             told = refl;
             next_id = refl;
             last = refl;

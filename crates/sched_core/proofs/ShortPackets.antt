@@ -1,10 +1,10 @@
 -- Where no packet so far was longer than a quantum, no flow is owed more than one quantum, so a dequeue makes three turns at most for each new
 -- flow, and two for each old one.
-use Rattle.std.proofs.Common.{◌≡◌, ℕ, zero, suc, ◌+◌, ◌*◌, ◌<◌, ◌≤◌, List, [], ◌∷◌, ◌++◌, All, drop, get_or, set, replicate, length, Option, Some, None, MatchOption, slice_get, ℤ, pos, ◌+ℤ◌, ◌<ℤ◌, sym, ap, subst, inl, inr, arith}
+use Rattle.std.proofs.Common.{◌≡◌, ℕ, zero, suc, ◌+◌, ◌*◌, ◌<◌, ◌≤◌, List, [], ◌∷◌, ◌++◌, All, drop, get_or, set, replicate, length, Some, None, slice_get, ℤ, pos, ◌+ℤ◌, ◌<ℤ◌, refl, sym, ap, subst, inl, inr, arith}
 use Rattle.std.specs.List.{AllByRecursion}
 use Rattle.std.proofs.lemmas.Bool.{cases_Bool, cases_lt}
 use Rattle.std.proofs.lemmas.Int.{ints}
-use Rattle.std.proofs.lemmas.List.Elements.{filter_map-append, recursion_from_All}
+use Rattle.std.proofs.lemmas.List.Elements.{recursion_from_All}
 use Rattle.std.proofs.lemmas.List.Sums.{sum_by-le}
 use Rattle.packet_core.specs.Params.{AreInRange}
 use Rattle.packet_core.specs.FlowNumber.{flow_number}
@@ -14,25 +14,21 @@ use Rattle.packet_core.specs.declared.packet.Waiting.{Waiting}
 use Rattle.packet_core.specs.declared.params.ParamFields.{ParamFields}
 use Rattle.flow_core.specs.FlowLists.{queue_at}
 use Rattle.fair_core.specs.declared.account.Account.{Account}
-use Rattle.journal_core.specs.declared.event.Event.{Event}
-use Rattle.journal_core.specs.declared.outcome.Answer.{Answer}
-use Rattle.journal_core.specs.declared.outcome.Answer.TheVariants as answer
-use Rattle.journal_core.specs.declared.step.Refusal.{Refusal}
 use Rattle.journal_core.specs.declared.step.Step.{Step}
-use Rattle.journal_core.specs.declared.step.Step.TheVariants.{Enqueue, Dequeue, Close}
 use Rattle.fair_core.specs.FairQueueing.{Arrives, fair_queueing, is_listed, with_flow_listed}
 use Rattle.fair_core.specs.FairQueues.{FairQueues, account_at, new_account, no_queues, queue_of}
 use Rattle.fair_core.specs.FqCodel.{fq_codel, fq_codel_policy}
-use Rattle.journal_core.specs.Happened.{Acceptance, acceptance_of, acceptances}
+use Rattle.journal_core.specs.Happened.{Acceptance, acceptances}
 use Rattle.fair_core.specs.Policies.{DropsFromHeads}
 use Rattle.journal_core.specs.Runs.{Made, Runs, journal_of}
-use Rattle.journal_core.specs.State.{State, arrival, opening_state, refusal_of}
-use Rattle.journal_core.specs.Steps.{Makes, Steps}
+use Rattle.journal_core.specs.State.{State, opening_state}
 use Rattle.fair_core.specs.TurnBound.{quanta_owed, turns_at_most}
-use Rattle.fair_core.specs.Turns.{Chain, Policy, Service, Turn}
-use Rattle.fair_core.specs.Turns.Turn.{used_up, emptied_new, emptied_old, serving}
+use Rattle.fair_core.specs.Turns.{Chain, Does, Policy, Turn, TurnKind, TurnMade, service_by}
+use Rattle.fair_core.specs.Turns.TurnKind.{used_up, emptied, serving}
 use Rattle.fair_core.proofs.ServingChains.{chain_bound}
 use Rattle.fair_core.proofs.FqCodelPolicy.{policy_drops}
+use Rattle.fair_core.proofs.RunInvariants.{AcceptsFitting, runs_keep}
+use Rattle.fair_core.proofs.TurnLemmas.{chain_keeps, queues_stay}
 use Rattle.sched_core.proofs.FqCodelRuns.{fq_codel_sound}
 use Rattle.journal_core.proofs.ListLemmas.{ByRecursion-append, ByRecursion-parts}
 use Rattle.fair_core.proofs.QuantaOwed.{quanta_owed_is}
@@ -98,25 +94,25 @@ module _ (p : Policy) (drops : DropsFromHeads p) where
   abbrev HasFew : Account → Type 0
   HasFew a = pos 0 <ℤ (a.credits +ℤ pos p.quantum)
 
-  turn_short : (now : ℕ) (old : FairQueues) (service : Option Service) (new : FairQueues) → Turn p now old service new → Short old → Short new
-  turn_short now old service new (used_up head at credits none e) short =
-      let few = short.credits head.flow in
-      rw e (record { credits = set_keeps HasFew new_account old.accounts head.flow _ (omega (arith, ints)) short.credits; queues = short.queues })
-  turn_short now old service new (emptied_new head at from credits empty mark codel verdict none e) short =
-      rw e (record { credits = set_keeps HasFew new_account old.accounts head.flow _ (short.credits head.flow) short.credits; queues = short.queues })
-  turn_short now old service new (emptied_old head at from credits empty mark codel verdict none e) short =
-      rw e (record { credits = set_keeps HasFew new_account old.accounts head.flow _ (short.credits head.flow) short.credits; queues = short.queues })
-  turn_short now old service new (serving head at credits drops mark codel verdict w found some e) short =
-      let fits = short_at p.quantum drops (queue_at old.lists head.flow) w (short.queues head.flow) found in
-      rw e (record {
-        credits = set_keeps HasFew new_account old.accounts head.flow _ (omega (arith, ints)) short.credits;
-        queues = set_keeps (AllByRecursion (IsShort p.quantum)) [] old.lists.queues head.flow _ (short_behind p.quantum (drops + 1) (queue_at old.lists head.flow) (short.queues head.flow)) short.queues;
-      })
+  turn_short : (now : ℕ) (old new : FairQueues) (made : TurnMade) → Turn p now old made new → Short old → Short new
+  turn_short now old new made t short = go made.kind t.does (queues_stay p now old new made t)
+    where
+      passed : (account : Account) → HasFew account → new.accounts ≡ set old.accounts made.head.flow account → new.lists.queues ≡ old.lists.queues → Short new
+      passed account few accounts queues = record {
+        credits = λ flow. rw accounts (set_keeps HasFew new_account old.accounts made.head.flow account few short.credits flow);
+        queues = λ flow. rw queues (short.queues flow);
+      }
 
-  chain_short : (turns now : ℕ) (old : FairQueues) (service : Option Service) (new : FairQueues) → Chain p now old turns service new → Short old → Short new
-  chain_short zero now old service new c short = rw c.2 short
-  chain_short (suc more) now old service new (inl c) short = turn_short now old (Some c.1) new c.3 short
-  chain_short (suc more) now old service new (inr c) short = chain_short more now c.0 service new c.2 (turn_short now old None c.0 c.1 short)
+      go : (kind : TurnKind) → Does p now old made.head kind new → (service_by kind ≡ None → new.lists.queues ≡ old.lists.queues) → Short new
+      go used_up d stay = let few = short.credits made.head.flow in passed (record (account_at old made.head.flow) { credits = (account_at old made.head.flow).credits +ℤ pos p.quantum }) (omega (arith, ints)) (ap (λ (s : FairQueues). s.accounts) d.leaves) (stay refl)
+      go emptied d stay = passed (record (account_at old made.head.flow) { codel = d.codel }) (short.credits made.head.flow) (ap (λ (s : FairQueues). s.accounts) d.leaves) (stay refl)
+      go (serving service) d stay =
+          let fits = short_at p.quantum d.drops (queue_of old made.head.flow) service.given.waiting (short.queues made.head.flow) d.stands in
+          let some = d.credits in
+          rw d.leaves (record {
+            credits = set_keeps HasFew new_account old.accounts made.head.flow _ (omega (arith, ints)) short.credits;
+            queues = set_keeps (AllByRecursion (IsShort p.quantum)) [] old.lists.queues made.head.flow _ (short_behind p.quantum (d.drops + 1) (queue_of old made.head.flow) (short.queues made.head.flow)) short.queues;
+          })
 
   listed_short : (old : FairQueues) (flow : ℕ) → 0 < p.quantum → Short old → (other : ℕ) → HasFew (account_at (with_flow_listed p old flow) other)
   listed_short old flow some short other =
@@ -136,40 +132,22 @@ module _ (p : Policy) (drops : DropsFromHeads p) where
         queues = λ other. (ByRecursion-parts (IsShort p.quantum) _ (get_or new.lists.queues other []) (subst (AllByRecursion (IsShort p.quantum)) (leave other) (with_w other))).1;
       }
 
-  module _ (flows : ℕ) (flow_of : FiveTuple → ℕ) (some : 0 < p.quantum) where
-    abbrev AcceptsShort : List Event → Type 0
-    AcceptsShort events = AllByRecursion (λ (a : Acceptance). a.packet.len ≤ p.quantum) (acceptances events)
-
-    makes_short : (old new : State FairQueues) (step : Step) (said : Answer) (made : List Event) → Makes (fair_queueing p flows flow_of) old step said made new → AcceptsShort made → Short old.queues → Short new.queues
-    makes_short old new (Enqueue moment lane packet) said made m accepts short =
-        let first = subst AcceptsShort m.1.told accepts in
-        arrival_short old.queues (flow_of packet.tuple) (arrival old moment packet) m.1.lost new.queues m.1.queues some first.0 short
-    makes_short old new (Dequeue moment) said made m accepts short = chain_short m.2.queues.turns moment old.queues m.2.queues.service new.queues m.2.queues.chain short
-    makes_short old new (Close moment) said made m accepts short = rw m.1.state short
-
-    steps_short : (old new : State FairQueues) (step : Step) (said : Answer) (made : List Event) → Steps (fair_queueing p flows flow_of) old step said made new → AcceptsShort made → Short old.queues → Short new.queues
-    steps_short old new step said made s accepts short = go (refusal_of old step) s
-      where
-        go : (o : Option Refusal) → MatchOption o (Makes (fair_queueing p flows flow_of) old step said made new) (λ r. (said ≡ answer.Refused r) × (made ≡ []) × (new ≡ old)) → Short new.queues
-        go None m = makes_short old new step said made m accepts short
-        go (Some r) m = rw m.2 short
-
-    runs_short : (old new : State FairQueues) (steps : List Step) (made : List Made) → Runs (fair_queueing p flows flow_of) old steps made new → AcceptsShort (journal_of made) → Short old.queues → Short new.queues
-    runs_short old new [] [] r accepts short = rw r short
-    runs_short old new [] (m ∷ made) r accepts short = absurd r
-    runs_short old new (step ∷ steps) [] r accepts short = absurd r
-    runs_short old new (step ∷ steps) (m ∷ made) r accepts short =
-        let parts = ByRecursion-parts (λ (a : Acceptance). a.packet.len ≤ p.quantum) (acceptances m.events) (acceptances (journal_of made)) (rw (← filter_map-append acceptance_of m.events (journal_of made)) accepts) in
-        runs_short r.0 new steps made r.2 parts.1 (steps_short old r.0 step m.answer m.events r.1 parts.0 short)
+  runs_short : (flows : ℕ) (flow_of : FiveTuple → ℕ) → 0 < p.quantum → (old new : State FairQueues) (steps : List Step) (made : List Made) → Runs (fair_queueing p flows flow_of) old steps made new
+      → AcceptsFitting (λ packet. packet.len ≤ p.quantum) (journal_of made) → Short old.queues → Short new.queues
+  runs_short flows flow_of some old new steps made r accepts short =
+      runs_keep (fair_queueing p flows flow_of) Short (λ packet. packet.len ≤ p.quantum)
+      (λ s w lost s' a fits short'. arrival_short s (flow_of w.packet.tuple) w lost s' a some fits short')
+      (λ s dropped given s' moment n short'. chain_keeps p moment Short (turn_short moment) n.turns s s' n.chain short')
+      old new steps made r accepts short
 
 -- the turns of a dequeue, wherever a run stands that accepted no packet longer than a quantum
 pub short_packets_few_turns : (p : ParamFields) (seed : Seed) → AreInRange p → (steps : List Step) (made : List Made) (new : State FairQueues) → Runs (fq_codel p seed) (opening_state (no_queues p.flows)) steps made new
     → All (λ (a : Acceptance). a.packet.len ≤ p.quantum) (acceptances (journal_of made))
-    → (turns now : ℕ) (service : Option Service) (next : FairQueues) → Chain (fq_codel_policy p) now new.queues turns service next
-    → turns ≤ 3 * length new.queues.lists.new_flows + 2 * length new.queues.lists.old_flows
-short_packets_few_turns p seed range steps made new r accepts turns now service next c =
+    → (turns : List TurnMade) (now : ℕ) (next : FairQueues) → Chain (fq_codel_policy p) now new.queues turns next
+    → length turns ≤ 3 * length new.queues.lists.new_flows + 2 * length new.queues.lists.old_flows
+short_packets_few_turns p seed range steps made new r accepts turns now next c =
     let short = runs_short (fq_codel_policy p) (policy_drops p) p.flows (flow_number p.classify p.flows seed) range.quantum.0 (opening_state (no_queues p.flows)) new steps made r
     (recursion_from_All (λ (a : Acceptance). a.packet.len ≤ p.quantum) (acceptances (journal_of made)) accepts) (opening_short p.quantum p.flows range.quantum.0) in
-    let bound = chain_bound (fq_codel_policy p) range.quantum.0 turns now new.queues service next (fq_codel_sound p seed range steps made new r) c in
+    let bound = chain_bound (fq_codel_policy p) range.quantum.0 now turns new.queues next (fq_codel_sound p seed range steps made new r).sound c in
     let few = short_bound p.quantum new.queues range.quantum.0 short in
     omega arith

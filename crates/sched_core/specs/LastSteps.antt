@@ -1,5 +1,5 @@
 -- Of which step of a run a scheduler tells its turns and its comparisons.
-use Rattle.std.specs.Prelude.{◌≡◌, ℕ, ◌-◌, ◌*◌, ◌≤◌, Bool, true, false, not, List, ◌∷◌, ◌++◌, All, length, take, slice_get, Option, Some, None}
+use Rattle.std.specs.Prelude.{◌≡◌, ℕ, ◌-◌, ◌*◌, ◌≤◌, Bool, true, false, not, List, ◌∷◌, ◌++◌, All, length, take, slice_get, Some}
 use Rattle.packet_core.specs.declared.flow.Seed.{Seed}
 use Rattle.packet_core.specs.declared.params.ParamFields.{ParamFields}
 use Rattle.flow_core.specs.Winners.{IsLevels}
@@ -12,7 +12,7 @@ use Rattle.fair_core.specs.FairQueues.{FairQueues, no_queues}
 use Rattle.fair_core.specs.FqCodel.{fq_codel, fq_codel_policy}
 use Rattle.journal_core.specs.Runs.{Made, Runs, is_refused}
 use Rattle.journal_core.specs.State.{State, opening_state, refusal_of}
-use Rattle.fair_core.specs.Turns.{Chain, Service}
+use Rattle.fair_core.specs.Turns.{Chain, TurnMade}
 
 -- whether the answer is that of a dequeue that wasn't refused
 abbrev pub is_dequeued : Answer → Bool
@@ -44,9 +44,10 @@ pub record IsDequeueOf (p : ParamFields) (seed : Seed) (steps : List Step) (plac
   pub before : State FairQueues
   pub runs : Runs (fq_codel p seed) (opening_state (no_queues p.flows)) (take place steps) made before
   pub fits : refusal_of before (Dequeue moment) ≡ None
-  pub service : Option Service
+  pub turns_made : List TurnMade
   pub behind : FairQueues
-  pub chain : Chain (fq_codel_policy p) moment before.queues turns service behind
+  pub chain : Chain (fq_codel_policy p) moment before.queues turns_made behind
+  pub told : turns ≡ length turns_made
 
 -- These are the turns of the last dequeue of the run that wasn't refused, and none where there was no such dequeue.
 abbrev pub AreTurnsOfLast : ParamFields → Seed → List Step → List Outcome → ℕ → Type 0

@@ -1,21 +1,22 @@
-use Rattle.std.specs.Prelude.{◌≡◌, ℕ, ◌-◌, ◌*◌, ◌≤◌, [], length, Option, option_map}
+use Rattle.std.specs.Prelude.{◌≡◌, ℕ, ◌-◌, ◌*◌, ◌≤◌, [], length, Option}
 use Rattle.packet_core.specs.declared.flow.Seed.{Seed}
 use Rattle.packet_core.specs.declared.params.ParamFields.{ParamFields}
 use Rattle.flow_core.specs.Winners.{IsLevels}
 use Rattle.journal_core.specs.declared.outcome.Answer.{Answer}
 use Rattle.journal_core.specs.declared.step.Sent.{Sent}
 use Rattle.journal_core.specs.declared.step.Step.{Step}
-use Rattle.journal_core.specs.Calls.{Advances, Gives, Standing, sent_at}
+use Rattle.journal_core.specs.Calls.{Advances, Gives, Standing}
 use Rattle.journal_core.specs.Disciplines.{Discipline}
 use Rattle.fair_core.specs.FairQueues.{FairQueues, no_queues}
-use Rattle.fair_core.specs.FqCodel.{fq_codel, fq_codel_policy}
+use Rattle.fair_core.specs.FqCodel.{fq_codel}
 use Rattle.fair_core.specs.NewFlows.{IsFirstReady, SendsFrom}
 use Rattle.journal_core.specs.State.{opening_state}
 use Rattle.fair_core.specs.TurnBound.{turns_at_most}
-use Rattle.fair_core.specs.Turns.{Chain, Service}
+use Rattle.fair_core.specs.Turns.{service_in}
 
--- A scheduler as callers see it: what it was made with, its state and its journal, the turns of the last dequeue that wasn't refused, the
--- comparisons of two flows' bytes in the last step that wasn't refused, and how many enqueues more take no memory.
+-- A scheduler as callers see it: what it was made with, its state and its journal, the turns of the last dequeue that
+-- wasn't refused, the comparisons of two flows' bytes in the last step that wasn't refused, and how many enqueues more
+-- take no memory.
 pub record Scheduler : Type 0 where
   pub params : ParamFields
   pub seed : Seed
@@ -50,20 +51,20 @@ pub record IsAdvanced (old : Scheduler) (step : Step) (answer : Answer) (new : S
   pub seed : new.seed ≡ old.seed
   pub turns : new.turns ≡ old.turns
 
--- A dequeue is made: a serving chain, whose turns are told, and whose packet is answered. It has no more turns than the bound, and new flows
--- go first.
+-- A dequeue is made: a serving chain, whose turns are told, and whose packet is answered. It has no more turns than the
+-- bound, and new flows go first.
 pub record IsServed (old : Scheduler) (moment : ℕ) (sent : Option Sent) (new : Scheduler) : Type 0 where
   pub gives : Gives (discipline_of old) old.standing moment sent new.standing
-  pub service : Option Service
-  pub chain : Chain (fq_codel_policy old.params) moment (flows_of old) new.turns service (flows_of new)
-  pub told : sent ≡ option_map (λ s. sent_at moment s.given) service
+  pub turns : new.turns ≡ length gives.serves.queues.turns
   pub bound : new.turns ≤ turns_at_most old.params.quantum (flows_of old)
-  pub new_first : (flow : ℕ) → IsFirstReady (flows_of old) flow → SendsFrom flow (flows_of old).lists.queues service (flows_of new).lists.queues
+  pub new_first : (flow : ℕ) → IsFirstReady (flows_of old) flow
+      → SendsFrom flow (flows_of old).lists.queues (service_in gives.serves.queues.turns) (flows_of new).lists.queues
   pub params : new.params ≡ old.params
   pub seed : new.seed ≡ old.seed
   pub room : new.room ≡ old.room
 
--- A step compared the bytes of two flows at most as often, for each event of its own, as a tree over the flows has levels.
+-- A step compared the bytes of two flows at most as often, for each event of its own, as a tree over the flows has
+-- levels.
 pub record ComparesFew (old new : Scheduler) : Type 0 where
   pub levels : ℕ
   pub over_flows : IsLevels old.params.flows levels

@@ -1,7 +1,7 @@
 //! What holds of every run of FQ-CoDel, whatever its parameters and its seed, as contracts of functions that
 //! do nothing.
 
-ghost use Rattle.std.specs.Prelude.{◌≡◌, ℕ, ◌+◌, ◌*◌, ◌≤◌, ◌<◌, All, List, [], length, Option, sum_by, ℤ};
+ghost use Rattle.std.specs.Prelude.{◌≡◌, ℕ, ◌+◌, ◌*◌, ◌≤◌, ◌<◌, All, List, [], length, sum_by, ℤ};
 ghost use Rattle.std.specs.Bool.{Decides};
 ghost use Rattle.packet_core.specs.Packets.{same_tuple};
 ghost use Rattle.packet_core.specs.Params.{AreInRange};
@@ -20,7 +20,7 @@ ghost use Rattle.journal_core.specs.Runs.{HasLengthInRange, Made, Runs, given_by
 ghost use Rattle.journal_core.specs.State.{State, opening_state};
 ghost use Rattle.journal_core.specs.Statistics.{statistics};
 ghost use Rattle.fair_core.specs.TurnBound.{AreQuantaOwed, quanta_owed, turns_at_most};
-ghost use Rattle.fair_core.specs.Turns.{Chain, Service};
+ghost use Rattle.fair_core.specs.Turns.{Chain, TurnMade, service_in};
 
 use codel_core::one_verdict;
 
@@ -28,14 +28,24 @@ use codel_core::one_verdict;
 /// five-tuple leave in the order of acceptance, nothing is accepted after the close, and marks are honest.
 pub fn journal_laws()
     ensures tuples { (a b : FiveTuple) → Decides (same_tuple a b) (a ≡ b) }
-    ensures laws { (p : ParamFields) (seed : Seed) → (steps : List Step) (made : List Made) (new : State FairQueues) → Runs (fq_codel p seed) (opening_state (no_queues p.flows)) steps made new → JournalLaws (fq_codel p seed).flow_of (journal_of made) }
-    ensures waiting { (p : ParamFields) (seed : Seed) → (steps : List Step) (made : List Made) (new : State FairQueues) → Runs (fq_codel p seed) (opening_state (no_queues p.flows)) steps made new → WaitWithoutFate (queue_of new.queues) (journal_of made) }
+    ensures laws { (p : ParamFields) (seed : Seed)
+        → (steps : List Step) (made : List Made) (new : State FairQueues)
+        → Runs (fq_codel p seed) (opening_state (no_queues p.flows)) steps made new
+        → JournalLaws (fq_codel p seed).flow_of (journal_of made) }
+    ensures waiting { (p : ParamFields) (seed : Seed)
+        → (steps : List Step) (made : List Made) (new : State FairQueues)
+        → Runs (fq_codel p seed) (opening_state (no_queues p.flows)) steps made new
+        → WaitWithoutFate (queue_of new.queues) (journal_of made) }
 {}
 
 /// Taking the refused steps out of a list changes neither the state that its run leaves nor the journal.
 pub fn refused_steps_change_nothing()
-    ensures state { (p : ParamFields) (seed : Seed) (steps : List Step) (made : List Made) (new : State FairQueues) → Runs (fq_codel p seed) (opening_state (no_queues p.flows)) steps made new → Runs (fq_codel p seed) (opening_state (no_queues p.flows)) (steps_made steps made) (given_by_made made) new }
-    ensures journal { (p : ParamFields) (seed : Seed) (steps : List Step) (made : List Made) (new : State FairQueues) → Runs (fq_codel p seed) (opening_state (no_queues p.flows)) steps made new → journal_of (given_by_made made) ≡ journal_of made }
+    ensures state { (p : ParamFields) (seed : Seed) (steps : List Step) (made : List Made) (new : State FairQueues)
+        → Runs (fq_codel p seed) (opening_state (no_queues p.flows)) steps made new
+        → Runs (fq_codel p seed) (opening_state (no_queues p.flows)) (steps_made steps made) (given_by_made made) new }
+    ensures journal { (p : ParamFields) (seed : Seed) (steps : List Step) (made : List Made) (new : State FairQueues)
+        → Runs (fq_codel p seed) (opening_state (no_queues p.flows)) steps made new
+        → journal_of (given_by_made made) ≡ journal_of made }
 {}
 
 /// The turns of a dequeue end, with the first one that serves a flow or where no flow is listed: from the flows
@@ -44,12 +54,29 @@ pub fn refused_steps_change_nothing()
 /// above 0, and one more for an old flow, two for a new one (RFC 8290, section 4.2). Where the run accepted no
 /// packet longer than a quantum, that is three at most for each new flow and two for each old one.
 pub fn serving_chains_end()
-    ensures sound { (p : ParamFields) (seed : Seed) → AreInRange p → (steps : List Step) (made : List Made) (new : State FairQueues) → Runs (fq_codel p seed) (opening_state (no_queues p.flows)) steps made new → AreSound new.queues }
-    ensures there { (p : ParamFields) → AreInRange p → (now : ℕ) (old : FairQueues) → AreSound old → (turns : ℕ) × (service : Option Service) × (new : FairQueues) × Chain (fq_codel_policy p) now old turns service new }
-    ensures once { (p : ParamFields) → AreInRange p → (turns turns' now : ℕ) (old : FairQueues) (service service' : Option Service) (new new' : FairQueues) → Chain (fq_codel_policy p) now old turns service new → Chain (fq_codel_policy p) now old turns' service' new' → (turns ≡ turns') × (service ≡ service') × (new ≡ new') }
-    ensures bound { (p : ParamFields) → AreInRange p → (turns now : ℕ) (old : FairQueues) (service : Option Service) (new : FairQueues) → AreSound old → Chain (fq_codel_policy p) now old turns service new → turns ≤ turns_at_most p.quantum old }
-    ensures short { (p : ParamFields) (seed : Seed) → AreInRange p → (steps : List Step) (made : List Made) (new : State FairQueues) → Runs (fq_codel p seed) (opening_state (no_queues p.flows)) steps made new → All (λ (a : Acceptance). a.packet.len ≤ p.quantum) (acceptances (journal_of made)) → (turns now : ℕ) (service : Option Service) (next : FairQueues) → Chain (fq_codel_policy p) now new.queues turns service next → turns ≤ 3 * length new.queues.lists.new_flows + 2 * length new.queues.lists.old_flows }
-    ensures least { (quantum : ℕ) (credits : ℤ) → 0 < quantum → AreQuantaOwed quantum credits (quanta_owed quantum credits) }
+    ensures sound { (p : ParamFields) (seed : Seed) → AreInRange p
+        → (steps : List Step) (made : List Made) (new : State FairQueues)
+        → Runs (fq_codel p seed) (opening_state (no_queues p.flows)) steps made new
+        → AreSound new.queues }
+    ensures there { (p : ParamFields) → AreInRange p → (now : ℕ) (old : FairQueues) → AreSound old
+        → (turns : List TurnMade) × (new : FairQueues) × Chain (fq_codel_policy p) now old turns new }
+    ensures once { (p : ParamFields) → AreInRange p
+        → (turns turns' : List TurnMade) (now : ℕ) (old new new' : FairQueues)
+        → Chain (fq_codel_policy p) now old turns new → Chain (fq_codel_policy p) now old turns' new'
+        → (turns ≡ turns') × (new ≡ new') }
+    ensures bound { (p : ParamFields) → AreInRange p
+        → (turns : List TurnMade) (now : ℕ) (old new : FairQueues) → AreSound old
+        → Chain (fq_codel_policy p) now old turns new
+        → length turns ≤ turns_at_most p.quantum old }
+    ensures short { (p : ParamFields) (seed : Seed) → AreInRange p
+        → (steps : List Step) (made : List Made) (new : State FairQueues)
+        → Runs (fq_codel p seed) (opening_state (no_queues p.flows)) steps made new
+        → All (λ (a : Acceptance). a.packet.len ≤ p.quantum) (acceptances (journal_of made))
+        → (turns : List TurnMade) (now : ℕ) (next : FairQueues)
+        → Chain (fq_codel_policy p) now new.queues turns next
+        → length turns ≤ 3 * length new.queues.lists.new_flows + 2 * length new.queues.lists.old_flows }
+    ensures least { (quantum : ℕ) (credits : ℤ) → 0 < quantum
+        → AreQuantaOwed quantum credits (quanta_owed quantum credits) }
 {
     one_verdict();
 }
@@ -57,7 +84,10 @@ pub fn serving_chains_end()
 /// From one state a list of steps has one run at most: the rules leave no choice of an answer, an event or a
 /// state.
 pub fn one_run()
-    ensures { (p : ParamFields) (seed : Seed) → AreInRange p → (steps : List Step) (made made' : List Made) (old new new' : State FairQueues) → Runs (fq_codel p seed) old steps made new → Runs (fq_codel p seed) old steps made' new' → (made ≡ made') × (new ≡ new') }
+    ensures { (p : ParamFields) (seed : Seed) → AreInRange p
+        → (steps : List Step) (made made' : List Made) (old new new' : State FairQueues)
+        → Runs (fq_codel p seed) old steps made new → Runs (fq_codel p seed) old steps made' new'
+        → (made ≡ made') × (new ≡ new') }
 {
     one_verdict();
 }
@@ -75,11 +105,20 @@ pub fn every_list_has_a_run()
 /// Where a flow in the list of new flows has credits above 0 and a packet, a dequeue sends from the first such
 /// flow (RFC 8290, section 4.2).
 pub fn new_flows_go_first()
-    ensures { (p : ParamFields) → AreInRange p → (turns now flow : ℕ) (old : FairQueues) (service : Option Service) (new : FairQueues) → AreSound old → IsFirstReady old flow → Chain (fq_codel_policy p) now old turns service new → SendsFrom flow old.lists.queues service new.lists.queues }
+    ensures { (p : ParamFields) → AreInRange p
+        → (turns : List TurnMade) (now flow : ℕ) (old new : FairQueues)
+        → AreSound old → IsFirstReady old flow → Chain (fq_codel_policy p) now old turns new
+        → SendsFrom flow old.lists.queues (service_in turns) new.lists.queues }
 {}
 
 /// The journal tells how many packets wait, and of how many bytes.
 pub fn journal_tells_what_waits()
-    ensures packets { (p : ParamFields) (seed : Seed) → AreInRange p → (steps : List Step) (made : List Made) (new : State FairQueues) → Runs (fq_codel p seed) (opening_state (no_queues p.flows)) steps made new → (statistics (journal_of made)).queued ≡ waiting_in new.queues.lists }
-    ensures bytes { (p : ParamFields) (seed : Seed) → AreInRange p → (steps : List Step) (made : List Made) (new : State FairQueues) → Runs (fq_codel p seed) (opening_state (no_queues p.flows)) steps made new → (statistics (journal_of made)).queued_bytes ≡ sum_by bytes_of new.queues.lists.queues }
+    ensures packets { (p : ParamFields) (seed : Seed) → AreInRange p
+        → (steps : List Step) (made : List Made) (new : State FairQueues)
+        → Runs (fq_codel p seed) (opening_state (no_queues p.flows)) steps made new
+        → (statistics (journal_of made)).queued ≡ waiting_in new.queues.lists }
+    ensures bytes { (p : ParamFields) (seed : Seed) → AreInRange p
+        → (steps : List Step) (made : List Made) (new : State FairQueues)
+        → Runs (fq_codel p seed) (opening_state (no_queues p.flows)) steps made new
+        → (statistics (journal_of made)).queued_bytes ≡ sum_by bytes_of new.queues.lists.queues }
 {}

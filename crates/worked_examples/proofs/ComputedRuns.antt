@@ -28,7 +28,7 @@ use Rattle.fair_core.specs.Overflow.Overflow.{fits, exceeds}
 use Rattle.journal_core.specs.Runs.{Made, Runs}
 use Rattle.journal_core.specs.State.{State, arrival, opening_state, refusal_of}
 use Rattle.journal_core.specs.Steps.{Makes, Steps, dequeue_answer, drop_event, sent_events}
-use Rattle.fair_core.specs.Turns.{Service, Chain}
+use Rattle.fair_core.specs.Turns.{Chain, TurnMade, service_in}
 use Rattle.worked_examples.proofs.ComputedChains.{Walk, walk, walk_is}
 
 -- THE FATTEST FLOW
@@ -131,8 +131,8 @@ module _ (p : ParamFields) (seed : Seed) (fuel : ℕ) where
   stepped old (Dequeue moment) None =
       let w = walk p moment fuel old.queues in
       record {
-        answer = dequeue_answer (given_in w.service);
-        events = map (drop_event moment cause.Codel) (dropped_in w.service) ++ sent_events moment (given_in w.service);
+        answer = dequeue_answer (given_in (service_in w.turns));
+        events = map (drop_event moment cause.Codel) (dropped_in (service_in w.turns)) ++ sent_events moment (given_in (service_in w.turns));
         state = record old { queues = w.queues; last = moment };
         good = w.good;
       }
@@ -188,11 +188,11 @@ module _ (p : ParamFields) (seed : Seed) (fuel : ℕ) where
   made_is old (Enqueue moment lane packet) e = admitted_is old moment lane packet (nat_le (sum_by length (arrived old moment packet)) p.limit) refl e
   made_is old (Dequeue moment) e =
       let w = walk p moment fuel old.queues in (
-        given_in w.service,
+        given_in (service_in w.turns),
         refl,
         record {
-          dropped = dropped_in w.service;
-          queues = record { turns = w.turns; service = w.service; chain = walk_is p moment fuel old.queues e; dropped_by = refl; given_by = refl };
+          dropped = dropped_in (service_in w.turns);
+          queues = record { turns = w.turns; chain = walk_is p moment fuel old.queues e; dropped_by = refl; given_by = refl };
           told = refl;
           next_id = refl;
           last = refl;
@@ -237,7 +237,7 @@ pub record RunLeaves (p : ParamFields) (seed : Seed) (steps : List Step) (Holds 
 
 -- a dequeue of that state makes so many turns
 abbrev pub MakesTurns : ParamFields → ℕ → ℕ → State FairQueues → Type 0
-MakesTurns p moment turns s = (service : Option Service) × (new : FairQueues) × Chain (fq_codel_policy p) moment s.queues turns service new
+MakesTurns p moment turns s = (made : List TurnMade) × (new : FairQueues) × Chain (fq_codel_policy p) moment s.queues made new × (turns ≡ length made)
 
 module _ (p : ParamFields) (seed : Seed) (steps : List Step) where
   abbrev pub run_of : Run
@@ -252,10 +252,10 @@ module _ (p : ParamFields) (seed : Seed) (steps : List Step) where
   abbrev walk_of : ℕ → Walk
   walk_of moment = walk p moment 10 run_of.state.queues
 
-  pub run_turns : (moment : ℕ) → run_of.good ≡ true → (walk_of moment).good ≡ true → RunLeaves p seed steps (λ s. MakesTurns p moment (walk_of moment).turns s)
+  pub run_turns : (moment : ℕ) → run_of.good ≡ true → (walk_of moment).good ≡ true → RunLeaves p seed steps (λ s. MakesTurns p moment (length (walk_of moment).turns) s)
   run_turns moment good ends =
-      run_leaves (λ s. MakesTurns p moment (walk_of moment).turns s) good
-      ((walk_of moment).service, (walk_of moment).queues, walk_is p moment 10 run_of.state.queues ends)
+      run_leaves (λ s. MakesTurns p moment (length (walk_of moment).turns) s) good
+      ((walk_of moment).turns, (walk_of moment).queues, walk_is p moment 10 run_of.state.queues ends, refl)
 
 -- PACKETS AND WHAT STEPS GIVE
 

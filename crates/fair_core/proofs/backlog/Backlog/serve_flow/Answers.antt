@@ -1,60 +1,78 @@
-use Rattle.std.proofs.Common.{◌-ℤ◌, of_z, to_z, w64, ◌≡◌, ◌+◌, ◌<◌, get_or, arith, length, pos, ◌<ℤ◌, ap, sym, subst}
+use Rattle.std.proofs.Common.{◌-ℤ◌, of_z, to_z, w64, [], refl, ◌≡◌, ◌+◌, ◌<◌, ◌<ℤ◌, get_or, arith, length, pos, None, Some, sym, subst}
 use Rattle.std.proofs.lemmas.Int.{ints}
 use Rattle.std.proofs.lemmas.List.{get_or_read}
-use Rattle.fair_core.specs.declared.account.Account.{Account}
-use Rattle.fair_core.specs.Backlogs.{Held, held_of}
+use Rattle.fair_core.specs.Backlogs.{Held, IsAccountInRange, held_of}
 use Rattle.fair_core.specs.FairQueues.{account_at, new_account}
 use Rattle.fair_core.proofs.AccountRanges.{flow_from_queue, held_serves}
+use Rattle.fair_core.proofs.backlog.Backlog.serve_flow.Given as given
 use Rattle.fair_core.proofs.backlog.Backlog.serve_flow.Goals as goal
+use Rattle.fair_core.proofs.backlog.Backlog.serve_flow.Goals.{After-serve_queue}
+
+-- the account is the flow's: its credits are above 0, and its numbers are in range
+record IsFlows (g : given.Over) (c : After-serve_queue g) : Type 0 where
+  within : c.args.flow < length c.self.inside.flows.lists.queues
+  is : c.index_mut-account.result.now ≡ account_at (held_of c.self.inside).queues c.args.flow
+  range : IsAccountInRange c.index_mut-account.result.now (length (get_or c.self.inside.flows.lists.queues c.args.flow [])) c.self.inside.arrived
+  credits : pos 0 <ℤ c.index_mut-account.result.now.credits
+
+is_flows : (g : given.Over) (c : After-serve_queue g) → IsFlows g c
+is_flows g c =
+    let h = c.self.invariant in
+    let within : c.args.flow < length c.self.inside.flows.lists.queues = subst (λ (v : Held). c.args.flow < length v.queues.lists.queues) (sym c.self.view_is) c.requires.flow in
+    let is : c.index_mut-account.result.now ≡ get_or c.self.inside.accounts.items c.args.flow new_account = get_or_read c.self.inside.accounts.items c.args.flow c.index_mut-account.result.now (rw h.as_many within) c.index_mut-account.ensures.value new_account in
+    record {
+      within = within;
+      is = is;
+      range = rw is (h.numbers c.args.flow);
+      credits = rw is (subst (λ (v : Held). pos 0 <ℤ (account_at v.queues c.args.flow).credits) (sym c.self.view_is) c.requires.credits);
+    }
 
 pub invariant_of-self : goal.invariant_of-self
 invariant_of-self g c =
     let q = c.serve_queue.ensures in
-    let lists = c.self.inside.flows.lists in
-    let accounts = c.self.inside.accounts.items in
-    let h = c.self.invariant in
-    let within : c.args.flow < length lists.queues = subst (λ (v : Held). c.args.flow < length v.queues.lists.queues) (sym c.self.view_is) c.requires.flow in
-    let is : c.index_mut-account.result.now ≡ get_or accounts c.args.flow new_account = get_or_read accounts c.args.flow c.index_mut-account.result.now (rw h.as_many within) c.index_mut-account.ensures.value new_account in
-    let some : pos 0 <ℤ (account_at c.args.self.now.queues c.args.flow).credits = c.requires.credits in
-    let range = h.numbers c.args.flow in
-    rw (q.rest)
-    (held_serves c.args.params.now c.args.now lists accounts c.self.inside.arrived c.args.flow (q.drops + 1) (record { credits = c.index_mut-account.result.now.credits; codel = c.serve_queue.new.codel }) h within c.requires.moment
-    (rw is range.low) (rw is range.high) (rw (← is) q.stays))
+    let a = is_flows g (goal.at.invariant_of-self g c).After-serve_queue in
+    rw q.rest
+    (held_serves c.args.params.now c.args.now c.self.inside.flows.lists c.self.inside.accounts.items c.self.inside.arrived c.args.flow (q.drops + 1) (record { credits = c.index_mut-account.result.now.credits; codel = c.serve_queue.new.codel }) c.self.invariant a.within c.requires.moment
+    a.range.low a.range.high (rw (← a.is) q.stays))
+
+pub returns-in_err-served : goal.returns-in_err-served
+returns-in_err-served g c =
+    let a = is_flows g (goal.at.returns-in_err-served g c).After-serve_queue in
+    rw (← c.self.view_is, c.from_residual.ensures)
+    (flow_from_queue c.args.params.now c.args.now c.args.flow (held_of c.self.inside) c.index_mut-account.result.now c.serve_queue.new.codel c.args.journal.now c.serve_queue.new.journal None c.serve_queue.new.flows
+    c.index_mut-account.result.now.credits a.is (rw c.in_err-served.was at c.serve_queue.ensures) refl)
+
+pub overflow_sub-account : goal.overflow_sub-account
+overflow_sub-account g c =
+    let a = is_flows g (goal.at.overflow_sub-account g c).After-serve_queue in
+    let low = a.range.low in
+    let high = a.range.high in
+    let from = c.from.ensures in
+    let len = c.len.ensures.range in
+    omega (arith, ints)
 
 pub invariant_of-self-2 : goal.invariant_of-self-2
 invariant_of-self-2 g c =
     let q = c.serve_queue.ensures in
-    let lists = c.self.inside.flows.lists in
-    let accounts = c.self.inside.accounts.items in
-    let h = c.self.invariant in
-    let within : c.args.flow < length lists.queues = subst (λ (v : Held). c.args.flow < length v.queues.lists.queues) (sym c.self.view_is) c.requires.flow in
-    let is : c.index_mut-account.result.now ≡ get_or accounts c.args.flow new_account = get_or_read accounts c.args.flow c.index_mut-account.result.now (rw h.as_many within) c.index_mut-account.ensures.value new_account in
-    let some : pos 0 <ℤ (get_or accounts c.args.flow new_account).credits = subst (λ (v : Held). pos 0 <ℤ (account_at v.queues c.args.flow).credits) (sym c.self.view_is) c.requires.credits in
-    let credits : c.index_mut-account.result.now.credits ≡ (get_or accounts c.args.flow new_account).credits = ap (λ (a : Account). a.credits) is in
-    let low = (h.numbers c.args.flow).low in
-    let high = (h.numbers c.args.flow).high in
+    let a = is_flows g (goal.at.invariant_of-self-2 g c).After-serve_queue in
+    let some = a.credits in
+    let low = a.range.low in
+    let high = a.range.high in
     let from = c.from.ensures in
     let len = c.len.ensures.range in
     rw q.rest
-    (held_serves c.args.params.now c.args.now lists accounts c.self.inside.arrived c.args.flow (q.drops + 1)
-    (record { credits = to_z w64 (of_z w64 (to_z w64 (of_z w64 c.index_mut-account.result.now.credits) -ℤ to_z w64 (of_z w64 c.from.result))); codel = c.serve_queue.new.codel }) h within c.requires.moment
-    (omega (arith, ints)) (omega (arith, ints)) (rw (← is) q.stays))
+    (held_serves c.args.params.now c.args.now c.self.inside.flows.lists c.self.inside.accounts.items c.self.inside.arrived c.args.flow (q.drops + 1)
+    (record { credits = to_z w64 (of_z w64 (to_z w64 (of_z w64 c.index_mut-account.result.now.credits) -ℤ to_z w64 (of_z w64 c.from.result))); codel = c.serve_queue.new.codel }) c.self.invariant a.within c.requires.moment
+    (omega (arith, ints)) (omega (arith, ints)) (rw (← a.is) q.stays))
 
 pub returns : goal.returns
 returns g c =
-    let q = c.serve_queue.ensures in
-    let accounts = c.self.inside.accounts.items in
-    let h = c.self.invariant in
-    let within : c.args.flow < length c.self.inside.flows.lists.queues = subst (λ (v : Held). c.args.flow < length v.queues.lists.queues) (sym c.self.view_is) c.requires.flow in
-    let is : c.index_mut-account.result.now ≡ get_or accounts c.args.flow new_account = get_or_read accounts c.args.flow c.index_mut-account.result.now (rw h.as_many within) c.index_mut-account.ensures.value new_account in
+    let a = is_flows g (goal.at.returns g c).After-serve_queue in
+    let low = a.range.low in
+    let high = a.range.high in
     let from = c.from.ensures in
     let len = c.len.ensures.value in
     let range = c.len.ensures.range in
-    let low = (h.numbers c.args.flow).low in
-    let high = (h.numbers c.args.flow).high in
-    let credits : c.index_mut-account.result.now.credits ≡ (get_or accounts c.args.flow new_account).credits = ap (λ (a : Account). a.credits) is in
-    let q' = rw c.in_ok-served.was at q in
     rw (← c.self.view_is)
-    (flow_from_queue c.args.params.now c.args.now c.args.flow (held_of c.self.inside) c.index_mut-account.result.now.codel c.serve_queue.new.codel c.args.journal.now c.serve_queue.new.journal c.in_ok-served.served c.serve_queue.new.flows
-    (to_z w64 (of_z w64 (to_z w64 (of_z w64 c.index_mut-account.result.now.credits) -ℤ to_z w64 (of_z w64 c.from.result))))
-    (ap (λ (a : Account). a.codel) is) q' (omega (arith, ints)))
+    (flow_from_queue c.args.params.now c.args.now c.args.flow (held_of c.self.inside) c.index_mut-account.result.now c.serve_queue.new.codel c.args.journal.now c.serve_queue.new.journal (Some c.in_ok-served.served) c.serve_queue.new.flows
+    (to_z w64 (of_z w64 (to_z w64 (of_z w64 c.index_mut-account.result.now.credits) -ℤ to_z w64 (of_z w64 c.from.result)))) a.is (rw c.in_ok-served.was at c.serve_queue.ensures) (omega (arith, ints)))

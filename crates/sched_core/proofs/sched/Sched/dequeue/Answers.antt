@@ -1,86 +1,56 @@
-use Rattle.std.proofs.Common.{◌≡◌, None, Some, option_map, ap, refl}
+use Rattle.std.proofs.Common.{None, Some, option_map, ap, refl}
 use Rattle.journal_core.specs.declared.step.Refusal.TheVariants.{Moment}
-use Rattle.journal_core.specs.declared.step.Step.TheVariants.{Dequeue}
-use Rattle.fair_core.specs.Backlogs.{Held}
-use Rattle.fair_core.specs.FairQueues.{AreSound}
-use Rattle.journal_core.specs.State.{refusal_of}
-use Rattle.sched_core.proofs.KeptScheduler.{few_served, is_served, kept_counted, kept_serves, room_for_sent, state_of, told_none, told_some}
+use Rattle.fair_core.specs.Turns.{service_in}
+use Rattle.sched_core.proofs.KeptScheduler.{few_served, is_served, kept_counted, kept_serves, room_for_sent, told_none, told_some}
 use Rattle.sched_core.proofs.sched.Sched.dequeue.Goals as goal
 
 pub invariant_of-self : goal.invariant_of-self
 invariant_of-self g c =
     let s = c.self.inside in
-    let fits : refusal_of (state_of s.backlog s.last_moment s.is_closed) (Dequeue c.args.moment) ≡ None = ap (option_map Moment) c.in_ok-test_moment.ensures in
-    let cleared : Held = record s.backlog { comparisons = 0 } in
-    let kept = kept_counted s.params s.seed s.backlog s.journal s.last_moment s.room 0 s.is_closed c.self.invariant in
-    let arrived : c.serve-serving.new.self.arrived ≡ s.backlog.arrived = rw c.clear_comparisons.ensures at c.serve-serving.ensures.arrived in
-    let room : c.serve-serving.new.self.room ≡ s.backlog.room = rw c.clear_comparisons.ensures at c.serve-serving.ensures.room in
-    let sound : AreSound s.backlog.queues = rw c.clear_comparisons.ensures at c.serve-serving.ensures.sound in
-    let chain = rw (c.clear_comparisons.ensures, c.in_default.is) at c.serve-serving.ensures.chain in
-    kept_serves s.params s.seed cleared c.serve-serving.new.self s.journal c.serve-serving.new.journal s.last_moment c.args.moment c.serve-serving.result.turns s.room s.is_closed None chain arrived room fits kept
+    kept_serves s.params s.seed (record s.backlog { comparisons = 0 }) c.serve-serving.new.self s.journal c.serve-serving.new.journal s.last_moment c.args.moment c.serve-serving.result.turns s.room s.is_closed None
+    (rw (c.clear_comparisons.ensures, c.in_default.is) at c.serve-serving.ensures.chain) (rw c.clear_comparisons.ensures at c.serve-serving.ensures.arrived) (rw c.clear_comparisons.ensures at c.serve-serving.ensures.room)
+    (ap (option_map Moment) c.in_ok-test_moment.ensures) (kept_counted s.params s.seed s.backlog s.journal s.last_moment s.room 0 s.is_closed c.self.invariant)
 
 pub returns-in_default-clause-made : goal.returns-in_default-clause-made
 returns-in_default-clause-made g c =
     let s = c.self.inside in
-    let fits : refusal_of (state_of s.backlog s.last_moment s.is_closed) (Dequeue c.args.moment) ≡ None = ap (option_map Moment) c.in_ok-test_moment.ensures in
-    let cleared : Held = record s.backlog { comparisons = 0 } in
-    let kept = kept_counted s.params s.seed s.backlog s.journal s.last_moment s.room 0 s.is_closed c.self.invariant in
-    let arrived : c.serve-serving.new.self.arrived ≡ s.backlog.arrived = rw c.clear_comparisons.ensures at c.serve-serving.ensures.arrived in
-    let room : c.serve-serving.new.self.room ≡ s.backlog.room = rw c.clear_comparisons.ensures at c.serve-serving.ensures.room in
-    let sound : AreSound s.backlog.queues = rw c.clear_comparisons.ensures at c.serve-serving.ensures.sound in
     let chain = rw (c.clear_comparisons.ensures, c.in_default.is) at c.serve-serving.ensures.chain in
-    rw (← c.self.view_is, told_none s.params s.seed c.args.moment chain.service chain.given)
-    (is_served s.params s.seed cleared c.serve-serving.new.self s.journal c.serve-serving.new.journal s.last_moment c.args.moment s.turns c.serve-serving.result.turns s.backlog.comparisons c.serve-serving.new.self.comparisons s.room s.is_closed None chain arrived sound c.serve-serving.ensures.quantum fits)
+    rw (← c.self.view_is, told_none s.params s.seed c.args.moment (service_in chain.turns) chain.answers.given)
+    (is_served s.params s.seed (record s.backlog { comparisons = 0 }) c.serve-serving.new.self s.journal c.serve-serving.new.journal s.last_moment c.args.moment s.turns c.serve-serving.result.turns s.backlog.comparisons c.serve-serving.new.self.comparisons s.room s.is_closed None
+    chain (rw c.clear_comparisons.ensures at c.serve-serving.ensures.arrived) (rw c.clear_comparisons.ensures at c.serve-serving.ensures.sound) c.serve-serving.ensures.quantum (ap (option_map Moment) c.in_ok-test_moment.ensures))
 
 pub send-requires : goal.send-requires
 send-requires g c =
     let s = c.self.inside in
-    let cleared : Held = record s.backlog { comparisons = 0 } in
-    let kept = kept_counted s.params s.seed s.backlog s.journal s.last_moment s.room 0 s.is_closed c.self.invariant in
-    let arrived : c.serve-serving.new.self.arrived ≡ s.backlog.arrived = rw c.clear_comparisons.ensures at c.serve-serving.ensures.arrived in
-    let room : c.serve-serving.new.self.room ≡ s.backlog.room = rw c.clear_comparisons.ensures at c.serve-serving.ensures.room in
-    let sound : AreSound s.backlog.queues = rw c.clear_comparisons.ensures at c.serve-serving.ensures.sound in
-    let chain = rw (c.clear_comparisons.ensures, c.in-Some.is) at c.serve-serving.ensures.chain in
-    room_for_sent s.params s.seed cleared c.serve-serving.new.self s.journal c.serve-serving.new.journal s.last_moment c.args.moment c.serve-serving.result.turns s.room s.is_closed c.in-Some.served chain kept
+    room_for_sent s.params s.seed (record s.backlog { comparisons = 0 }) c.serve-serving.new.self s.journal c.serve-serving.new.journal s.last_moment c.args.moment c.serve-serving.result.turns s.room s.is_closed c.in-Some.served
+    (rw (c.clear_comparisons.ensures, c.in-Some.is) at c.serve-serving.ensures.chain) (kept_counted s.params s.seed s.backlog s.journal s.last_moment s.room 0 s.is_closed c.self.invariant)
 
 pub invariant_of-self-2 : goal.invariant_of-self-2
 invariant_of-self-2 g c =
     let s = c.self.inside in
-    let fits : refusal_of (state_of s.backlog s.last_moment s.is_closed) (Dequeue c.args.moment) ≡ None = ap (option_map Moment) c.in_ok-test_moment.ensures in
-    let cleared : Held = record s.backlog { comparisons = 0 } in
-    let kept = kept_counted s.params s.seed s.backlog s.journal s.last_moment s.room 0 s.is_closed c.self.invariant in
-    let arrived : c.serve-serving.new.self.arrived ≡ s.backlog.arrived = rw c.clear_comparisons.ensures at c.serve-serving.ensures.arrived in
-    let room : c.serve-serving.new.self.room ≡ s.backlog.room = rw c.clear_comparisons.ensures at c.serve-serving.ensures.room in
-    let sound : AreSound s.backlog.queues = rw c.clear_comparisons.ensures at c.serve-serving.ensures.sound in
-    let chain = rw (c.clear_comparisons.ensures, c.in-Some.is) at c.serve-serving.ensures.chain in
     rw c.send.ensures
-    (kept_serves s.params s.seed cleared c.serve-serving.new.self s.journal c.serve-serving.new.journal s.last_moment c.args.moment c.serve-serving.result.turns s.room s.is_closed (Some c.in-Some.served) chain arrived room fits kept)
+    (kept_serves s.params s.seed (record s.backlog { comparisons = 0 }) c.serve-serving.new.self s.journal c.serve-serving.new.journal s.last_moment c.args.moment c.serve-serving.result.turns s.room s.is_closed (Some c.in-Some.served)
+    (rw (c.clear_comparisons.ensures, c.in-Some.is) at c.serve-serving.ensures.chain) (rw c.clear_comparisons.ensures at c.serve-serving.ensures.arrived) (rw c.clear_comparisons.ensures at c.serve-serving.ensures.room)
+    (ap (option_map Moment) c.in_ok-test_moment.ensures) (kept_counted s.params s.seed s.backlog s.journal s.last_moment s.room 0 s.is_closed c.self.invariant))
 
 pub returns-clause-made : goal.returns-clause-made
 returns-clause-made g c =
     let s = c.self.inside in
-    let fits : refusal_of (state_of s.backlog s.last_moment s.is_closed) (Dequeue c.args.moment) ≡ None = ap (option_map Moment) c.in_ok-test_moment.ensures in
-    let cleared : Held = record s.backlog { comparisons = 0 } in
-    let kept = kept_counted s.params s.seed s.backlog s.journal s.last_moment s.room 0 s.is_closed c.self.invariant in
-    let arrived : c.serve-serving.new.self.arrived ≡ s.backlog.arrived = rw c.clear_comparisons.ensures at c.serve-serving.ensures.arrived in
-    let room : c.serve-serving.new.self.room ≡ s.backlog.room = rw c.clear_comparisons.ensures at c.serve-serving.ensures.room in
-    let sound : AreSound s.backlog.queues = rw c.clear_comparisons.ensures at c.serve-serving.ensures.sound in
     let chain = rw (c.clear_comparisons.ensures, c.in-Some.is) at c.serve-serving.ensures.chain in
-    rw (← c.self.view_is, c.send.ensures, c.sent_of-sent.ensures, told_some s.params s.seed c.args.moment chain.service c.in-Some.served chain.given)
-    (is_served s.params s.seed cleared c.serve-serving.new.self s.journal c.serve-serving.new.journal s.last_moment c.args.moment s.turns c.serve-serving.result.turns s.backlog.comparisons c.serve-serving.new.self.comparisons s.room s.is_closed (Some c.in-Some.served) chain arrived sound c.serve-serving.ensures.quantum fits)
+    rw (← c.self.view_is, c.send.ensures, c.sent_of-sent.ensures, told_some s.params s.seed c.args.moment (service_in chain.turns) c.in-Some.served chain.answers.given)
+    (is_served s.params s.seed (record s.backlog { comparisons = 0 }) c.serve-serving.new.self s.journal c.serve-serving.new.journal s.last_moment c.args.moment s.turns c.serve-serving.result.turns s.backlog.comparisons c.serve-serving.new.self.comparisons s.room s.is_closed (Some c.in-Some.served)
+    chain (rw c.clear_comparisons.ensures at c.serve-serving.ensures.arrived) (rw c.clear_comparisons.ensures at c.serve-serving.ensures.sound) c.serve-serving.ensures.quantum (ap (option_map Moment) c.in_ok-test_moment.ensures))
 
 pub returns-in_default-clause-few_comparisons : goal.returns-in_default-clause-few_comparisons
 returns-in_default-clause-few_comparisons g c =
     let s = c.self.inside in
-    let cleared : Held = record s.backlog { comparisons = 0 } in
-    let chain = rw (c.clear_comparisons.ensures, c.in_default.is) at c.serve-serving.ensures.chain in
     rw (← c.self.view_is)
-    (few_served s.params s.seed cleared c.serve-serving.new.self s.journal c.serve-serving.new.journal s.last_moment c.args.moment s.turns c.serve-serving.result.turns s.backlog.comparisons s.room s.is_closed None chain c.self.invariant.flows refl)
+    (few_served s.params s.seed (record s.backlog { comparisons = 0 }) c.serve-serving.new.self s.journal c.serve-serving.new.journal s.last_moment c.args.moment s.turns c.serve-serving.result.turns s.backlog.comparisons s.room s.is_closed None
+    (rw (c.clear_comparisons.ensures, c.in_default.is) at c.serve-serving.ensures.chain) c.self.invariant.flows refl)
 
 pub returns-clause-few_comparisons : goal.returns-clause-few_comparisons
 returns-clause-few_comparisons g c =
     let s = c.self.inside in
-    let cleared : Held = record s.backlog { comparisons = 0 } in
-    let chain = rw (c.clear_comparisons.ensures, c.in-Some.is) at c.serve-serving.ensures.chain in
     rw (← c.self.view_is, c.send.ensures)
-    (few_served s.params s.seed cleared c.serve-serving.new.self s.journal c.serve-serving.new.journal s.last_moment c.args.moment s.turns c.serve-serving.result.turns s.backlog.comparisons s.room s.is_closed (Some c.in-Some.served) chain c.self.invariant.flows refl)
+    (few_served s.params s.seed (record s.backlog { comparisons = 0 }) c.serve-serving.new.self s.journal c.serve-serving.new.journal s.last_moment c.args.moment s.turns c.serve-serving.result.turns s.backlog.comparisons s.room s.is_closed (Some c.in-Some.served)
+    (rw (c.clear_comparisons.ensures, c.in-Some.is) at c.serve-serving.ensures.chain) c.self.invariant.flows refl)
