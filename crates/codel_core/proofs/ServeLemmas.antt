@@ -39,10 +39,10 @@ pub unmarkable_at : (p : ParamFields) (q : List Waiting) (k : ℕ) (head : Waiti
 unmarkable_at p q k head is cannot = rw (← is) (λ can. both_ways (is_markable p.ecn head.packet.ecn) cannot can)
 
 -- a droppable packet leaves first_above as it was
-pub kept : {late : Type 0} {interval now : ℕ} {old new : Option ℕ} → FirstAbove late interval now old new → late → HasCome old now → new ≡ old
-kept (given_up early) l h = absurd (early l)
-kept {old = None} (stays late) l h = absurd h
-kept {old = Some t} (stays late) l h = refl
+pub first_above_kept : {late : Type 0} {interval now : ℕ} {old new : Option ℕ} → FirstAbove late interval now old new → late → HasCome old now → new ≡ old
+first_above_kept (given_up early) l h = absurd (early l)
+first_above_kept {old = None} (stays late) l h = absurd h
+first_above_kept {old = Some t} (stays late) l h = refl
 
 -- a state that begins to drop, behind a judgement
 pub entered_from : (p : ParamFields) (now : ℕ) (old state new : CodelState)

@@ -23,26 +23,26 @@ moment_le interval now s (suc j) due = omega (arith, due j (omega arith), spacin
 
 module _ (p : ParamFields) (now : ℕ) (q : List Waiting) (old : CodelState) (interval : IsIntervalInRange p.interval) where
   -- what a caller keeps behind k drops and one packet more
-  abbrev pub Keeps : ℕ → CodelState → Type 0
-  Keeps k new = StaysInRange p now old (length q) new (length q - (k + 1))
+  abbrev pub StaysInRangeBehind : ℕ → CodelState → Type 0
+  StaysInRangeBehind k new = StaysInRange p now old (length q) new (length q - (k + 1))
 
-  entered_keeps : (k : ℕ) → k < length q → Keeps k (entered p now old)
-  entered_keeps k within =
+  entered_stays : (k : ℕ) → k < length q → StaysInRangeBehind k (entered p now old)
+  entered_stays k within =
       let range = resumed_range p now old in
       let spaced = spacing_le p.interval (resumed_count p now old) range.0 in
       record { interval = interval; drop_next = omega (arith, spaced); count = omega (arith, range.1); lastcount = omega arith }
 
-  stop_keeps : {k : ℕ} {mark : Mark} {new : CodelState} → k < length q → ((j : ℕ) → j < k → drop_moment p.interval old j ≤ now) → Stops p now q old k mark new → Keeps k new
-  stop_keeps {k} within due (leaves n) =
+  stop_stays : {k : ℕ} {mark : Mark} {new : CodelState} → k < length q → ((j : ℕ) → j < k → drop_moment p.interval old j ≤ now) → Stops p now q old k mark new → StaysInRangeBehind k new
+  stop_stays {k} within due (leaves n) =
       record { interval = interval; drop_next = moment_le p.interval now old (k - 1) (λ j h. due j (omega arith)); count = omega arith; lastcount = omega arith }
-  stop_keeps {k} within due (waits d early) =
+  stop_stays {k} within due (waits d early) =
       record { interval = interval; drop_next = moment_le p.interval now old k due; count = omega arith; lastcount = omega arith }
-  stop_keeps {k} within due (marks d at can) =
+  stop_stays {k} within due (marks d at can) =
       let next = moment_le p.interval now old (k + 1) (below_more (λ j. drop_moment p.interval old j ≤ now) k due at) in
       record { interval = interval; drop_next = next; count = omega arith; lastcount = omega arith }
 
-  pub verdict_keeps : {k : ℕ} {mark : Mark} {new : CodelState} → Verdict p now q old k mark new → Keeps k new
-  verdict_keeps (nothing n) = record { interval = interval; drop_next = omega arith; count = omega arith; lastcount = omega arith }
-  verdict_keeps (first_mark d idle can) = entered_keeps 0 (omega (arith, one_behind p now q old 0 d.0))
-  verdict_keeps (first_drop d idle cannot) = entered_keeps 1 (omega (arith, one_behind p now q old 0 d.0))
-  verdict_keeps (drops {k} d dropping before stop) = stop_keeps (within p now q old k d before) (λ j h. (before j h).due) stop
+  pub verdict_stays : {k : ℕ} {mark : Mark} {new : CodelState} → Verdict p now q old k mark new → StaysInRangeBehind k new
+  verdict_stays (nothing n) = record { interval = interval; drop_next = omega arith; count = omega arith; lastcount = omega arith }
+  verdict_stays (first_mark d idle can) = entered_stays 0 (omega (arith, one_behind p now q old 0 d.0))
+  verdict_stays (first_drop d idle cannot) = entered_stays 1 (omega (arith, one_behind p now q old 0 d.0))
+  verdict_stays (drops {k} d dropping before stop) = stop_stays (within p now q old k d before) (λ j h. (before j h).due) stop

@@ -44,15 +44,15 @@ true_told true = inl refl
 true_told false = inr (λ h. cc)
 
 -- what becomes of first_above can be told, and is one thing
-fate_of : {late : Type 0} (interval now : ℕ) (old : Option ℕ) → IsTold late → (new : Option ℕ) × FirstAbove late interval now old new
-fate_of interval now old (inr early) = (None, given_up early)
-fate_of interval now old (inl late) = (Some (unwrap_or old (now + interval)), stays late)
+first_above_of : {late : Type 0} (interval now : ℕ) (old : Option ℕ) → IsTold late → (new : Option ℕ) × FirstAbove late interval now old new
+first_above_of interval now old (inr early) = (None, given_up early)
+first_above_of interval now old (inl late) = (Some (unwrap_or old (now + interval)), stays late)
 
-one_fate : {late : Type 0} {interval now : ℕ} {old new new' : Option ℕ} → FirstAbove late interval now old new → FirstAbove late interval now old new' → new ≡ new'
-one_fate (given_up n) (given_up n') = refl
-one_fate (given_up n) (stays l) = absurd (n l)
-one_fate (stays l) (given_up n) = absurd (n l)
-one_fate (stays l) (stays l') = refl
+one_first_above : {late : Type 0} {interval now : ℕ} {old new new' : Option ℕ} → FirstAbove late interval now old new → FirstAbove late interval now old new' → new ≡ new'
+one_first_above (given_up n) (given_up n') = refl
+one_first_above (given_up n) (stays l) = absurd (n l)
+one_first_above (stays l) (given_up n) = absurd (n l)
+one_first_above (stays l) (stays l') = refl
 
 -- PLACES AND MARKS
 
@@ -122,7 +122,7 @@ module _ (p : ParamFields) (now : ℕ) (q : List Waiting) (old : CodelState) whe
   -- a verdict, with what becomes of first_above
   decided : {k : ℕ} {mark : Mark} {new : CodelState} → Verdict p now q old k mark new → new ≡ record new { first_above = old.first_above } → HasVerdict
   decided {k} {mark} {new} verdict same =
-      let fate = fate_of p.interval now old.first_above (late_told k) in
+      let fate = first_above_of p.interval now old.first_above (late_told k) in
       (k, mark, record new { first_above = fate.0 }, record { verdict = subst (λ (s : CodelState). Verdict p now q old k mark s) same verdict; first_above = fate.1 })
 
   -- the first place from k on that isn't dropped, where the queue ends within so many places
@@ -208,7 +208,7 @@ module _ (p : ParamFields) (now : ℕ) (q : List Waiting) (old : CodelState) whe
       → Decides p now q old k mark new → Decides p now q old k' mark' new' → (k ≡ k') × (mark ≡ mark') × (new ≡ new')
   verdict_unique k k' mark mark' new new' v v' =
       let one = one_way v.verdict v'.verdict in
-      let fate = one_fate v.first_above (subst (λ (n : ℕ). FirstAbove (IsLate p now q n) p.interval now old.first_above new'.first_above) (sym one.0) v'.first_above) in
+      let fate = one_first_above v.first_above (subst (λ (n : ℕ). FirstAbove (IsLate p now q n) p.interval now old.first_above new'.first_above) (sym one.0) v'.first_above) in
       (one.0, one.1, λ x. record (one.2 x) { first_above = fate x })
 
   -- WHAT HOLDS OF EACH

@@ -6,7 +6,7 @@ use Rattle.codel_core.specs.Queue.{IsDroppable}
 use Rattle.codel_core.specs.Schedule.{drop_moment}
 use Rattle.codel_core.specs.Spacing.{IsSpacing}
 use Rattle.codel_core.specs.Verdict.{given_up, nothing, first_mark, first_drop, drops, leaves, waits, marks}
-use Rattle.codel_core.proofs.ServeLemmas.{InHand, next_in_hand, kept, entered_from, gives, is_dropped, one_drop_more, one_less, unmarkable_at}
+use Rattle.codel_core.proofs.ServeLemmas.{InHand, next_in_hand, first_above_kept, entered_from, gives, is_dropped, one_drop_more, one_less, unmarkable_at}
 use Rattle.codel_core.proofs.codel.serve_from.Given as given
 use Rattle.codel_core.proofs.codel.serve_from.Goals as goal
 use Rattle.codel_core.proofs.codel.serve_from.Goals.{After-should_drop, After-should_drop-in-loop-state}
@@ -40,7 +40,7 @@ pub loop-state-init : goal.loop-state-init
 loop-state-init g c =
     let h = first_in_hand g (goal.at.loop-state-init g c).After-should_drop in
     let d = h.1.0 (cc) in
-    let same = kept h.0.fate d.0 d.1 in
+    let same = first_above_kept h.0.fate d.0 d.1 in
     let none : c.args.state.now.count ≡ c.args.state.now.count + 0 = omega arith in
     let less = one_less (g.L.Pull.items c.args.line.now) (g.L.Pull.items c.pull.new.self) c.in-Some.first c.in-Some.ensures.head c.in-Some.ensures.rest in (
       0,
@@ -76,7 +76,7 @@ returns-then-not-state-clause-served g c =
     let d = h.1.0 (cc) in
     let n = next_in_hand g.met.L.Pull.pulled_more g.met.S.DropSink.taken_more h.0
     c.take.ensures.step c.pull_waiting-second.ensures.step c.pull_waiting-second.ensures.rest c.pull_waiting-second.ensures.head
-    (kept h.0.fate d.0 d.1) c.should_drop-then-not-state.ensures.droppable c.should_drop-then-not-state.ensures.first_above in
+    (first_above_kept h.0.fate d.0 d.1) c.should_drop-then-not-state.ensures.droppable c.should_drop-then-not-state.ensures.first_above in
     let idle : c.args.state.now.dropping ≡ false = sym (ap (λ (s : CodelState). s.dropping) c.should_drop.ensures.rest) ∙ (cc) in
     let same = ap (λ (s : CodelState). record s { first_above = c.args.state.now.first_above }) c.should_drop-then-not-state.ensures.rest ∙ c.should_drop.ensures.rest in
     gives n.0 (first_drop d idle (unmarkable_at c.args.params.now (g.L.Pull.items c.args.line.now) 0 c.in-Some.first h.0.head_is (cc)))
@@ -121,7 +121,7 @@ loop-state-preserved g c =
     let m = c.loop-state.invariant.1.0 in
     let state = c.loop-state.state in
     let d = n.1.0 (cc) in
-    let same = kept n.0.fate d.0 d.1 ∙ sym (ap (λ (s : CodelState). s.first_above) m.state_is) in
+    let same = first_above_kept n.0.fate d.0 d.1 ∙ sym (ap (λ (s : CodelState). s.first_above) m.state_is) in
     let counted = (λ x. record c.should_drop-in-loop-state.new.state { first_above = same x }) ∙ c.should_drop-in-loop-state.ensures.rest in
     let spaced = subst (λ (n : ℕ). IsSpacing c.interval-interval.result n c.spacing-in-loop-state.result) (ap (λ (s : CodelState). s.count) counted) c.spacing-in-loop-state.ensures in
     let next = one_drop_more c.args.params.now.interval c.interval-interval.result c.loop-state.invariant.0 c.spacing-in-loop-state.result c.args.state.now state m.state_is c.interval-interval.ensures.value spaced in
