@@ -23,7 +23,8 @@ pub record IsBelow (leaves node flow : ℕ) : Type 0 where
   pub levels : ℕ
   pub meets : node_above levels (leaves + flow) ≡ node
 
--- The first flow has more bytes than the other one, or as many and no greater number.
+-- The first flow has more bytes than the other one, or as many and no greater number: where its number is greater, it
+-- needs one byte more.
 abbrev pub WinsOver : List ℕ → ℕ → ℕ → Type 0
 WinsOver bytes winner other = get_or bytes other 0 + min 1 (winner - other) ≤ get_or bytes winner 0
 
