@@ -1,25 +1,13 @@
 -- The counts that run along are those of the statistics, event by event.
 use Rattle.std.proofs.Common.{◌≡◌, ℕ, ◌+◌, Bool, cond, List, [], ◌∷◌, ◌++◌, length, map, sum_by, Option, Some, None, refl, sym, ap, subst, ◌∙◌, arith, append-nil, append_assoc}
-use Rattle.std.specs.Prelude.{count_by}
-use Rattle.std.specs.List.{AllByRecursion, filter_map}
-use Rattle.std.proofs.lemmas.List.{length-append}
-use Rattle.std.proofs.lemmas.List.Elements.{filter_map-append}
-use Rattle.std.proofs.lemmas.List.Sums.{sum_by-append}
-use Rattle.packet_core.specs.Packets.{PacketParts}
 use Rattle.packet_core.specs.declared.packet.Ecn.{Ecn}
-use Rattle.packet_core.specs.declared.packet.Waiting.{Waiting}
 use Rattle.codel_core.specs.declared.served.Mark.{Mark}
 use Rattle.codel_core.specs.declared.served.Mark.TheVariants.{NoMark, CodelMark}
 use Rattle.journal_core.specs.declared.event.Cause.{Cause}
 use Rattle.journal_core.specs.declared.event.Cause.TheVariants.{Codel, Overflow}
-use Rattle.journal_core.specs.declared.event.Event.{Event}
-use Rattle.journal_core.specs.declared.event.Event.TheVariants.{Accepted, Sent, Dropped, Closed}
 use Rattle.journal_core.specs.declared.journal.Counts.{Counts}
 use Rattle.journal_core.specs.Books.{count_accepted, count_sent, count_dropped, count_drops}
-use Rattle.journal_core.specs.Happened.{Acceptance, acceptance_of, fate_of, acceptances, fate_ids, named}
-use Rattle.journal_core.specs.History.{AreCounts}
-use Rattle.journal_core.specs.Statistics.{sent_of, dropped_of, is_codel_drop, is_overflow_drop, is_marked, length_of, length_named, bytes_named}
-use Rattle.journal_core.specs.Steps.{drop_event}
+use Rattle.journal_core.proofs.Words.{count_by, AllByRecursion, filter_map, length-append, filter_map-append, sum_by-append, PacketParts, Waiting, Event, Accepted, Sent, Dropped, Closed, Acceptance, acceptance_of, fate_of, acceptances, fate_ids, named, AreCounts, sent_of, dropped_of, is_codel_drop, is_overflow_drop, is_marked, length_of, length_named, bytes_named, drop_event}
 use Rattle.journal_core.proofs.EventLemmas.{filter_map_same, filter_map_push, sum_more}
 use Rattle.journal_core.proofs.FatelessPackets.{sum_fates}
 use Rattle.journal_core.proofs.FlowShares.{AreFound}

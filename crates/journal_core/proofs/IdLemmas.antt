@@ -1,13 +1,6 @@
 -- Lemmas on acceptances whose ids are consecutive numbers.
 use Rattle.std.proofs.Common.{◌≡◌, ◌≢◌, ℕ, zero, suc, ◌+◌, ◌<◌, ◌≤◌, Bool, true, false, not, ◌||◌, List, [], ◌∷◌, ◌++◌, map, filter, length, get_or, eqb, Some, None, refl, sym, ap, subst, ◌∙◌, inl, inr, arith}
-use Rattle.std.specs.List.{AllByRecursion, range_with_len}
-use Rattle.std.proofs.lemmas.Bool.{cases_Bool, eqb-false, eq-eqb, ne_eqb, or_parts}
-use Rattle.std.proofs.lemmas.Bool.Decides.{nat_tests}
-use Rattle.std.proofs.lemmas.List.{get_or-map, length-map}
-use Rattle.std.proofs.lemmas.List.Elements.{All-from_recursion, recursion_from_All}
-use Rattle.std.proofs.lemmas.List.Folds.{find-append}
-use Rattle.std.proofs.lemmas.List.FromFn.{get_or-range_with_len, length-range_with_len}
-use Rattle.journal_core.specs.Happened.{Acceptance, named, is_among, passes}
+use Rattle.journal_core.proofs.Words.{AllByRecursion, range_with_len, cases_Bool, eqb-false, eq-eqb, ne_eqb, or_parts, nat_tests, get_or-map, length-map, All-from_recursion, recursion_from_All, find-append, get_or-range_with_len, length-range_with_len, Acceptance, named, is_among, passes}
 use Rattle.journal_core.proofs.ListLemmas.{ByRecursion-all, ByRecursion-both, ByRecursion-parts, ByRecursion-weaker, filter_agree_on, filter_keeps_all}
 
 abbrev pub id_of : Acceptance → ℕ

@@ -1,16 +1,8 @@
 -- A run without its refused steps.
 use Rattle.std.proofs.Common.{◌≡◌, true, false, List, [], ◌∷◌, ◌++◌, Option, Some, None, MatchOption, refl, sym, ap, subst, ◌∙◌, inl, inr}
-use Rattle.std.proofs.lemmas.Bool.{cases_Bool, false≢true}
-use Rattle.journal_core.specs.declared.step.Step.{Step}
-use Rattle.journal_core.specs.declared.step.Step.TheVariants.{Enqueue, Dequeue, Close}
 use Rattle.journal_core.specs.declared.step.Refusal.{Refusal}
-use Rattle.journal_core.specs.declared.event.Event.{Event}
-use Rattle.journal_core.specs.declared.outcome.Answer.{Answer}
 use Rattle.journal_core.specs.declared.outcome.Answer.TheVariants as answer
-use Rattle.journal_core.specs.Disciplines.{Discipline, Given}
-use Rattle.journal_core.specs.State.{State, refusal_of}
-use Rattle.journal_core.specs.Steps.{Makes, Steps, dequeue_answer}
-use Rattle.journal_core.specs.Runs.{Made, Runs, is_refused, steps_made, given_by_made, journal_of}
+use Rattle.journal_core.proofs.Words.{cases_Bool, false≢true, Step, Enqueue, Dequeue, Close, Event, Answer, Discipline, Given, State, refusal_of, Makes, Steps, dequeue_answer, Made, Runs, is_refused, steps_made, given_by_made, journal_of}
 
 module _ {Q : Type 0} (d : Discipline Q) where
   -- a step that is made isn't answered as refused

@@ -1,11 +1,6 @@
 use Rattle.std.proofs.Common.{◌≡◌, ◌+◌, ◌++◌, ◌∷◌, [], List, Some, slice_get, take, refl, ap, sym, ◌∙◌}
-use Rattle.std.proofs.lemmas.List.{take_more}
-use Rattle.journal_core.specs.declared.event.Event.{Event}
-use Rattle.journal_core.specs.Happened.{Acceptance, acceptance_of, acceptances}
-use Rattle.journal_core.specs.Tallies.{tuple_of, with_row}
 use Rattle.journal_core.specs.TupleRows.{with_new}
-use Rattle.packet_core.specs.Packets.{same_tuple}
-use Rattle.packet_core.specs.declared.packet.FiveTuple.{FiveTuple}
+use Rattle.journal_core.proofs.Words.{take_more, Event, Acceptance, acceptance_of, acceptances, tuple_of, with_row, same_tuple, FiveTuple}
 use Rattle.journal_core.proofs.EventLemmas.{filter_map_push, filter_map_same}
 use Rattle.journal_core.proofs.TallyLemmas.{nothing_accepted, tallied_adds}
 use Rattle.journal_core.proofs.tuple_rows.Tally.add.Goals as goal
