@@ -1,5 +1,5 @@
 -- The counts that run along are those of the statistics, event by event.
-use Rattle.std.proofs.Common.{◌≡◌, ℕ, ◌+◌, Bool, cond, List, [], ◌∷◌, ◌++◌, length, map, sum_by, Option, Some, None, refl, sym, ap, subst, ◌∙◌, arith, append-nil, append_assoc}
+use Rattle.std.proofs.Common.{◌≡◌, ℕ, ◌+◌, Bool, cond, List, [], ◌∷◌, ◌++◌, length, map, sum_by, Option, Some, None, refl, rules, sym, ap, subst, ◌∙◌, arith, append-nil, append_assoc}
 use Rattle.packet_core.specs.declared.packet.Ecn.{Ecn}
 use Rattle.codel_core.specs.declared.served.Mark.{Mark}
 use Rattle.codel_core.specs.declared.served.Mark.TheVariants.{NoMark, CodelMark}
@@ -61,7 +61,7 @@ counts_accept c events id moment lane flow packet found h =
     let a : Acceptance = record { id = id; moment = moment; lane = lane; flow = flow; packet = packet } in
     let accepted : acceptances (events ++ e ∷ []) ≡ acceptances events ++ a ∷ [] = filter_map_push acceptance_of events e a refl in
     let parts = parts_of (λ i. (b : Acceptance) × (named (acceptances events) i ≡ Some b)) events found in
-    counts_push c (count_accepted c packet.len) events e h (omega arith, omega arith, omega arith, omega arith, omega arith, omega arith, omega arith, omega arith, omega arith)
+    counts_push c (count_accepted c packet.len) events e h (search rules)
     (rw (accepted, filter_map_same sent_of events e refl) (bytes_stay (acceptances events) (a ∷ []) (filter_map sent_of events) parts.0))
     (rw (accepted, filter_map_same dropped_of events e refl) (bytes_stay (acceptances events) (a ∷ []) (filter_map dropped_of events) parts.1))
   where
@@ -75,17 +75,13 @@ counts_accept c events id moment lane flow packet found h =
 
 -- a packet sent
 pub counts_send : (c : Counts) (events : List Event) (id moment : ℕ) (ecn : Ecn) (mark : Mark) (len : ℕ) → length_named (acceptances events) id ≡ len → AreCounts c events → AreCounts (count_sent c len mark) (events ++ Sent id moment ecn mark ∷ [])
-counts_send c events id moment ecn NoMark len value h =
-    counts_without c (count_sent c len NoMark) events (Sent id moment ecn NoMark) h refl (omega arith, omega arith, omega arith, omega arith, omega arith, omega arith, omega arith, omega arith, omega arith)
-counts_send c events id moment ecn CodelMark len value h =
-    counts_without c (count_sent c len CodelMark) events (Sent id moment ecn CodelMark) h refl (omega arith, omega arith, omega arith, omega arith, omega arith, omega arith, omega arith, omega arith, omega arith)
+counts_send c events id moment ecn NoMark len value h = counts_without c (count_sent c len NoMark) events (Sent id moment ecn NoMark) h refl (search rules)
+counts_send c events id moment ecn CodelMark len value h = counts_without c (count_sent c len CodelMark) events (Sent id moment ecn CodelMark) h refl (search rules)
 
 -- a packet dropped
 pub counts_drop : (c : Counts) (events : List Event) (id moment : ℕ) (why : Cause) (len : ℕ) → length_named (acceptances events) id ≡ len → AreCounts c events → AreCounts (count_dropped c len why) (events ++ Dropped id moment why ∷ [])
-counts_drop c events id moment Codel len value h =
-    counts_without c (count_dropped c len Codel) events (Dropped id moment Codel) h refl (omega arith, omega arith, omega arith, omega arith, omega arith, omega arith, omega arith, omega arith, omega arith)
-counts_drop c events id moment Overflow len value h =
-    counts_without c (count_dropped c len Overflow) events (Dropped id moment Overflow) h refl (omega arith, omega arith, omega arith, omega arith, omega arith, omega arith, omega arith, omega arith, omega arith)
+counts_drop c events id moment Codel len value h = counts_without c (count_dropped c len Codel) events (Dropped id moment Codel) h refl (search rules)
+counts_drop c events id moment Overflow len value h = counts_without c (count_dropped c len Overflow) events (Dropped id moment Overflow) h refl (search rules)
 
 -- packets dropped, one after another
 pub counts_drops : (why : Cause) (moment : ℕ) (c : Counts) (events : List Event) (ws : List Waiting) → AllByRecursion (λ w. length_named (acceptances events) w.id ≡ w.packet.len) ws → AreCounts c events → AreCounts (count_drops why c ws) (events ++ map (drop_event moment why) ws)
@@ -105,4 +101,4 @@ count_drops-accepted why c (w ∷ ws) = count_drops-accepted why (count_dropped 
 
 -- a close
 pub counts_close : (c : Counts) (events : List Event) (moment : ℕ) → AreCounts c events → AreCounts c (events ++ Closed moment ∷ [])
-counts_close c events moment h = counts_without c c events (Closed moment) h refl (omega arith, omega arith, omega arith, omega arith, omega arith, omega arith, omega arith, omega arith, omega arith)
+counts_close c events moment h = counts_without c c events (Closed moment) h refl (search rules)
