@@ -1,5 +1,5 @@
 -- The counts that run along are those of the statistics, event by event.
-use Rattle.std.proofs.Common.{◌≡◌, ℕ, ◌+◌, Bool, cond, List, [], ◌∷◌, ◌++◌, length, map, sum_by, Option, Some, None, refl, rules, sym, ap, subst, ◌∙◌, arith, append-nil, append_assoc}
+use Rattle.std.proofs.Common.{◌≡◌, ℕ, ◌+◌, Bool, cond, List, [], ◌∷◌, ◌++◌, length, map, sum_by, Option, Some, None, refl, rules, ap, subst, ◌∙◌, arith, append-nil, append_assoc}
 use Rattle.packet_core.specs.declared.packet.Ecn.{Ecn}
 use Rattle.codel_core.specs.declared.served.Mark.{Mark}
 use Rattle.codel_core.specs.declared.served.Mark.TheVariants.{NoMark, CodelMark}
@@ -27,19 +27,19 @@ module _ (c c' : Counts) (events : List Event) (e : Event) (h : AreCounts c even
   counts_push : Grow c c' (acceptances events) e → bytes_named (acceptances (events ++ e ∷ [])) (filter_map sent_of (events ++ e ∷ [])) ≡ bytes_named (acceptances events) (filter_map sent_of (events ++ e ∷ []))
       → bytes_named (acceptances (events ++ e ∷ [])) (filter_map dropped_of (events ++ e ∷ [])) ≡ bytes_named (acceptances events) (filter_map dropped_of (events ++ e ∷ [])) → AreCounts c' (events ++ e ∷ [])
   counts_push grow sent_stay dropped_stay =
+      let sent_more = sum_more (length_named (acceptances events)) sent_of events e in
+      let dropped_more = sum_more (length_named (acceptances events)) dropped_of events e in
       record {
         accepted = omega (arith, h.accepted, grow.0, length_more acceptance_of);
         accepted_bytes = omega (arith, h.accepted_bytes, grow.1, sum_more length_of acceptance_of events e);
         sent = omega (arith, h.sent, grow.2, length_more sent_of);
-        sent_bytes = omega (arith, h.sent_bytes, grow.3, sent_stay, sum_more (length_named (acceptances events)) sent_of events e);
+        sent_bytes = omega (arith, h.sent_bytes, grow.3);
         dropped_codel = omega (arith, h.dropped_codel, grow.4, count_more is_codel_drop);
         dropped_overflow = omega (arith, h.dropped_overflow, grow.5, count_more is_overflow_drop);
-        dropped_bytes = omega (arith, h.dropped_bytes, grow.6, dropped_stay, sum_more (length_named (acceptances events)) dropped_of events e);
+        dropped_bytes = omega (arith, h.dropped_bytes, grow.6);
         marked = omega (arith, h.marked, grow.7, count_more is_marked);
         fates = omega (arith, h.fates, grow.8, length_more fate_of);
-        fate_bytes =
-            omega (arith, h.sent_bytes, h.dropped_bytes, grow.3, grow.6, sent_stay, dropped_stay, sum_more (length_named (acceptances events)) sent_of events e, sum_more (length_named (acceptances events)) dropped_of events e,
-            sum_fates (length_named (acceptances (events ++ e ∷ []))) (events ++ e ∷ []));
+        fate_bytes = omega (arith, h.sent_bytes, h.dropped_bytes, grow.3, grow.6, sum_fates (length_named (acceptances (events ++ e ∷ []))) (events ++ e ∷ []));
       }
     where
       length_more : {X : Type 0} (f : Event → Option X) → length (filter_map f (events ++ e ∷ [])) ≡ length (filter_map f events) + length (filter_map f (e ∷ []))

@@ -1,5 +1,5 @@
 -- How one event carries a history on.
-use Rattle.std.proofs.Common.{◌≡◌, ◌≢◌, ℕ, ◌+◌, ◌<◌, ◌≤◌, Bool, true, false, ◌||◌, List, [], ◌∷◌, ◌++◌, length, map, sum_by, All, eqb, Some, None, refl, sym, ap, subst, ◌∙◌, ◌⊎◌, inl, inr, arith}
+use Rattle.std.proofs.Common.{◌≡◌, ℕ, ◌+◌, ◌<◌, ◌≤◌, Bool, true, false, ◌||◌, List, [], ◌∷◌, ◌++◌, length, map, sum_by, All, eqb, Some, None, refl, sym, ap, subst, ◌∙◌, ◌⊎◌, inl, inr, arith}
 use Rattle.journal_core.proofs.Words.{range_with_len, eqb-true, cases_eq, eq-eqb, ne_eqb, map-append, All-push, All-weaker, recursion_from_All, find-append, list_any-append, PacketParts, FiveTuple, Waiting, Event, Accepted, Closed, LeavesHead, with_arrival, Acceptance, waiting_of, acceptance_of, fate_of, moment_of, is_closed, acceptances, accepted_ids, fate_ids, named, without_fate, AreDistinct, FlowsAreNamed, IsHonest, is_barred, length_of, length_named, bytes_named, IsHistory, IsLine}
 use Rattle.journal_core.proofs.ListLemmas.{length_as_sum, sum_by_agree_on, ByRecursion-weaker, All-found}
 use Rattle.journal_core.proofs.IdLemmas.{id_of, ids_below, many_ids, Rises-range, differs_from_each}

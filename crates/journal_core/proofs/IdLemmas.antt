@@ -75,8 +75,8 @@ named_none (a ∷ accepted) id h = rw (ne_eqb a.id id h.0) (named_none accepted 
 pub named_itself : (k : ℕ) (accepted : List Acceptance) → Rises k accepted → AllByRecursion (λ a. named accepted a.id ≡ Some a) accepted
 named_itself k [] r = tt
 named_itself k (a ∷ accepted) r =
-    (rw (eq-eqb a.id a.id refl), ByRecursion-weaker (λ b. (a.id + 1 ≤ b.id) × (named accepted b.id ≡ Some b)) (λ b. named (a ∷ accepted) b.id ≡ Some b) accepted
-    (λ b h. let low = h.0 in rw (ne_eqb a.id b.id (λ s. omega arith)) h.1) (ByRecursion-both _ _ accepted (Rises-above (a.id + 1) accepted r.1) (named_itself (a.id + 1) accepted r.1)))
+    let behind = ByRecursion-both _ _ accepted (Rises-above (a.id + 1) accepted r.1) (named_itself (a.id + 1) accepted r.1) in
+    (rw (eq-eqb a.id a.id refl), ByRecursion-weaker (λ b. (a.id + 1 ≤ b.id) × (named accepted b.id ≡ Some b)) (λ b. named (a ∷ accepted) b.id ≡ Some b) accepted (λ b h. let low = h.0 in rw (ne_eqb a.id b.id (λ s. omega arith)) h.1) behind)
 
 -- each number that an id has is found, at its place
 pub named_at : (n : ℕ) (accepted : List Acceptance) (id : ℕ) (a : Acceptance) → map id_of accepted ≡ range_with_len 0 n → id < n → named accepted id ≡ Some (get_or accepted id a)

@@ -1,7 +1,7 @@
 -- What waits is what has no fate: the numbers of packets and bytes in the queues are those of the journal.
-use Rattle.std.proofs.Common.{◌≡◌, ◌≢◌, ℕ, suc, ◌+◌, ◌<◌, ◌≤◌, Bool, true, false, not, List, [], ◌∷◌, map, filter, eqb, get_or, length, sum_by, refl, ap, ◌∙◌, inl, inr, arith}
+use Rattle.std.proofs.Common.{◌≡◌, ◌≢◌, ℕ, suc, ◌+◌, ◌<◌, ◌≤◌, Bool, true, false, not, List, [], ◌∷◌, map, filter, eqb, get_or, length, sum_by, refl, ap, ◌∙◌, arith}
 use Rattle.std.proofs.lemmas.List.Filters.{sum_by-filter_both}
-use Rattle.journal_core.proofs.Words.{nat_tests, AllByRecursion, cases_eq, eq-eqb, ne_eqb, sum_by-cons, Waiting, Acceptance, waiting_of}
+use Rattle.journal_core.proofs.Words.{nat_tests, AllByRecursion, eq-eqb, sum_by-cons, Waiting, Acceptance, waiting_of}
 use Rattle.journal_core.proofs.ListLemmas.{ByRecursion-both, ByRecursion-filter, ByRecursion-passes, ByRecursion-weaker, ByRecursion-all, filter_within}
 
 sum_by-map : {X Y : Type 0} (f : X → Y) (h : Y → ℕ) (xs : List X) → sum_by h (map f xs) ≡ sum_by (λ x. h (f x)) xs
