@@ -1,25 +1,13 @@
 -- The counts that run along are those of the statistics, event by event.
-use Rattle.std.proofs.Common.{◌≡◌, ℕ, ◌+◌, Bool, cond, List, [], ◌∷◌, ◌++◌, length, map, sum_by, Option, Some, None, refl, sym, ap, subst, ◌∙◌, arith, append-nil, append_assoc}
-use Rattle.std.specs.Prelude.{count_by}
-use Rattle.std.specs.List.{AllByRecursion, filter_map}
-use Rattle.std.proofs.lemmas.List.{length-append}
-use Rattle.std.proofs.lemmas.List.Elements.{filter_map-append}
-use Rattle.std.proofs.lemmas.List.Sums.{sum_by-append}
-use Rattle.packet_core.specs.Packets.{PacketParts}
+use Rattle.std.proofs.Common.{◌≡◌, ℕ, ◌+◌, Bool, cond, List, [], ◌∷◌, ◌++◌, length, map, sum_by, Option, Some, None, refl, rules, ap, subst, ◌∙◌, arith, append-nil, append_assoc}
 use Rattle.packet_core.specs.declared.packet.Ecn.{Ecn}
-use Rattle.packet_core.specs.declared.packet.Waiting.{Waiting}
 use Rattle.codel_core.specs.declared.served.Mark.{Mark}
 use Rattle.codel_core.specs.declared.served.Mark.TheVariants.{NoMark, CodelMark}
 use Rattle.journal_core.specs.declared.event.Cause.{Cause}
 use Rattle.journal_core.specs.declared.event.Cause.TheVariants.{Codel, Overflow}
-use Rattle.journal_core.specs.declared.event.Event.{Event}
-use Rattle.journal_core.specs.declared.event.Event.TheVariants.{Accepted, Sent, Dropped, Closed}
 use Rattle.journal_core.specs.declared.journal.Counts.{Counts}
 use Rattle.journal_core.specs.Books.{count_accepted, count_sent, count_dropped, count_drops}
-use Rattle.journal_core.specs.Happened.{Acceptance, acceptance_of, fate_of, acceptances, fate_ids, named}
-use Rattle.journal_core.specs.History.{AreCounts}
-use Rattle.journal_core.specs.Statistics.{sent_of, dropped_of, is_codel_drop, is_overflow_drop, is_marked, length_of, length_named, bytes_named}
-use Rattle.journal_core.specs.Steps.{drop_event}
+use Rattle.journal_core.proofs.Words.{count_by, AllByRecursion, filter_map, length-append, filter_map-append, sum_by-append, PacketParts, Waiting, Event, Accepted, Sent, Dropped, Closed, Acceptance, acceptance_of, fate_of, acceptances, fate_ids, named, AreCounts, sent_of, dropped_of, is_codel_drop, is_overflow_drop, is_marked, length_of, length_named, bytes_named, drop_event}
 use Rattle.journal_core.proofs.EventLemmas.{filter_map_same, filter_map_push, sum_more}
 use Rattle.journal_core.proofs.FatelessPackets.{sum_fates}
 use Rattle.journal_core.proofs.FlowShares.{AreFound}
@@ -39,19 +27,19 @@ module _ (c c' : Counts) (events : List Event) (e : Event) (h : AreCounts c even
   counts_push : Grow c c' (acceptances events) e → bytes_named (acceptances (events ++ e ∷ [])) (filter_map sent_of (events ++ e ∷ [])) ≡ bytes_named (acceptances events) (filter_map sent_of (events ++ e ∷ []))
       → bytes_named (acceptances (events ++ e ∷ [])) (filter_map dropped_of (events ++ e ∷ [])) ≡ bytes_named (acceptances events) (filter_map dropped_of (events ++ e ∷ [])) → AreCounts c' (events ++ e ∷ [])
   counts_push grow sent_stay dropped_stay =
+      let sent_more = sum_more (length_named (acceptances events)) sent_of events e in
+      let dropped_more = sum_more (length_named (acceptances events)) dropped_of events e in
       record {
         accepted = omega (arith, h.accepted, grow.0, length_more acceptance_of);
         accepted_bytes = omega (arith, h.accepted_bytes, grow.1, sum_more length_of acceptance_of events e);
         sent = omega (arith, h.sent, grow.2, length_more sent_of);
-        sent_bytes = omega (arith, h.sent_bytes, grow.3, sent_stay, sum_more (length_named (acceptances events)) sent_of events e);
+        sent_bytes = omega (arith, h.sent_bytes, grow.3);
         dropped_codel = omega (arith, h.dropped_codel, grow.4, count_more is_codel_drop);
         dropped_overflow = omega (arith, h.dropped_overflow, grow.5, count_more is_overflow_drop);
-        dropped_bytes = omega (arith, h.dropped_bytes, grow.6, dropped_stay, sum_more (length_named (acceptances events)) dropped_of events e);
+        dropped_bytes = omega (arith, h.dropped_bytes, grow.6);
         marked = omega (arith, h.marked, grow.7, count_more is_marked);
         fates = omega (arith, h.fates, grow.8, length_more fate_of);
-        fate_bytes =
-            omega (arith, h.sent_bytes, h.dropped_bytes, grow.3, grow.6, sent_stay, dropped_stay, sum_more (length_named (acceptances events)) sent_of events e, sum_more (length_named (acceptances events)) dropped_of events e,
-            sum_fates (length_named (acceptances (events ++ e ∷ []))) (events ++ e ∷ []));
+        fate_bytes = omega (arith, h.sent_bytes, h.dropped_bytes, grow.3, grow.6, sum_fates (length_named (acceptances (events ++ e ∷ []))) (events ++ e ∷ []));
       }
     where
       length_more : {X : Type 0} (f : Event → Option X) → length (filter_map f (events ++ e ∷ [])) ≡ length (filter_map f events) + length (filter_map f (e ∷ []))
@@ -73,7 +61,7 @@ counts_accept c events id moment lane flow packet found h =
     let a : Acceptance = record { id = id; moment = moment; lane = lane; flow = flow; packet = packet } in
     let accepted : acceptances (events ++ e ∷ []) ≡ acceptances events ++ a ∷ [] = filter_map_push acceptance_of events e a refl in
     let parts = parts_of (λ i. (b : Acceptance) × (named (acceptances events) i ≡ Some b)) events found in
-    counts_push c (count_accepted c packet.len) events e h (omega arith, omega arith, omega arith, omega arith, omega arith, omega arith, omega arith, omega arith, omega arith)
+    counts_push c (count_accepted c packet.len) events e h (search rules)
     (rw (accepted, filter_map_same sent_of events e refl) (bytes_stay (acceptances events) (a ∷ []) (filter_map sent_of events) parts.0))
     (rw (accepted, filter_map_same dropped_of events e refl) (bytes_stay (acceptances events) (a ∷ []) (filter_map dropped_of events) parts.1))
   where
@@ -87,17 +75,13 @@ counts_accept c events id moment lane flow packet found h =
 
 -- a packet sent
 pub counts_send : (c : Counts) (events : List Event) (id moment : ℕ) (ecn : Ecn) (mark : Mark) (len : ℕ) → length_named (acceptances events) id ≡ len → AreCounts c events → AreCounts (count_sent c len mark) (events ++ Sent id moment ecn mark ∷ [])
-counts_send c events id moment ecn NoMark len value h =
-    counts_without c (count_sent c len NoMark) events (Sent id moment ecn NoMark) h refl (omega arith, omega arith, omega arith, omega arith, omega arith, omega arith, omega arith, omega arith, omega arith)
-counts_send c events id moment ecn CodelMark len value h =
-    counts_without c (count_sent c len CodelMark) events (Sent id moment ecn CodelMark) h refl (omega arith, omega arith, omega arith, omega arith, omega arith, omega arith, omega arith, omega arith, omega arith)
+counts_send c events id moment ecn NoMark len value h = counts_without c (count_sent c len NoMark) events (Sent id moment ecn NoMark) h refl (search rules)
+counts_send c events id moment ecn CodelMark len value h = counts_without c (count_sent c len CodelMark) events (Sent id moment ecn CodelMark) h refl (search rules)
 
 -- a packet dropped
 pub counts_drop : (c : Counts) (events : List Event) (id moment : ℕ) (why : Cause) (len : ℕ) → length_named (acceptances events) id ≡ len → AreCounts c events → AreCounts (count_dropped c len why) (events ++ Dropped id moment why ∷ [])
-counts_drop c events id moment Codel len value h =
-    counts_without c (count_dropped c len Codel) events (Dropped id moment Codel) h refl (omega arith, omega arith, omega arith, omega arith, omega arith, omega arith, omega arith, omega arith, omega arith)
-counts_drop c events id moment Overflow len value h =
-    counts_without c (count_dropped c len Overflow) events (Dropped id moment Overflow) h refl (omega arith, omega arith, omega arith, omega arith, omega arith, omega arith, omega arith, omega arith, omega arith)
+counts_drop c events id moment Codel len value h = counts_without c (count_dropped c len Codel) events (Dropped id moment Codel) h refl (search rules)
+counts_drop c events id moment Overflow len value h = counts_without c (count_dropped c len Overflow) events (Dropped id moment Overflow) h refl (search rules)
 
 -- packets dropped, one after another
 pub counts_drops : (why : Cause) (moment : ℕ) (c : Counts) (events : List Event) (ws : List Waiting) → AllByRecursion (λ w. length_named (acceptances events) w.id ≡ w.packet.len) ws → AreCounts c events → AreCounts (count_drops why c ws) (events ++ map (drop_event moment why) ws)
@@ -117,4 +101,4 @@ count_drops-accepted why c (w ∷ ws) = count_drops-accepted why (count_dropped 
 
 -- a close
 pub counts_close : (c : Counts) (events : List Event) (moment : ℕ) → AreCounts c events → AreCounts c (events ++ Closed moment ∷ [])
-counts_close c events moment h = counts_without c c events (Closed moment) h refl (omega arith, omega arith, omega arith, omega arith, omega arith, omega arith, omega arith, omega arith, omega arith)
+counts_close c events moment h = counts_without c c events (Closed moment) h refl (search rules)

@@ -1,18 +1,8 @@
 -- How one event at a journal's end changes what is read off the journal.
-use Rattle.std.proofs.Common.{◌≡◌, ◌≢◌, ℕ, zero, suc, ◌+◌, ◌<◌, ◌≤◌, false, List, [], ◌∷◌, ◌++◌, length, map, sum_by, All, ◌==◌, ◌-◌, Option, Some, None, refl, sym, ap, subst, ◌∙◌, inl, inr, arith, append-nil}
-use Rattle.std.specs.List.{AllByRecursion, Contains, filter_map, list_any, range_with_len}
+use Rattle.std.proofs.Common.{◌≡◌, ◌≢◌, ℕ, ◌+◌, ◌<◌, ◌≤◌, false, List, [], ◌∷◌, ◌++◌, length, map, sum_by, All, ◌==◌, ◌-◌, Option, Some, None, refl, sym, ap, ◌∙◌, inl, inr, arith, append-nil}
 use Rattle.std.specs.Option.{IsSomeAnd, option_or}
-use Rattle.std.proofs.lemmas.Bool.{cases_lt, false≢true, or_parts}
-use Rattle.std.proofs.lemmas.List.{take-append-le, take_all, map-append, map-id, length_push}
-use Rattle.std.proofs.lemmas.List.Elements.{filter_map-append, All-push, All-weaker}
-use Rattle.std.proofs.lemmas.List.FromFn.{length-range_with_len, get_or-range_with_len, map-range_with_len_more}
-use Rattle.std.proofs.lemmas.List.Folds.{find-append, list_any-append}
-use Rattle.std.proofs.lemmas.List.Sums.{sum_by-append}
 use Rattle.std.proofs.lemmas.List.Sorted.{IsNonDecreasingBy-push}
-use Rattle.journal_core.specs.declared.event.Event.{Event}
-use Rattle.journal_core.specs.declared.event.Event.TheVariants.{Accepted, Sent, Dropped, Closed}
-use Rattle.journal_core.specs.Happened.{Acceptance, moment_of, is_closed, accepted_ids, fate_ids, named}
-use Rattle.journal_core.specs.JournalLaws.{FatesFollow, AreDistinct, IsClosedForGood, IsHonest, is_barred, MomentsRise}
+use Rattle.journal_core.proofs.Words.{AllByRecursion, Contains, filter_map, list_any, range_with_len, cases_lt, false≢true, or_parts, take-append-le, take_all, map-append, map-id, length_push, filter_map-append, All-push, All-weaker, length-range_with_len, get_or-range_with_len, map-range_with_len_more, find-append, list_any-append, sum_by-append, Event, Accepted, Sent, Dropped, Closed, Acceptance, moment_of, is_closed, accepted_ids, fate_ids, named, FatesFollow, AreDistinct, IsClosedForGood, IsHonest, is_barred, MomentsRise}
 use Rattle.journal_core.proofs.ListLemmas.{ByRecursion-weaker}
 use Rattle.journal_core.proofs.IdLemmas.{named_within, id_of}
 use Rattle.journal_core.proofs.FlowShares.{AreFound}

@@ -1,16 +1,7 @@
 -- What has no fate and what has one make up what was accepted.
-use Rattle.std.proofs.Common.{◌≡◌, ◌≢◌, ℕ, ◌+◌, ◌≤◌, ◌<◌, Bool, true, false, cond, not, List, [], ◌∷◌, length, filter, map, sum_by, Option, Some, None, sym, ap, ◌∙◌, refl, inl, inr, arith}
-use Rattle.std.specs.Prelude.{count_by}
-use Rattle.std.specs.List.{AllByRecursion, filter_map}
+use Rattle.std.proofs.Common.{◌≡◌, ◌≢◌, ℕ, ◌+◌, ◌≤◌, Bool, false, cond, not, List, [], ◌∷◌, filter, sum_by, Option, Some, None, sym, ap, ◌∙◌, refl, inl, inr, arith}
 use Rattle.std.specs.Option.{option_map_or}
-use Rattle.std.proofs.lemmas.Bool.{cases_Bool, cases_eq, eq-eqb, ne_eqb}
-use Rattle.std.proofs.lemmas.List.Elements.{recursion_from_All}
-use Rattle.std.proofs.lemmas.List.Sums.{sum_by-cons}
-use Rattle.journal_core.specs.declared.event.Event.{Event}
-use Rattle.journal_core.specs.declared.event.Event.TheVariants.{Accepted, Sent, Dropped, Closed}
-use Rattle.journal_core.specs.Happened.{Acceptance, fate_ids, is_among, named, passes}
-use Rattle.journal_core.specs.JournalLaws.{AreDistinct}
-use Rattle.journal_core.specs.Statistics.{sent_of, dropped_of}
+use Rattle.journal_core.proofs.Words.{count_by, filter_map, cases_Bool, cases_eq, eq-eqb, ne_eqb, recursion_from_All, sum_by-cons, Event, Accepted, Sent, Dropped, Closed, Acceptance, fate_ids, is_among, named, passes, AreDistinct, sent_of, dropped_of}
 use Rattle.journal_core.proofs.ListLemmas.{ByRecursion-weaker}
 use Rattle.journal_core.proofs.IdLemmas.{Rises, Rises-above, is_among_none, named_none}
 

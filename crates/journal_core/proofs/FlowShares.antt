@@ -1,12 +1,6 @@
 -- How an event carries on one flow's share of a journal.
-use Rattle.std.proofs.Common.{◌≡◌, ◌≢◌, ℕ, ◌+◌, ◌≤◌, Bool, true, false, cond, List, [], ◌∷◌, ◌++◌, map, filter, eqb, Some, refl, sym, ap, subst, ◌∙◌, inl, inr, arith, append_assoc, append-nil}
-use Rattle.std.specs.List.{AllByRecursion}
-use Rattle.std.proofs.lemmas.Bool.{cases_Bool}
-use Rattle.std.proofs.lemmas.List.{map-append}
-use Rattle.std.proofs.lemmas.List.Elements.{filter-append}
-use Rattle.packet_core.specs.declared.packet.Waiting.{Waiting}
-use Rattle.journal_core.specs.Happened.{Acceptance, waiting_of, named, is_among, passes}
-use Rattle.journal_core.specs.History.{IsLine}
+use Rattle.std.proofs.Common.{◌≡◌, ℕ, Bool, true, false, cond, List, [], ◌∷◌, ◌++◌, map, filter, eqb, Some, refl, sym, ap, subst, ◌∙◌, inl, inr, append_assoc, append-nil}
+use Rattle.journal_core.proofs.Words.{AllByRecursion, cases_Bool, map-append, filter-append, Waiting, Acceptance, waiting_of, named, is_among, passes, IsLine}
 use Rattle.journal_core.proofs.ListLemmas.{filter_agree_on, ByRecursion-both, ByRecursion-filter, ByRecursion-passes, ByRecursion-parts, ByRecursion-weaker}
 use Rattle.journal_core.proofs.IdLemmas.{id_of, Rises, Rises-apart, Rises-filter, named_itself, passes_at, passes-append, is_among-filter}
 

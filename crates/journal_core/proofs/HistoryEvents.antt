@@ -1,20 +1,6 @@
 -- How one event carries a history on.
-use Rattle.std.proofs.Common.{◌≡◌, ◌≢◌, ℕ, ◌+◌, ◌<◌, ◌≤◌, Bool, true, false, ◌||◌, List, [], ◌∷◌, ◌++◌, length, map, sum_by, All, eqb, Some, None, refl, sym, ap, subst, ◌∙◌, ◌⊎◌, inl, inr, arith}
-use Rattle.std.specs.List.{range_with_len}
-use Rattle.std.proofs.lemmas.Bool.{eqb-true, cases_eq, eq-eqb, ne_eqb}
-use Rattle.std.proofs.lemmas.List.{map-append}
-use Rattle.std.proofs.lemmas.List.Elements.{All-push, All-weaker, recursion_from_All}
-use Rattle.std.proofs.lemmas.List.Folds.{find-append, list_any-append}
-use Rattle.packet_core.specs.Packets.{PacketParts}
-use Rattle.packet_core.specs.declared.packet.FiveTuple.{FiveTuple}
-use Rattle.packet_core.specs.declared.packet.Waiting.{Waiting}
-use Rattle.journal_core.specs.declared.event.Event.{Event}
-use Rattle.journal_core.specs.declared.event.Event.TheVariants.{Accepted, Closed}
-use Rattle.journal_core.specs.Disciplines.{LeavesHead, with_arrival}
-use Rattle.journal_core.specs.Happened.{Acceptance, waiting_of, acceptance_of, fate_of, moment_of, is_closed, acceptances, accepted_ids, fate_ids, named, without_fate}
-use Rattle.journal_core.specs.JournalLaws.{AreDistinct, FlowsAreNamed, IsHonest, is_barred}
-use Rattle.journal_core.specs.Statistics.{length_of, length_named, bytes_named}
-use Rattle.journal_core.specs.History.{IsHistory, IsLine}
+use Rattle.std.proofs.Common.{◌≡◌, ℕ, ◌+◌, ◌<◌, ◌≤◌, Bool, true, false, ◌||◌, List, [], ◌∷◌, ◌++◌, length, map, sum_by, All, eqb, Some, None, refl, sym, ap, subst, ◌∙◌, ◌⊎◌, inl, inr, arith}
+use Rattle.journal_core.proofs.Words.{range_with_len, eqb-true, cases_eq, eq-eqb, ne_eqb, map-append, All-push, All-weaker, recursion_from_All, find-append, list_any-append, PacketParts, FiveTuple, Waiting, Event, Accepted, Closed, LeavesHead, with_arrival, Acceptance, waiting_of, acceptance_of, fate_of, moment_of, is_closed, acceptances, accepted_ids, fate_ids, named, without_fate, AreDistinct, FlowsAreNamed, IsHonest, is_barred, length_of, length_named, bytes_named, IsHistory, IsLine}
 use Rattle.journal_core.proofs.ListLemmas.{length_as_sum, sum_by_agree_on, ByRecursion-weaker, All-found}
 use Rattle.journal_core.proofs.IdLemmas.{id_of, ids_below, many_ids, Rises-range, differs_from_each}
 use Rattle.journal_core.proofs.FlowShares.{AreFound, line_accepts, line_leaves, line_stays, Leaves}

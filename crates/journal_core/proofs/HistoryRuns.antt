@@ -1,29 +1,11 @@
 -- Every step of a discipline that is first in, first out by flow carries its history on, and so does every run.
-use Rattle.std.proofs.Common.{◌≡◌, ℕ, zero, suc, ◌+◌, ◌<◌, ◌≤◌, Bool, false, List, [], ◌∷◌, ◌++◌, map, All, IfSome, take, eqb, Option, Some, None, MatchOption, refl, sym, ap, subst, ◌∙◌, inl, inr, arith, rules, append_assoc, append-nil}
-use Rattle.std.specs.List.{Contains, flat_map}
-use Rattle.std.proofs.lemmas.Bool.{cases_Bool}
-use Rattle.std.proofs.lemmas.List.{map-append}
-use Rattle.std.proofs.lemmas.List.Elements.{All-weaker}
-use Rattle.packet_core.specs.Packets.{PacketParts}
-use Rattle.packet_core.specs.declared.packet.FiveTuple.{FiveTuple}
-use Rattle.packet_core.specs.declared.packet.Waiting.{Waiting}
+use Rattle.std.proofs.Common.{◌≡◌, ℕ, ◌+◌, ◌≤◌, Bool, false, List, [], ◌∷◌, ◌++◌, map, IfSome, eqb, Option, Some, None, MatchOption, refl, sym, ap, subst, ◌∙◌, inl, inr, arith, rules, append_assoc, append-nil}
 use Rattle.journal_core.specs.declared.event.Cause.{Cause}
 use Rattle.journal_core.specs.declared.event.Cause.TheVariants as cause
-use Rattle.journal_core.specs.declared.event.Event.{Event}
-use Rattle.journal_core.specs.declared.event.Event.TheVariants.{Accepted, Sent}
-use Rattle.journal_core.specs.declared.step.Step.{Step}
-use Rattle.journal_core.specs.declared.step.Step.TheVariants.{Enqueue, Dequeue, Close}
 use Rattle.journal_core.specs.declared.step.Refusal.{Refusal}
-use Rattle.journal_core.specs.declared.outcome.Answer.{Answer}
 use Rattle.journal_core.specs.declared.outcome.Answer.TheVariants as answer
 use Rattle.codel_core.specs.Verdict.{sent_ecn}
-use Rattle.journal_core.specs.Disciplines.{Discipline, Given, Batch, packets_of, LeaveHeads, IsFifoByFlow, LeavesHead, heads, with_arrival, given_packet, MayHave}
-use Rattle.journal_core.specs.Happened.{Acceptance, waiting_of, moment_of, acceptances, accepted_ids, fate_ids, named}
-use Rattle.journal_core.specs.JournalLaws.{IsHonest, JournalLaws, WaitWithoutFate}
-use Rattle.journal_core.specs.History.{IsHistory, IsLine}
-use Rattle.journal_core.specs.State.{State, opening_state, arrival, refusal_of}
-use Rattle.journal_core.specs.Steps.{drop_event, sent_events, Admits, Serves, Closes, Makes, Steps}
-use Rattle.journal_core.specs.Runs.{Made, Runs, journal_of}
+use Rattle.journal_core.proofs.Words.{flat_map, cases_Bool, map-append, All-weaker, PacketParts, FiveTuple, Waiting, Event, Accepted, Sent, Step, Enqueue, Dequeue, Close, Answer, Discipline, Given, Batch, packets_of, LeaveHeads, IsFifoByFlow, LeavesHead, heads, with_arrival, given_packet, MayHave, Acceptance, waiting_of, moment_of, acceptances, fate_ids, named, IsHonest, JournalLaws, WaitWithoutFate, IsHistory, IsLine, State, opening_state, arrival, refusal_of, drop_event, sent_events, Admits, Serves, Closes, Makes, Steps, Made, Runs, journal_of}
 use Rattle.journal_core.proofs.HistoryEvents.{history_accepts, history_closes, history_fates}
 use Rattle.journal_core.proofs.LawsOfHistory.{laws_of_history, waits_of_history}
 use Rattle.journal_core.proofs.RefusalLemmas.{dequeue_next, enqueue_open, close_open}

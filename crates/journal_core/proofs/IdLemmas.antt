@@ -1,13 +1,6 @@
 -- Lemmas on acceptances whose ids are consecutive numbers.
 use Rattle.std.proofs.Common.{◌≡◌, ◌≢◌, ℕ, zero, suc, ◌+◌, ◌<◌, ◌≤◌, Bool, true, false, not, ◌||◌, List, [], ◌∷◌, ◌++◌, map, filter, length, get_or, eqb, Some, None, refl, sym, ap, subst, ◌∙◌, inl, inr, arith}
-use Rattle.std.specs.List.{AllByRecursion, range_with_len}
-use Rattle.std.proofs.lemmas.Bool.{cases_Bool, eqb-false, eq-eqb, ne_eqb, or_parts}
-use Rattle.std.proofs.lemmas.Bool.Decides.{nat_tests}
-use Rattle.std.proofs.lemmas.List.{get_or-map, length-map}
-use Rattle.std.proofs.lemmas.List.Elements.{All-from_recursion, recursion_from_All}
-use Rattle.std.proofs.lemmas.List.Folds.{find-append}
-use Rattle.std.proofs.lemmas.List.FromFn.{get_or-range_with_len, length-range_with_len}
-use Rattle.journal_core.specs.Happened.{Acceptance, named, is_among, passes}
+use Rattle.journal_core.proofs.Words.{AllByRecursion, range_with_len, cases_Bool, eqb-false, eq-eqb, ne_eqb, or_parts, nat_tests, get_or-map, length-map, All-from_recursion, recursion_from_All, find-append, get_or-range_with_len, length-range_with_len, Acceptance, named, is_among, passes}
 use Rattle.journal_core.proofs.ListLemmas.{ByRecursion-all, ByRecursion-both, ByRecursion-parts, ByRecursion-weaker, filter_agree_on, filter_keeps_all}
 
 abbrev pub id_of : Acceptance → ℕ
@@ -82,8 +75,8 @@ named_none (a ∷ accepted) id h = rw (ne_eqb a.id id h.0) (named_none accepted 
 pub named_itself : (k : ℕ) (accepted : List Acceptance) → Rises k accepted → AllByRecursion (λ a. named accepted a.id ≡ Some a) accepted
 named_itself k [] r = tt
 named_itself k (a ∷ accepted) r =
-    (rw (eq-eqb a.id a.id refl), ByRecursion-weaker (λ b. (a.id + 1 ≤ b.id) × (named accepted b.id ≡ Some b)) (λ b. named (a ∷ accepted) b.id ≡ Some b) accepted
-    (λ b h. let low = h.0 in rw (ne_eqb a.id b.id (λ s. omega arith)) h.1) (ByRecursion-both _ _ accepted (Rises-above (a.id + 1) accepted r.1) (named_itself (a.id + 1) accepted r.1)))
+    let behind = ByRecursion-both _ _ accepted (Rises-above (a.id + 1) accepted r.1) (named_itself (a.id + 1) accepted r.1) in
+    (rw (eq-eqb a.id a.id refl), ByRecursion-weaker (λ b. (a.id + 1 ≤ b.id) × (named accepted b.id ≡ Some b)) (λ b. named (a ∷ accepted) b.id ≡ Some b) accepted (λ b h. let low = h.0 in rw (ne_eqb a.id b.id (λ s. omega arith)) h.1) behind)
 
 -- each number that an id has is found, at its place
 pub named_at : (n : ℕ) (accepted : List Acceptance) (id : ℕ) (a : Acceptance) → map id_of accepted ≡ range_with_len 0 n → id < n → named accepted id ≡ Some (get_or accepted id a)

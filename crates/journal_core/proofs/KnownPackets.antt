@@ -1,12 +1,6 @@
 -- What waits is known: the journal names it, with its length.
 use Rattle.std.proofs.Common.{◌≡◌, ℕ, Bool, List, refl}
-use Rattle.std.specs.List.{AllByRecursion}
-use Rattle.packet_core.specs.declared.packet.FiveTuple.{FiveTuple}
-use Rattle.packet_core.specs.declared.packet.Waiting.{Waiting}
-use Rattle.journal_core.specs.declared.event.Event.{Event}
-use Rattle.journal_core.specs.Happened.{waiting_of, acceptances}
-use Rattle.journal_core.specs.History.{IsHistory}
-use Rattle.journal_core.specs.Statistics.{length_named}
+use Rattle.journal_core.proofs.Words.{AllByRecursion, FiveTuple, Waiting, Event, waiting_of, acceptances, IsHistory, length_named}
 use Rattle.journal_core.proofs.IdLemmas.{Rises-range}
 use Rattle.journal_core.proofs.FlowShares.{IsOwn, parts_own}
 use Rattle.journal_core.proofs.ListLemmas.{ByRecursion-map, ByRecursion-weaker}

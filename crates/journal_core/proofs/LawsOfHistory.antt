@@ -1,22 +1,10 @@
 -- The laws of the journal, from a history.
-use Rattle.std.proofs.Common.{◌≡◌, ◌≢◌, ℕ, ◌+◌, ◌<◌, ◌≤◌, Bool, true, false, not, ◌&&◌, List, [], ◌∷◌, ◌++◌, length, map, filter, take, eqb, Decides, Some, refl, sym, ap, subst, ◌∙◌, arith}
-use Rattle.std.specs.List.{AllByRecursion, range_with_len}
-use Rattle.std.proofs.lemmas.Bool.{eq-eqb}
-use Rattle.std.proofs.lemmas.Bool.Decides.{Decides-and, Decides-eqb, Decides-like}
+use Rattle.std.proofs.Common.{◌≡◌, ℕ, ◌<◌, Bool, true, not, List, ◌++◌, length, map, filter, take, eqb, Decides, Some, refl, sym, ap, subst, ◌∙◌}
 use Rattle.std.specs.Str.{bytes_eq}
-use Rattle.std.proofs.lemmas.List.{map-append, take_at, length-map}
-use Rattle.std.proofs.lemmas.List.Elements.{recursion_from_All, filter-append}
-use Rattle.std.proofs.lemmas.List.FromFn.{length-range_with_len}
 use Rattle.std.proofs.lemmas.Slice.Eq.{bytes_eq-Decides}
-use Rattle.packet_core.specs.Packets.{same_ip, same_tuple}
-use Rattle.packet_core.specs.declared.packet.FiveTuple.{FiveTuple}
 use Rattle.packet_core.specs.declared.packet.Ip.{Ip}
 use Rattle.packet_core.specs.declared.packet.Ip.TheVariants.{V4}
-use Rattle.packet_core.specs.declared.packet.Waiting.{Waiting}
-use Rattle.journal_core.specs.declared.event.Event.{Event}
-use Rattle.journal_core.specs.Happened.{Acceptance, waiting_of, acceptances, fate_ids, named, is_among, passes}
-use Rattle.journal_core.specs.JournalLaws.{JournalLaws, WaitWithoutFate}
-use Rattle.journal_core.specs.History.{IsHistory, IsLine}
+use Rattle.journal_core.proofs.Words.{AllByRecursion, range_with_len, eq-eqb, Decides-and, Decides-eqb, Decides-like, map-append, take_at, length-map, recursion_from_All, filter-append, length-range_with_len, same_ip, same_tuple, FiveTuple, Waiting, Event, Acceptance, waiting_of, acceptances, fate_ids, named, is_among, passes, JournalLaws, WaitWithoutFate, IsHistory, IsLine}
 use Rattle.journal_core.proofs.ListLemmas.{filter_agree_on, filter_comm, filter_within, filter-map, All-found, ByRecursion-weaker, ByRecursion-all}
 use Rattle.journal_core.proofs.IdLemmas.{id_of, Rises, Rises-range, Rises-filter, Rises-rest, passes_at, is_among-filter}
 use Rattle.journal_core.proofs.FlowShares.{AreFound, IsOwn, all_own, of_flow, parts_own}

@@ -1,8 +1,6 @@
 -- Lemmas on lists, filters and look-ups, whatever the elements are.
-use Rattle.std.proofs.Common.{◌≡◌, ℕ, Bool, true, false, cond, List, [], ◌∷◌, ◌++◌, length, map, filter, sum_by, find, Some, refl, sym, ap, subst, ◌∙◌, inl, inr, arith}
-use Rattle.std.specs.List.{AllByRecursion}
-use Rattle.std.proofs.lemmas.Bool.{cases_Bool, false≢true}
-use Rattle.std.proofs.lemmas.List.Sums.{sum_by-cons}
+use Rattle.std.proofs.Common.{◌≡◌, ℕ, Bool, true, cond, List, [], ◌∷◌, ◌++◌, length, map, filter, sum_by, find, Some, refl, sym, ap, ◌∙◌, inl, inr, arith}
+use Rattle.journal_core.proofs.Words.{AllByRecursion, cases_Bool, sum_by-cons}
 
 -- what is found is an element
 pub All-found : {X : Type 0} (P : X → Type 0) (p : X → Bool) (xs : List X) (x : X) → AllByRecursion P xs → find p xs ≡ Some x → P x

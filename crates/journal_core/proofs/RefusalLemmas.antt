@@ -1,11 +1,8 @@
 -- What is known of a state where a step isn't refused.
 use Rattle.std.proofs.Common.{◌≡◌, ℕ, ◌<◌, ◌≤◌, ◌^◌, Bool, true, false, cond, ltb, leb, Option, Some, None, option_map, refl}
-use Rattle.std.proofs.lemmas.Bool.{ltb-false, leb-false}
-use Rattle.packet_core.specs.Packets.{PacketParts}
 use Rattle.journal_core.specs.declared.step.MomentFault.TheVariants.{TooLarge, Backwards}
 use Rattle.journal_core.specs.declared.step.Refusal.TheVariants.{Moment, ClosedAlready, Exhausted}
-use Rattle.journal_core.specs.declared.step.Step.TheVariants.{Enqueue, Dequeue, Close}
-use Rattle.journal_core.specs.State.{State, moment_fault_of, first_of_two, closed_refusal_of, id_refusal_of, refusal_of}
+use Rattle.journal_core.proofs.Words.{ltb-false, leb-false, PacketParts, Enqueue, Dequeue, Close, State, moment_fault_of, first_of_two, closed_refusal_of, id_refusal_of, refusal_of}
 
 -- a moment at which a step may be made
 pub record IsNext (moment last : ℕ) : Type 0 where

@@ -1,18 +1,9 @@
 -- One step more of a run.
 use Rattle.std.proofs.Common.{◌≡◌, ℕ, ◌+◌, ◌<◌, All, List, [], ◌∷◌, ◌++◌, length, take, get_or, refl, sym, ap, subst, ◌∙◌, arith, append_assoc, append-nil, length-append}
-use Rattle.std.specs.List.{AllByRecursion}
-use Rattle.std.proofs.lemmas.List.{take_more}
-use Rattle.std.proofs.lemmas.List.Elements.{All-from_recursion}
 use Rattle.std.proofs.lemmas.Grind.{flat_map-append}
-use Rattle.journal_core.specs.declared.step.Step.{Step}
-use Rattle.journal_core.specs.declared.event.Event.{Event}
-use Rattle.journal_core.specs.declared.outcome.Answer.{Answer}
 use Rattle.journal_core.specs.declared.outcome.Outcome.{Outcome}
 use Rattle.journal_core.specs.Calls.{Standing}
-use Rattle.journal_core.specs.Disciplines.{Discipline}
-use Rattle.journal_core.specs.State.{State, opening_state}
-use Rattle.journal_core.specs.Steps.{Steps}
-use Rattle.journal_core.specs.Runs.{Made, Runs, journal_of, outcomes_from, Takes, IsRun, StandsIn}
+use Rattle.journal_core.proofs.Words.{AllByRecursion, take_more, All-from_recursion, Step, Event, Answer, Discipline, State, opening_state, Steps, Made, Runs, journal_of, outcomes_from, Takes, IsRun, StandsIn}
 
 -- each outcome's own events stand in the journal
 places_from : (before : List Event) (made : List Made) → AllByRecursion (StandsIn (before ++ journal_of made)) (outcomes_from (length before) made)

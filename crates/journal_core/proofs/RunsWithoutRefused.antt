@@ -1,16 +1,8 @@
 -- A run without its refused steps.
 use Rattle.std.proofs.Common.{◌≡◌, true, false, List, [], ◌∷◌, ◌++◌, Option, Some, None, MatchOption, refl, sym, ap, subst, ◌∙◌, inl, inr}
-use Rattle.std.proofs.lemmas.Bool.{cases_Bool, false≢true}
-use Rattle.journal_core.specs.declared.step.Step.{Step}
-use Rattle.journal_core.specs.declared.step.Step.TheVariants.{Enqueue, Dequeue, Close}
 use Rattle.journal_core.specs.declared.step.Refusal.{Refusal}
-use Rattle.journal_core.specs.declared.event.Event.{Event}
-use Rattle.journal_core.specs.declared.outcome.Answer.{Answer}
 use Rattle.journal_core.specs.declared.outcome.Answer.TheVariants as answer
-use Rattle.journal_core.specs.Disciplines.{Discipline, Given}
-use Rattle.journal_core.specs.State.{State, refusal_of}
-use Rattle.journal_core.specs.Steps.{Makes, Steps, dequeue_answer}
-use Rattle.journal_core.specs.Runs.{Made, Runs, is_refused, steps_made, given_by_made, journal_of}
+use Rattle.journal_core.proofs.Words.{cases_Bool, false≢true, Step, Enqueue, Dequeue, Close, Event, Answer, Discipline, Given, State, refusal_of, Makes, Steps, dequeue_answer, Made, Runs, is_refused, steps_made, given_by_made, journal_of}
 
 module _ {Q : Type 0} (d : Discipline Q) where
   -- a step that is made isn't answered as refused
@@ -31,28 +23,21 @@ module _ {Q : Type 0} (d : Discipline Q) where
       go None m = absurd (false≢true (sym (made_answer old new step said events m) ∙ t))
       go (Some r) m = (m.1, m.2)
 
-  pub runs_without : (old new : State Q) (steps : List Step) (made : List Made) → Runs d old steps made new → Runs d old (steps_made steps made) (given_by_made made) new
-  runs_without old new [] [] r = r
-  runs_without old new [] (m ∷ made) r = absurd r
-  runs_without old new (step ∷ steps) [] r = absurd r
-  runs_without old new (step ∷ steps) (m ∷ made) r =
-      let rest = runs_without r.0 new steps made r.2 in
+  without : (old new : State Q) (steps : List Step) (made : List Made) → Runs d old steps made new → Runs d old (steps_made steps made) (given_by_made made) new × (journal_of (given_by_made made) ≡ journal_of made)
+  without old new [] [] r = (r, refl)
+  without old new [] (m ∷ made) r = absurd r
+  without old new (step ∷ steps) [] r = absurd r
+  without old new (step ∷ steps) (m ∷ made) r =
+      let rest = without r.0 new steps made r.2 in
       elim (cases_Bool (is_refused m.answer)) [
         | inl t ↦
-            let same = (refused_leaves old r.0 step m.answer m.events r.1 t).1 in
-            rw t (subst (λ (x : State Q). Runs d x (steps_made steps made) (given_by_made made) new) same rest)
-        | inr t ↦ rw t (r.0, r.1, rest)
+            let same = refused_leaves old r.0 step m.answer m.events r.1 t in
+            rw (t, same.0) (subst (λ (x : State Q). Runs d x (steps_made steps made) (given_by_made made) new) same.1 rest.0, rest.1)
+        | inr t ↦ rw t ((r.0, r.1, rest.0), ap (λ es. m.events ++ es) rest.1)
       ]
 
+  pub runs_without : (old new : State Q) (steps : List Step) (made : List Made) → Runs d old steps made new → Runs d old (steps_made steps made) (given_by_made made) new
+  runs_without old new steps made r = (without old new steps made r).0
+
   pub journal_without : (old new : State Q) (steps : List Step) (made : List Made) → Runs d old steps made new → journal_of (given_by_made made) ≡ journal_of made
-  journal_without old new [] [] r = refl
-  journal_without old new [] (m ∷ made) r = absurd r
-  journal_without old new (step ∷ steps) [] r = absurd r
-  journal_without old new (step ∷ steps) (m ∷ made) r =
-      let rest = journal_without r.0 new steps made r.2 in
-      elim (cases_Bool (is_refused m.answer)) [
-        | inl t ↦
-            let none = (refused_leaves old r.0 step m.answer m.events r.1 t).0 in
-            rw (t, none) rest
-        | inr t ↦ rw t (ap (λ es. m.events ++ es) rest)
-      ]
+  journal_without old new steps made r = (without old new steps made r).1

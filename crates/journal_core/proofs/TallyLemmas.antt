@@ -1,26 +1,11 @@
 -- How an acceptance and an event carry a tally on, and what its rows are where all events are counted.
 use Rattle.std.proofs.Common.{◌≡◌, ℕ, zero, suc, ◌+◌, ◌-◌, ◌<◌, ◌≤◌, Bool, true, false, cond, ◌||◌, All, List, [], ◌∷◌, ◌++◌, eqb, length, map, get_or, set, Option, Some, None, slice_get, refl, sym, ap, subst, ◌∙◌, inl, inr, arith}
-use Rattle.std.specs.Prelude.{count_by, sum_by}
 use Rattle.std.specs.Cmp.{IsEquivalence}
-use Rattle.std.proofs.lemmas.Bool.Decides.{Decides-like, nat_tests, same_from_decides}
-use Rattle.std.specs.List.{AllByRecursion, AllZip, Contains, IsDistinct, cons_option, filter_map, list_any, range_with_len}
-use Rattle.std.proofs.lemmas.Bool.{cases_eq}
-use Rattle.std.proofs.lemmas.List.{same_lists, length-set, length-map, length_push, get_or-map, get_or-set_same, get_or-set_other, map-append, append-nil, take_all}
-use Rattle.std.proofs.lemmas.List.Elements.{All-contains, All-from_recursion, All-map, All-weaker, filter_map-append, recursion_from_All}
-use Rattle.std.proofs.lemmas.List.FromFn.{length-range_with_len, get_or-range_with_len}
-use Rattle.std.proofs.lemmas.List.Sums.{count_by-le-length, fold-append, sum_by-append}
 use Rattle.std.proofs.lemmas.Map.Keys.{IsDistinct-push, apart_from_distinct}
 use Rattle.std.proofs.lemmas.Option.{get_or_from_slice_get, slice_get_within}
-use Rattle.packet_core.specs.Packets.{PacketParts, same_tuple}
-use Rattle.packet_core.specs.declared.packet.FiveTuple.{FiveTuple}
-use Rattle.journal_core.specs.declared.event.Event.{Event}
-use Rattle.journal_core.specs.declared.event.Event.TheVariants.{Accepted, Sent, Dropped, Closed}
 use Rattle.journal_core.specs.declared.tuple_rows.TupleRow.{TupleRow}
-use Rattle.journal_core.specs.Happened.{Acceptance, acceptance_of, fate_of, packet_id_of, acceptances, accepted_ids, fate_ids, named, passes, without_fate}
-use Rattle.journal_core.specs.JournalLaws.{AreDistinct, FatesFollow, IdsInOrder}
-use Rattle.journal_core.specs.Statistics.{sent_of, dropped_of}
-use Rattle.journal_core.specs.Tallies.{AreTallied, IsBalanced, counted, row_so_far, settled, tuple_of, with_row}
 use Rattle.journal_core.specs.TupleRows.{first_of_each, of_one_tuple, row_of, tuple_rows, with_new}
+use Rattle.journal_core.proofs.Words.{count_by, Decides-like, nat_tests, same_from_decides, AllByRecursion, AllZip, Contains, IsDistinct, cons_option, filter_map, list_any, range_with_len, cases_eq, same_lists, length-set, length-map, get_or-map, get_or-set_same, get_or-set_other, map-append, append-nil, take_all, All-contains, All-from_recursion, All-map, All-weaker, recursion_from_All, count_by-le-length, fold-append, PacketParts, same_tuple, FiveTuple, Event, Accepted, Sent, Dropped, Closed, Acceptance, acceptance_of, fate_of, packet_id_of, acceptances, accepted_ids, fate_ids, named, passes, without_fate, AreDistinct, FatesFollow, IdsInOrder, sent_of, dropped_of, AreTallied, IsBalanced, counted, row_so_far, settled, tuple_of, with_row}
 use Rattle.journal_core.proofs.EventLemmas.{sum_more}
 use Rattle.journal_core.proofs.FatelessPackets.{count_fated, sum_fates, sum_left}
 use Rattle.journal_core.proofs.IdLemmas.{Rises-range, id_of, ids_below, named_at, named_itself, named_within, passes_at}

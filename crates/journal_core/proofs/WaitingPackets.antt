@@ -1,11 +1,7 @@
 -- What waits is what has no fate: the numbers of packets and bytes in the queues are those of the journal.
-use Rattle.std.proofs.Common.{◌≡◌, ◌≢◌, ℕ, suc, ◌+◌, ◌<◌, ◌≤◌, Bool, true, false, not, List, [], ◌∷◌, map, filter, eqb, get_or, length, sum_by, refl, ap, ◌∙◌, inl, inr, arith}
-use Rattle.std.specs.List.{AllByRecursion}
-use Rattle.std.proofs.lemmas.Bool.{cases_eq, eq-eqb, ne_eqb}
+use Rattle.std.proofs.Common.{◌≡◌, ◌≢◌, ℕ, suc, ◌+◌, ◌<◌, ◌≤◌, Bool, true, false, not, List, [], ◌∷◌, map, filter, eqb, get_or, length, sum_by, refl, ap, ◌∙◌, arith}
 use Rattle.std.proofs.lemmas.List.Filters.{sum_by-filter_both}
-use Rattle.std.proofs.lemmas.List.Sums.{sum_by-cons}
-use Rattle.packet_core.specs.declared.packet.Waiting.{Waiting}
-use Rattle.journal_core.specs.Happened.{Acceptance, waiting_of}
+use Rattle.journal_core.proofs.Words.{nat_tests, AllByRecursion, eq-eqb, sum_by-cons, Waiting, Acceptance, waiting_of}
 use Rattle.journal_core.proofs.ListLemmas.{ByRecursion-both, ByRecursion-filter, ByRecursion-passes, ByRecursion-weaker, ByRecursion-all, filter_within}
 
 sum_by-map : {X Y : Type 0} (f : X → Y) (h : Y → ℕ) (xs : List X) → sum_by h (map f xs) ≡ sum_by (λ x. h (f x)) xs
@@ -44,11 +40,7 @@ module _ (h : Waiting → ℕ) where
       omega arith
     where
       implies : (i : ℕ) (a : Acceptance) → into (suc k + i) a ≡ true → not (into k a) ≡ true
-      implies i a is =
-          elim (cases_eq a.flow (suc k + i)) [
-            | inl e ↦ rw (ne_eqb a.flow k (λ s. absurd (omega arith))) refl
-            | inr differs ↦ let f : false ≡ true = rw (ne_eqb a.flow (suc k + i) differs) at is in absurd cc
-          ]
+      implies i a is = grind (arith, nat_tests, is)
 
       behind : (i : ℕ) → filter (into (suc k + i)) accepted ≡ filter (into (suc k + i)) (filter (λ a. not (into k a)) accepted)
       behind i = filter_within (into (suc k + i)) (λ a. not (into k a)) accepted (ByRecursion-all (λ a. into (suc k + i) a ≡ true → not (into k a) ≡ true) accepted (implies i))

@@ -26,10 +26,8 @@ impl<K: Keeps> DropSink for Fates<'_, K> {
 
     ghost taken_none = { λ a. records_none a.moment a.cause a.journal };
 
-    ghost taken_more = {
-        λ a b c ws w first then'.
-        records_more a.moment a.cause a.journal b.moment b.cause b.journal c.moment c.cause c.journal ws w first then'
-    };
+    ghost taken_more = { λ a b c ws w first next.
+        records_more a.moment a.cause a.journal b.moment b.cause b.journal c.moment c.cause c.journal ws w first next };
 
     fn take(&mut self, dropped: Waiting) {
         self.journal.drop(&dropped, self.moment, self.cause);

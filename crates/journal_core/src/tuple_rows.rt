@@ -106,9 +106,7 @@ impl Tally {
         requires { length self.old.rows.items ≡ length self.old.tuples.keys }
         ensures place { IfOk result (λ place. slice_get self.new.tuples.keys place ≡ Some tuple) }
         ensures tuples { OnOk result (self.new.tuples.keys ≡ with_new same_tuple self.old.tuples.keys tuple) }
-        ensures rows {
-            OnOk result (self.new.rows.items ≡ with_row self.old.tuples.keys self.old.rows.items tuple flow)
-        }
+        ensures row { OnOk result (self.new.rows.items ≡ with_row self.old.tuples.keys self.old.rows.items tuple flow) }
         ensures places { self.new.places ≡ self.old.places }
     {
         let (place, is_new) = self.tuples.insert_full(tuple)?;

@@ -1,6 +1,4 @@
-use Rattle.std.proofs.Common.{rules, sym, ◌∙◌}
-use Rattle.journal_core.specs.Happened.{fate_ids}
-use Rattle.journal_core.specs.JournalLaws.{AreDistinct, IdsInOrder}
+use Rattle.std.proofs.Common.{◌∙◌}
 use Rattle.journal_core.proofs.TallyLemmas.{rows_are_balanced, rows_are_settled, rows_settle}
 use Rattle.journal_core.proofs.tuple_rows.gather_rows.Goals as goal
 

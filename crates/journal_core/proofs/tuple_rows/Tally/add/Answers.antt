@@ -1,11 +1,5 @@
-use Rattle.std.proofs.Common.{◌≡◌, ◌+◌, ◌++◌, ◌∷◌, [], List, Some, slice_get, take, refl, ap, sym, ◌∙◌}
-use Rattle.std.proofs.lemmas.List.{take_more}
-use Rattle.journal_core.specs.declared.event.Event.{Event}
-use Rattle.journal_core.specs.Happened.{Acceptance, acceptance_of, acceptances}
-use Rattle.journal_core.specs.Tallies.{tuple_of, with_row}
-use Rattle.journal_core.specs.TupleRows.{with_new}
-use Rattle.packet_core.specs.Packets.{same_tuple}
-use Rattle.packet_core.specs.declared.packet.FiveTuple.{FiveTuple}
+use Rattle.std.proofs.Common.{◌≡◌, ◌+◌, ◌++◌, ◌∷◌, [], take, refl, ap, ◌∙◌}
+use Rattle.journal_core.proofs.Words.{take_more, Event, Acceptance, acceptance_of, acceptances}
 use Rattle.journal_core.proofs.EventLemmas.{filter_map_push, filter_map_same}
 use Rattle.journal_core.proofs.TallyLemmas.{nothing_accepted, tallied_adds}
 use Rattle.journal_core.proofs.tuple_rows.Tally.add.Goals as goal
@@ -19,7 +13,7 @@ returns-in_ok-push c =
     ap acceptances (take_more c.args.events.now c.args.place _ c.requires.within ∙ ap (λ (e : Event). seen ++ e ∷ []) accepted.is) ∙ filter_map_push acceptance_of seen _ a refl in
     let row = rw c.tuple.ensures at (c.in_ok-row.ensures {u = tt}) in
     let places = rw c.place_of.ensures.places at (c.in_ok-push.ensures {u = tt}) in
-    rw (more, row.tuples, row.rows, places.items) (tallied_adds _ _ _ (acceptances seen) a _ (rw row.tuples at row.place) c.requires.before)
+    rw (more, row.tuples, row.row, places.items) (tallied_adds _ _ _ (acceptances seen) a _ (rw row.tuples at row.place) c.requires.before)
 
 pub returns-in_default : goal.returns-in_default
 returns-in_default c =

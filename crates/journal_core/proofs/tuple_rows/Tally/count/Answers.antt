@@ -1,7 +1,5 @@
 use Rattle.std.proofs.Common.{◌≡◌, ℕ, Some, arith, sym, subst, ◌∙◌, slice_get, get_or}
-use Rattle.std.proofs.lemmas.List.{length-take-le, take_more}
-use Rattle.journal_core.specs.Tallies.{tuple_of}
-use Rattle.journal_core.specs.Happened.{acceptances, packet_id_of}
+use Rattle.journal_core.proofs.Words.{length-take-le, take_more, tuple_of, acceptances, packet_id_of}
 use Rattle.journal_core.proofs.TallyLemmas.{IsOfPacket, event_packet, packet_few, packet_placed, packet_within, tallied_counts, tallied_stays}
 use Rattle.journal_core.proofs.tuple_rows.Tally.count.Goals.{In-Some}
 use Rattle.journal_core.proofs.tuple_rows.Tally.count.Goals as goal

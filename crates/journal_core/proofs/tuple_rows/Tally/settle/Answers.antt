@@ -1,6 +1,6 @@
 use Rattle.std.proofs.Common.{arith}
 use Rattle.std.proofs.lemmas.List.Edits.{map_over_more}
-use Rattle.journal_core.specs.Tallies.{settled}
+use Rattle.journal_core.proofs.Words.{settled}
 use Rattle.journal_core.proofs.tuple_rows.Tally.settle.Goals as goal
 
 pub loop-place-preserved : goal.loop-place-preserved

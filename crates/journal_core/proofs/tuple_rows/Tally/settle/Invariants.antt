@@ -1,5 +1,5 @@
 use Rattle.std.proofs.Common.{◌≡◌, ◌++◌, drop, map, take}
-use Rattle.journal_core.specs.Tallies.{settled}
+use Rattle.journal_core.proofs.Words.{settled}
 use Rattle.journal_core.proofs.tuple_rows.Tally.settle.Given as goal
 
 -- the rows so far are settled, and the others are as they were
