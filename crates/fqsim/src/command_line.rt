@@ -1,5 +1,5 @@
 //! The words behind the program's name, read by `clap`.
-ghost use Rattle.std.specs.Prelude.{◌≡◌, ◌≢◌, [], IfErr, IfOk, List, codes, false, map, option_map, true, unwrap_or, ℕ};
+ghost use Rattle.std.specs.Prelude.{◌≡◌, ◌≢◌, [], IfErr, IfOk, codes, false, map, option_map, true, unwrap_or};
 ghost use Rattle.clap.specs.Words.{all_of, app_of, first_of, kind_of};
 ghost use Rattle.clap.specs.declared.builder.command.Command.TheViews.{out-Command as fields_of};
 ghost use Rattle.fqsim.specs.CommandLine.{AsksForHelp, AsksForRun, IsMistake, parameter_words, program_line, rows_behind, seed_text, trace_line};

@@ -1,5 +1,5 @@
 //! The reading of a trace: its bytes, the records that `csv` cuts off them, and the rows and steps of these.
-ghost use Rattle.std.specs.Prelude.{◌≡◌, ◌<◌, ◌≤◌, ◌⊎◌, ◌∷◌, [], ℕ, ◌++◌, IfErr, IfOk, IfSome, IsErrOf, List, Ok, Err, false, length, true, vec_len};
+ghost use Rattle.std.specs.Prelude.{◌≡◌, ◌<◌, ◌≤◌, ◌⊎◌, ◌∷◌, [], ℕ, ◌++◌, IfErr, IfOk, IfSome, IsErrOf, List, Ok, false, length, true, vec_len};
 ghost use Rattle.csv.specs.Reading.{default_config, error_kind, records, strip_bom};
 ghost use Rattle.csv.specs.Records.{fields_of};
 ghost use Rattle.trace_core.specs.Traces as Traces;
