@@ -1,8 +1,9 @@
 -- How an acceptance, a dequeue and a close keep the flows and their journal.
-use Rattle.std.proofs.Common.{◌≡◌, ℕ, zero, suc, ◌+◌, ◌-◌, ◌<◌, ◌≤◌, Bool, true, not, List, [], ◌∷◌, ◌++◌, drop, take, map, set, length, sum_by, Option, Some, None, option_map, refl, sym, ap, subst, ◌∙◌, inl, inr, arith, append_assoc, append-nil, length-append}
+use Rattle.std.proofs.Common.{◌≡◌, ℕ, zero, suc, ◌+◌, ◌-◌, ◌<◌, ◌≤◌, Bool, true, not, List, [], ◌∷◌, ◌++◌, drop, take, map, set, length, sum_by, Option, Some, None, option_map, refl, sym, ap, subst, ◌∙◌, inl, inr, arith, append_assoc, append-nil, length-append, length-drop, length-take}
 use Rattle.std.specs.List.{AllByRecursion}
 use Rattle.std.proofs.lemmas.Bool.{eq-eqb}
 use Rattle.std.proofs.lemmas.List.{length-map, length_push}
+use Rattle.std.proofs.lemmas.Option.{slice_get_within}
 use Rattle.std.proofs.lemmas.List.Elements.{filter_map-append, recursion_from_All}
 use Rattle.std.proofs.lemmas.List.Sums.{sum_by-set}
 use Rattle.packet_core.specs.declared.flow.Seed.{Seed}
@@ -34,7 +35,7 @@ use Rattle.journal_core.specs.Statistics.{length_named}
 use Rattle.journal_core.specs.Steps.{Serves, dequeue_answer, drop_event, sent_events}
 use Rattle.fair_core.specs.Turns.{Chain, Sends, Service, TurnMade, service_in}
 use Rattle.fair_core.specs.declared.backlog.Head.{Head}
-use Rattle.fair_core.proofs.FairFifo.{fair_is_fifo, split_at, within_from_packet}
+use Rattle.fair_core.proofs.FairFifo.{fair_is_fifo, within_from_packet}
 use Rattle.fair_core.proofs.SoundFlows.{chain_as_many}
 use Rattle.fair_core.proofs.TurnLemmas.{chain_sends}
 use Rattle.fair_core.proofs.ServingChains.{chain_bound}
@@ -66,8 +67,9 @@ module _ (p : ParamFields) where
       let q = queue_of last head.flow in
       let within = within_from_packet last.lists.queues head.flow d.drops s.given.waiting d.stands in
       let sum = sum_by-set length last.lists.queues head.flow (drop (d.drops + 1) q) [] within in
-      let parts : length q ≡ length (take d.drops q ++ s.given.waiting ∷ []) + length (drop (d.drops + 1) q) = ap length (split_at q d.drops s.given.waiting d.stands) ∙ length-append (take d.drops q ++ s.given.waiting ∷ []) (drop (d.drops + 1) q) in
-      let head_len = length_push (take d.drops q) s.given.waiting in
+      let below = slice_get_within q d.drops s.given.waiting d.stands in
+      let taken = length-take d.drops q in
+      let rest = length-drop (d.drops + 1) q in
       let new_is : waiting_in new.lists ≡ sum_by length (set last.lists.queues head.flow (drop (d.drops + 1) q)) = ap (λ (s : FairQueues). waiting_in s.lists) d.leaves in
       let gone_len = ap length d.dropped in
       omega arith
