@@ -1,5 +1,5 @@
 -- A scheduler whose flows take turns is first in, first out by flow, whatever drops from the heads of its queues.
-use Rattle.std.proofs.Common.{◌≡◌, ℕ, zero, suc, ◌+◌, ◌<◌, List, [], ◌∷◌, ◌++◌, drop, take, eqb, get_or, set, length, replicate, Some, slice_get, IfSome, add-one, refl, sym, ap, ◌∙◌, inl, inr, arith, append-nil}
+use Rattle.std.proofs.Common.{◌≡◌, ℕ, ◌+◌, ◌<◌, List, [], ◌∷◌, ◌++◌, drop, take, eqb, get_or, set, length, replicate, Some, slice_get, IfSome, add-one, refl, sym, ap, ◌∙◌, inl, inr, append-nil}
 use Rattle.std.proofs.lemmas.Bool.{cases_eq, cases_lt, eq-eqb, ne_eqb, cases_Bool}
 use Rattle.std.proofs.lemmas.List.{get_or-set_same, get_or-set_other, get_or-replicate, get_or_past, length-replicate, take-append-drop}
 use Rattle.std.proofs.Math.Seq.{take-suc}

@@ -1,7 +1,7 @@
 -- CoDel and the overflow of the fattest flow are a policy that the laws hold of.
-use Rattle.std.proofs.Common.{◌∙◌, sym, ◌≡◌, ◌≢◌, ℕ, zero, suc, ◌<◌, ◌⊎◌, List, [], ◌∷◌, drop, take, get_or, set, length, slice_get, IsSomeAnd, IsTrue, Some, refl, sym, ap, subst, inl, inr, arith, append-nil}
-use Rattle.std.proofs.lemmas.Bool.{cases_eq, eq-eqb, false≢true, ne_eqb}
-use Rattle.std.proofs.lemmas.List.{get_or-set_other, get_or-set_same, length-set, take-append-drop}
+use Rattle.std.proofs.Common.{◌∙◌, sym, ◌≡◌, ◌≢◌, ℕ, ◌<◌, ◌⊎◌, List, [], ◌∷◌, take, get_or, length, slice_get, IsSomeAnd, IsTrue, Some, refl, sym, ap, subst, inl, inr, arith, append-nil}
+use Rattle.std.proofs.lemmas.Bool.{false≢true}
+use Rattle.std.proofs.lemmas.List.{length-set}
 use Rattle.std.proofs.lemmas.Option.{slice_get-get_or}
 use Rattle.packet_core.specs.Params.{AreInRange}
 use Rattle.packet_core.specs.declared.packet.Ecn.{Ecn}

@@ -1,6 +1,5 @@
+pub mod TurnBoundLemmas
 pub mod FairFifo
-pub mod QuantaOwed
-pub mod HeadLemmas
 pub mod TurnLemmas
 pub mod ServingChains
 pub mod NewFlowsFirst
@@ -10,8 +9,6 @@ pub mod ComparisonLemmas
 pub mod AccountRanges
 pub mod DroppedPackets
 pub mod ListedFlowLemmas
-pub mod MadeTurns
-pub mod MostTurns
 pub mod ServedChains
 pub mod OverflowLemmas
 pub mod FqCodelPolicy

@@ -1,30 +1,23 @@
 -- Serving chains: from flows that are sound there is one and no other, and its length has a bound.
-use Rattle.std.proofs.Common.{◌≡◌, ◌≢◌, ℕ, zero, suc, ◌+◌, ◌<◌, ◌≤◌, List, [], ◌∷◌, ◌++◌, All, get_or, set, length, sum_by, Option, Some, None, ℤ, pos, ◌+ℤ◌, ◌≤ℤ◌, refl, sym, ap, subst, ◌∙◌, inl, inr, arith, append_assoc}
+use Rattle.std.proofs.Common.{◌≡◌, ◌≢◌, ℕ, zero, suc, ◌+◌, ◌<◌, ◌≤◌, List, [], ◌∷◌, All, get_or, set, length, sum_by, Option, Some, None, ℤ, pos, ◌+ℤ◌, ◌≤ℤ◌, refl, sym, ap, subst, ◌∙◌, inl, inr, arith, append_assoc}
 use Rattle.std.proofs.lemmas.Int.{ints}
 use Rattle.std.proofs.lemmas.List.{get_or-set_other, get_or-set_same, length-set}
-use Rattle.std.proofs.lemmas.List.Elements.{All-from_recursion, All-head, All-nil, All-push, All-tail, recursion_from_All}
+use Rattle.std.proofs.lemmas.List.Elements.{All-from_recursion, All-head, All-push, All-tail, recursion_from_All}
 use Rattle.std.proofs.lemmas.List.Sums.{sum_by-cons, sum_by_push}
 use Rattle.flow_core.specs.FlowLists.{AreDistinct, FlowLists}
 use Rattle.fair_core.specs.declared.account.Account.{Account}
 use Rattle.fair_core.specs.declared.backlog.FlowList.{FlowList}
 use Rattle.fair_core.specs.declared.backlog.FlowList.TheVariants.{New, Old}
 use Rattle.fair_core.specs.declared.backlog.Head.{Head}
-use Rattle.fair_core.specs.FairQueues.{AreSound, FairQueues, account_at, emptied_by, head_of, new_account, to_old, unlisted, with_account}
+use Rattle.fair_core.specs.FairQueues.{AreSound, FairQueues, account_at, emptied_by, head_of, new_account, unlisted, with_account}
 use Rattle.fair_core.specs.Policies.{IsDecided}
 use Rattle.fair_core.specs.TurnBound.{AreQuantaOwed, quanta_owed, turns_at_most}
 use Rattle.fair_core.specs.Turns.{Chain, Does, Policy, Service, Turn, TurnKind, TurnMade, service_by}
 use Rattle.fair_core.specs.Turns.TurnKind.{used_up, emptied, serving}
 use Rattle.journal_core.proofs.ListLemmas.{ByRecursion-parts, ByRecursion-weaker, sum_by_agree_on}
-use Rattle.fair_core.proofs.HeadLemmas.{IsHead, by_head, listed_from_head, others}
-use Rattle.fair_core.proofs.QuantaOwed.{one_owed_less, owed_once, quanta_owed_is}
+use Rattle.fair_core.proofs.ListedFlowLemmas.{IsHead, by_head, distinct_push, listed_from_head, others}
+use Rattle.fair_core.proofs.TurnBoundLemmas.{one_owed_less, owed_once, quanta_owed_is}
 use Rattle.fair_core.proofs.TurnLemmas.{turn_once, turn_there}
-
--- a flow that goes to the end of a list of distinct flows
-distinct_push : (ns : List ℕ) (n : ℕ) → AreDistinct ns → All (λ other. other ≢ n) ns → AreDistinct (ns ++ n ∷ [])
-distinct_push [] n once apart = (All-nil (λ other. other ≢ n), tt)
-distinct_push (m ∷ ns) n once apart =
-    let other = All-head (λ k. k ≢ n) m ns apart in
-    (All-push (λ k. k ≢ m) ns n once.0 (λ e. other (sym e)), distinct_push ns n once.1 (All-tail (λ k. k ≢ n) m ns apart))
 
 -- A listed head is a flow, and stands in no list behind it.
 record HeadFits (s : FairQueues) (head : Head) : Type 0 where
@@ -54,7 +47,7 @@ module _ (s : FairQueues) (head : Head) (account : Account) (sound : AreSound s)
       record {
         listed = record {
           within = rw (← e) (All-push (λ flow. flow < length s.lists.queues) (others s.lists head) head.flow fits.rest_within fits.within);
-          once = rw (← e) (distinct_push (others s.lists head) head.flow fits.rest_once fits.apart);
+          once = rw (← e) (distinct_push head.flow (others s.lists head) fits.apart fits.rest_once);
         };
         accounts = length-set s.accounts head.flow account ∙ sound.accounts;
       }
@@ -114,6 +107,10 @@ module _ (quantum : ℕ) where
 
   -- and behind one, once the flow left the head as an emptied flow of that list does
   module _ (s : FairQueues) (head : Head) (account : Account) (sound : AreSound s) (at : IsHead s.lists head) where
+    moved : (from : FlowList) → turns_at_most quantum (with_account s (emptied_by from s.lists head) head.flow account) ≡ turns_behind (set s.accounts head.flow account) s.lists head + left_for from (owed (set s.accounts head.flow account) head.flow)
+    moved New = let last = sum_by_push (λ flow. owed (set s.accounts head.flow account) flow + 1) (unlisted s.lists head).old_flows head.flow in omega arith
+    moved Old = omega arith
+
     bound_behind : (from : FlowList) → turns_at_most quantum (with_account s (emptied_by from s.lists head) head.flow account) ≡ turns_behind s.accounts s.lists head + left_for from (quanta_owed quantum account.credits)
     bound_behind from =
         let fits = head_fits s head sound at in
@@ -121,16 +118,9 @@ module _ (quantum : ℕ) where
         let apart = ByRecursion-parts (λ other. other ≢ head.flow) flows.new_flows flows.old_flows (recursion_from_All (λ other. other ≢ head.flow) (others s.lists head) fits.apart) in
         let new = turns_in_same 2 s.accounts head.flow account flows.new_flows (All-from_recursion (λ other. other ≢ head.flow) flows.new_flows apart.0) in
         let old = turns_in_same 1 s.accounts head.flow account flows.old_flows (All-from_recursion (λ other. other ≢ head.flow) flows.old_flows apart.1) in
-        let own = ap (λ (a : Account). quanta_owed quantum a.credits) (get_or-set_same s.accounts head.flow account new_account (rw sound.accounts fits.within)) in
-        let last = sum_by_push (λ flow. owed (set s.accounts head.flow account) flow + 1) flows.old_flows head.flow in
-        by_list from new old own last
-      where
-        by_list : (from : FlowList) → turns_in 2 (set s.accounts head.flow account) (unlisted s.lists head).new_flows ≡ turns_in 2 s.accounts (unlisted s.lists head).new_flows
-            → turns_in 1 (set s.accounts head.flow account) (unlisted s.lists head).old_flows ≡ turns_in 1 s.accounts (unlisted s.lists head).old_flows → owed (set s.accounts head.flow account) head.flow ≡ quanta_owed quantum account.credits
-            → turns_in 1 (set s.accounts head.flow account) ((unlisted s.lists head).old_flows ++ head.flow ∷ []) ≡ turns_in 1 (set s.accounts head.flow account) (unlisted s.lists head).old_flows + (owed (set s.accounts head.flow account) head.flow + 1)
-            → turns_at_most quantum (with_account s (emptied_by from s.lists head) head.flow account) ≡ turns_behind s.accounts s.lists head + left_for from (quanta_owed quantum account.credits)
-        by_list New new old own last = omega arith
-        by_list Old new old own last = omega arith
+        let own = ap (λ (a : Account). left_for from (quanta_owed quantum a.credits)) (get_or-set_same s.accounts head.flow account new_account (rw sound.accounts fits.within)) in
+        let after = moved from in
+        omega arith
 
 -- once a flow without credits got a quantum more, it is owed one less
 raised_owed : (quantum : ℕ) (credits : ℤ) → 0 < quantum → credits ≤ℤ pos 0 → quanta_owed quantum (credits +ℤ pos quantum) + 1 ≡ quanta_owed quantum credits

@@ -1,12 +1,10 @@
 -- The flows of a scheduler stay as many as they were, and sound: each is listed once at most, and has an account.
-use Rattle.std.proofs.Common.{◌≡◌, ◌≢◌, ℕ, ◌+◌, ◌<◌, Bool, true, false, List, [], ◌∷◌, ◌++◌, All, length, replicate, eqb, Option, Some, None, pos, drop, refl, sym, ap, ◌∙◌, inl, inr, append_assoc}
-use Rattle.std.specs.List.{AllByRecursion, list_any}
-use Rattle.std.proofs.lemmas.Bool.{cases_Bool, cases_eq, eq-eqb, ne_eqb}
+use Rattle.std.proofs.Common.{◌≡◌, ℕ, ◌+◌, ◌<◌, Bool, true, false, List, [], ◌∷◌, ◌++◌, length, replicate, Option, Some, None, pos, drop, refl, sym, ap, ◌∙◌, inl, inr, append_assoc}
+use Rattle.std.proofs.lemmas.Bool.{cases_Bool}
 use Rattle.std.proofs.lemmas.List.{length-replicate, length-set}
-use Rattle.std.proofs.lemmas.List.Elements.{All-from_recursion, All-nil, recursion_from_All}
+use Rattle.std.proofs.lemmas.List.Elements.{All-nil}
 use Rattle.packet_core.specs.declared.packet.FiveTuple.{FiveTuple}
 use Rattle.packet_core.specs.declared.packet.Waiting.{Waiting}
-use Rattle.flow_core.specs.FlowLists.{AreDistinct}
 use Rattle.fair_core.specs.declared.account.Account.{Account}
 use Rattle.fair_core.specs.FairQueues.{AreSound, FairQueues, account_at, new_account, no_queues, queue_of}
 use Rattle.fair_core.specs.FairQueueing.{Arrives, fair_queueing, is_listed, with_flow_listed}
@@ -19,32 +17,10 @@ use Rattle.journal_core.specs.declared.step.Step.{Step}
 use Rattle.journal_core.specs.declared.step.Step.TheVariants.{Enqueue, Dequeue, Close}
 use Rattle.journal_core.specs.Steps.{Makes}
 use Rattle.fair_core.specs.Turns.{Chain, Policy, Service, Turn, TurnMade, service_by}
-use Rattle.journal_core.proofs.ListLemmas.{ByRecursion-append, ByRecursion-parts}
+use Rattle.fair_core.proofs.ListedFlowLemmas.{apart_from_any, distinct_between, within_between}
 use Rattle.fair_core.proofs.RunInvariants.{all_fit, runs_keep}
 use Rattle.fair_core.proofs.ServingChains.{turn_lowers}
 use Rattle.fair_core.proofs.TurnLemmas.{chain_keeps, queues_stay, sends_of}
-
--- a number that is not among others is apart from each of them
-apart_from_any : (flow : ℕ) (flows : List ℕ) → list_any (λ other. eqb other flow) flows ≡ false → AllByRecursion (λ other. other ≢ flow) flows
-apart_from_any flow [] none = tt
-apart_from_any flow (other ∷ flows) none =
-    elim (cases_eq other flow) [
-      | inl same ↦ let e : true ≡ false = rw (eq-eqb other flow same) at none in absurd cc
-      | inr differs ↦ (differs, apart_from_any flow flows (rw (ne_eqb other flow differs) at none))
-    ]
-
--- and may stand between them
-distinct_between : (flow : ℕ) (ms ns : List ℕ) → AllByRecursion (λ other. other ≢ flow) (ms ++ ns) → AreDistinct (ms ++ ns) → AreDistinct (ms ++ flow ∷ ns)
-distinct_between flow [] ns apart once = (All-from_recursion (λ other. other ≢ flow) ns apart, once)
-distinct_between flow (m ∷ ms) ns apart once =
-    let parts = ByRecursion-parts (λ other. other ≢ m) ms ns (recursion_from_All (λ other. other ≢ m) (ms ++ ns) once.0) in
-    let with' : AllByRecursion (λ other. other ≢ m) (ms ++ flow ∷ ns) = ByRecursion-append (λ other. other ≢ m) ms (flow ∷ ns) parts.0 ((λ e. apart.0 (sym e)), parts.1) in
-    (All-from_recursion (λ other. other ≢ m) (ms ++ flow ∷ ns) with', distinct_between flow ms ns apart.1 once.1)
-
-within_between : (most flow : ℕ) (ms ns : List ℕ) → flow < most → All (λ other. other < most) (ms ++ ns) → All (λ other. other < most) (ms ++ flow ∷ ns)
-within_between most flow ms ns below h =
-    let parts = ByRecursion-parts (λ other. other < most) ms ns (recursion_from_All (λ other. other < most) (ms ++ ns) h) in
-    All-from_recursion (λ other. other < most) (ms ++ flow ∷ ns) (ByRecursion-append (λ other. other < most) ms (flow ∷ ns) parts.0 (below, parts.1))
 
 -- those are sound, and so many
 pub record AreSoundFlows (flows : ℕ) (s : FairQueues) : Type 0 where

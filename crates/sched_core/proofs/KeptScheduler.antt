@@ -303,7 +303,7 @@ module _ (p : ParamFields) (seed : Seed) where
     served_next = record { turns = s.turns; chain = s.chain; dropped_by = refl; given_by = refl }
 
     book_is : with_sent book' moment answer ≡ served_book book moment (service_in s.turns)
-    book_is = ap (with_sent book' moment) s.answers.given ∙ ap (λ b. with_sent b moment (option_map shown_service (service_in s.turns))) s.answers.journal
+    book_is = ap (with_sent book' moment) s.answered.given ∙ ap (λ b. with_sent b moment (option_map shown_service (service_in s.turns))) s.answered.journal
 
     journal_is : (with_sent book' moment answer).events ≡ book.events ++ served_events moment (service_in s.turns)
     journal_is = ap (λ (b : Book). b.events) book_is ∙ served_grown book moment (service_in s.turns)
@@ -358,7 +358,7 @@ module _ (p : ParamFields) (seed : Seed) where
       → ComparesFew (seen (state_of held last closed) book turns0 before room) (seen (state_of held' moment closed) (with_sent book' moment answer) turns held'.comparisons room)
   few_served held held' book book' last moment turns0 turns before room closed answer s flows zero_before =
       let grown = ap length (journal_is s) ∙ length-append book.events (served_events moment (service_in s.turns)) ∙ ap (λ n. length book.events + n) (served_length moment (service_in s.turns)) in
-      few_compared _ _ (leaving (service_in s.turns)) grown (rw (flows, zero_before) at s.answers.few_comparisons)
+      few_compared _ _ (leaving (service_in s.turns)) grown (rw (flows, zero_before) at s.answered.few_comparisons)
 
   -- an answer that is there, and one that is not
   pub told_none : (moment : ℕ) (service : Option Service) → None ≡ option_map shown_service service → None ≡ option_map (λ (s : Service). sent_at moment s.given) service
@@ -377,8 +377,8 @@ module _ (p : ParamFields) (seed : Seed) where
       let left = left_head s in
       let parts = ap length left.1 ∙ length-append (packets_in (service_in s.turns)) (queue_of held'.queues left.0) in
       let gone = length-append (dropped_in (service_in s.turns)) (given_packet (given_in (service_in s.turns))) in
-      let room_is : book'.room ≡ book.room - length (dropped_in (service_in s.turns)) = ap (λ (b : Book). b.room) s.answers.journal in
-      omega (arith, h.space, one_given served (service_in s.turns) s.answers.given, length-at held.queues.lists.queues left.0)
+      let room_is : book'.room ≡ book.room - length (dropped_in (service_in s.turns)) = ap (λ (b : Book). b.room) s.answered.journal in
+      omega (arith, h.space, one_given served (service_in s.turns) s.answered.given, length-at held.queues.lists.queues left.0)
 
   -- what is kept says nothing of comparisons
   pub kept_counted : (held : Held) (book : Book) (last room comparisons : ℕ) (closed : Bool) → IsBookKept p seed (state_of held last closed) held.room book room

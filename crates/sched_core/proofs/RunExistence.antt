@@ -154,18 +154,10 @@ module _ (p : Policy) (drops : DropsFromHeads p) (decided : IsDecided p) (flows 
         ),
       )
 
-  closes_there : (old : State FairQueues) (moment : ℕ) → MakesThere old (Close moment)
-  closes_there old moment = (
-    answer.Closed,
-    event.Closed moment ∷ [],
-    record old { last = moment; closed = true },
-    (refl, record { told = refl; state = refl }),
-  )
-
   makes_there : (old : State FairQueues) (step : Step) → AreReady old.queues → HasLengthInRange step → MakesThere old step
   makes_there old (Enqueue moment lane packet) ready has = admits_there old moment lane packet ready has
   makes_there old (Dequeue moment) ready has = serves_there old moment ready
-  makes_there old (Close moment) ready has = closes_there old moment
+  makes_there old (Close moment) ready has = (answer.Closed, event.Closed moment ∷ [], record old { last = moment; closed = true }, (refl, record { told = refl; state = refl }))
 
   steps_there : (old : State FairQueues) (step : Step) → AreReady old.queues → HasLengthInRange step
       → (said : Answer) × (made : List Event) × (new : State FairQueues)

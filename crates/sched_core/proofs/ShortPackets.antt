@@ -1,9 +1,10 @@
 -- Where no packet so far was longer than a quantum, no flow is owed more than one quantum, so a dequeue makes three turns at most for each new
 -- flow, and two for each old one.
-use Rattle.std.proofs.Common.{◌≡◌, ℕ, zero, suc, ◌+◌, ◌*◌, ◌<◌, ◌≤◌, List, [], ◌∷◌, ◌++◌, All, drop, get_or, set, replicate, length, Some, None, slice_get, ℤ, pos, ◌+ℤ◌, ◌<ℤ◌, refl, sym, ap, subst, inl, inr, arith}
+use Rattle.std.proofs.Common.{◌≡◌, ℕ, zero, suc, ◌+◌, ◌*◌, ◌<◌, ◌≤◌, List, [], ◌∷◌, ◌++◌, All, drop, get_or, set, replicate, length, take, Some, None, slice_get, ℤ, pos, ◌+ℤ◌, ◌<ℤ◌, refl, sym, ap, subst, inl, inr, arith}
 use Rattle.std.specs.List.{AllByRecursion}
 use Rattle.std.proofs.lemmas.Bool.{cases_Bool, cases_lt}
 use Rattle.std.proofs.lemmas.Int.{ints}
+use Rattle.std.proofs.lemmas.List.{take-append-drop}
 use Rattle.std.proofs.lemmas.List.Elements.{recursion_from_All}
 use Rattle.std.proofs.lemmas.List.Sums.{sum_by-le}
 use Rattle.packet_core.specs.Params.{AreInRange}
@@ -31,7 +32,7 @@ use Rattle.fair_core.proofs.RunInvariants.{AcceptsFitting, runs_keep}
 use Rattle.fair_core.proofs.TurnLemmas.{chain_keeps, queues_stay}
 use Rattle.sched_core.proofs.FqCodelRuns.{fq_codel_sound}
 use Rattle.journal_core.proofs.ListLemmas.{ByRecursion-append, ByRecursion-parts}
-use Rattle.fair_core.proofs.QuantaOwed.{quanta_owed_is}
+use Rattle.fair_core.proofs.TurnBoundLemmas.{quanta_owed_is}
 
 -- what holds of each element holds of each where one is set
 set_keeps : {X : Type 0} (P : X → Type 0) (d : X) (xs : List X) (i : ℕ) (v : X) → P v → ((j : ℕ) → P (get_or xs j d)) → (j : ℕ) → P (get_or (set xs i v) j d)
@@ -56,9 +57,7 @@ module _ (quantum : ℕ) where
     queues : (flow : ℕ) → AllByRecursion IsShort (queue_of s flow)
 
   short_behind : (n : ℕ) (q : List Waiting) → AllByRecursion IsShort q → AllByRecursion IsShort (drop n q)
-  short_behind zero q h = h
-  short_behind (suc n) [] h = tt
-  short_behind (suc n) (w ∷ q) h = short_behind n q h.1
+  short_behind n q h = (ByRecursion-parts IsShort (take n q) (drop n q) (rw (take-append-drop n q) h)).1
 
   short_at : (k : ℕ) (q : List Waiting) (w : Waiting) → AllByRecursion IsShort q → slice_get q k ≡ Some w → IsShort w
   short_at k [] w h found = absurd cc

@@ -1,6 +1,6 @@
 use Rattle.std.proofs.Common.{arith}
 use Rattle.fair_core.specs.Backlogs.{held_of}
-use Rattle.fair_core.proofs.MostTurns.{few_turns}
+use Rattle.fair_core.proofs.TurnBoundLemmas.{few_turns}
 use Rattle.fair_core.proofs.backlog.Backlog.head.Goals as goal
 
 pub returns-in-Some-clause-bound : goal.returns-in-Some-clause-bound

@@ -45,8 +45,6 @@ returns-in_err-served g c =
 pub overflow_sub-account : goal.overflow_sub-account
 overflow_sub-account g c =
     let a = is_flows g (goal.at.overflow_sub-account g c).After-serve_queue in
-    let low = a.range.low in
-    let high = a.range.high in
     let from = c.from.ensures in
     let len = c.len.ensures.range in
     omega (arith, ints)
@@ -55,9 +53,6 @@ pub invariant_of-self-2 : goal.invariant_of-self-2
 invariant_of-self-2 g c =
     let q = c.serve_queue.ensures in
     let a = is_flows g (goal.at.invariant_of-self-2 g c).After-serve_queue in
-    let some = a.credits in
-    let low = a.range.low in
-    let high = a.range.high in
     let from = c.from.ensures in
     let len = c.len.ensures.range in
     rw q.rest
@@ -68,8 +63,6 @@ invariant_of-self-2 g c =
 pub returns : goal.returns
 returns g c =
     let a = is_flows g (goal.at.returns g c).After-serve_queue in
-    let low = a.range.low in
-    let high = a.range.high in
     let from = c.from.ensures in
     let len = c.len.ensures.value in
     let range = c.len.ensures.range in

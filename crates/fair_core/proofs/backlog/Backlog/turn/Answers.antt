@@ -1,6 +1,6 @@
 use Rattle.std.proofs.Common.{true, false, ◌∙◌, arith, ◌≡◌, ◌≤ℤ◌, ◌<ℤ◌, pos, sym}
 use Rattle.std.proofs.lemmas.Int.{ints}
-use Rattle.fair_core.proofs.MadeTurns.{emptied_turn, raised_turn, serving_turn}
+use Rattle.fair_core.proofs.ServedChains.{emptied_turn, raised_turn, serving_turn}
 use Rattle.fair_core.proofs.backlog.Backlog.turn.Goals as goal
 
 pub returns-then-credits-le0 : goal.returns-then-credits-le0
