@@ -9,7 +9,7 @@ use Rattle.codel_core.specs.declared.served.Served.{Served}
 use Rattle.codel_core.specs.declared.state.CodelState.{CodelState}
 use Rattle.flow_core.specs.FlowLists.{FlowLists, Holding, queue_at, with_queue}
 use Rattle.fair_core.specs.declared.account.Account.{Account}
-use Rattle.fair_core.specs.Backlogs.{AreHeld, Held, IsAccountInRange, ServesFlow, ServesQueue, holding_of, spent, with_holding}
+use Rattle.fair_core.specs.Backlogs.{AreHeld, Held, IsAccountInRange, ServesFlow, ServesQueue, held_flows, spent, with_holding}
 use Rattle.journal_core.specs.Books.{Book}
 use Rattle.fair_core.specs.FairQueues.{account_at, new_account}
 
@@ -49,11 +49,11 @@ held_serves p now lists accounts arrived flow gone account h within soon low hig
 
 -- a flow whose queue was served, and whose credits are lessened by what was given
 pub flow_from_queue : (p : ParamFields) (now flow : ℕ) (old : Held) (account : Account) (codel' : CodelState) (book book' : Book) (answer : Option Served) (flows' : Holding) (credits' : ℤ) → account ≡ account_at old.queues flow
-    → ServesQueue p now flow (holding_of old) account.codel book answer flows' codel' book' → credits' ≡ spent account.credits answer
+    → ServesQueue p now flow (held_flows old) account.codel book answer flows' codel' book' → credits' ≡ spent account.credits answer
     → ServesFlow p now flow old book answer (with_holding old flows' (set old.queues.accounts flow (record { credits = credits'; codel = codel' }))) book'
 flow_from_queue p now flow old account codel' book book' answer flows' credits' is q credits = record {
   flows = flows';
   codel = codel';
-  serves = subst (λ (a : Account). ServesQueue p now flow (holding_of old) a.codel book answer flows' codel' book') is q;
+  serves = subst (λ (a : Account). ServesQueue p now flow (held_flows old) a.codel book answer flows' codel' book') is q;
   rest = ap (λ (c : ℤ). with_holding old flows' (set old.queues.accounts flow (record { credits = c; codel = codel' }))) (credits ∙ ap (λ (a : Account). spent a.credits answer) is);
 }

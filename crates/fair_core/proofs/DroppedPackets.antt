@@ -8,7 +8,7 @@ use Rattle.flow_core.specs.FlowLists.{Holding, queue_at, waiting_in}
 use Rattle.flow_core.specs.Winners.{CountsFew}
 use Rattle.journal_core.specs.declared.event.Cause.{Cause}
 use Rattle.journal_core.specs.declared.event.Cause.TheVariants as cause
-use Rattle.fair_core.specs.Backlogs.{DropsHeads, DropsOverflow, Held, holding_of, with_heads_gone, with_holding}
+use Rattle.fair_core.specs.Backlogs.{DropsHeads, DropsOverflow, Held, held_flows, with_heads_gone, with_holding}
 use Rattle.fair_core.specs.FairQueueing.{with_queues}
 use Rattle.journal_core.specs.Books.{Book}
 use Rattle.journal_core.specs.JournalDrops.{drops_more, drops_none, with_drops}
@@ -52,7 +52,7 @@ drops_next flow n moment old mid new book book' book'' d within o head rest few 
 
 -- Where too many packets wait, the fattest flow's batch overflows.
 pub drops_exceeding : (limit moment : ℕ) (old : Held) (book book' : Book) (flow batch : ℕ) (flows' : Holding) → limit < waiting_in old.queues.lists → IsFattest old.queues.lists.queues flow → batch ≡ batch_size (length (queue_at old.queues.lists flow))
-    → DropsHeads flow batch moment (holding_of old) book flows' book' → DropsOverflow limit moment old book (with_holding old flows' old.queues.accounts) book'
+    → DropsHeads flow batch moment (held_flows old) book flows' book' → DropsOverflow limit moment old book (with_holding old flows' old.queues.accounts) book'
 drops_exceeding limit moment old book book' flow batch flows' many fattest size d =
     let queues = old.queues.lists.queues in
     let n = length (queue_at old.queues.lists flow) in

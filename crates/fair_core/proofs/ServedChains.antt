@@ -11,7 +11,7 @@ use Rattle.codel_core.specs.declared.state.CodelState.{CodelState}
 use Rattle.flow_core.specs.FlowLists.{Holding}
 use Rattle.fair_core.specs.declared.backlog.Head.{Head}
 use Rattle.journal_core.specs.declared.event.Cause.TheVariants as cause
-use Rattle.fair_core.specs.Backlogs.{Held, MakesTurn, ServesFlow, holding_of, spent, with_credits_raised, with_holding, with_lists, Answers, MakesChain, leaving, shown_service}
+use Rattle.fair_core.specs.Backlogs.{Held, MakesTurn, ServesFlow, held_flows, spent, with_credits_raised, with_holding, with_lists, IsAnswered, MakesChain, leaving, shown_service}
 use Rattle.journal_core.specs.Books.{Book}
 use Rattle.fair_core.specs.FairQueues.{account_at, emptied_lists, head_of, queue_of, to_old, AreSound, FairQueues}
 use Rattle.journal_core.specs.JournalDrops.{drops_none, with_drops}
@@ -40,7 +40,7 @@ module _ (p : ParamFields) (now : ℕ) (old : Held) (head : Head) (at : head_of 
       record {
         made = record { head = head; kind = used_up };
         turn = record { looks = at; does = record { credits = credits; leaves = ap (λ (n : Held). n.queues) new_is } };
-        answers = record {
+        answered = record {
           given = refl;
           journal = drops_none book now cause.Codel;
           arrived = ap (λ (n : Held). n.arrived) new_is;
@@ -64,7 +64,7 @@ module _ (p : ParamFields) (now : ℕ) (old : Held) (head : Head) (at : head_of 
         let zero_drops : q.drops ≡ 0 = nothing_dropped p now ((account_at old.queues head.flow).codel) q.drops q.mark s.codel decides.verdict in
         let given : answer ≡ None = rw empty at q.given in
         let queues : set lists.queues head.flow [] ≡ lists.queues = ap (set lists.queues head.flow) (sym empty) ∙ set-get_or lists.queues head.flow [] in
-        let flows : s.flows ≡ record (holding_of old) { comparisons = s.flows.comparisons } = rw (empty, zero_drops) at q.rest ∙ (λ i. record (holding_of old) { lists = record lists { queues = queues i }; comparisons = s.flows.comparisons }) in
+        let flows : s.flows ≡ record (held_flows old) { comparisons = s.flows.comparisons } = rw (empty, zero_drops) at q.rest ∙ (λ i. record (held_flows old) { lists = record lists { queues = queues i }; comparisons = s.flows.comparisons }) in
         let mid_is = s.rest ∙ (λ i. left (flows i) (given i)) in
         let new_is = gone ∙ ap (λ (m : Held). with_lists m (emptied_lists m.queues.lists head)) mid_is in
         let none_left : min (q.drops + 1) (length (queue_of old.queues head.flow)) ≡ 0 = omega (arith, ap length empty) in
@@ -81,7 +81,7 @@ module _ (p : ParamFields) (now : ℕ) (old : Held) (head : Head) (at : head_of 
               leaves = ap (λ (n : Held). n.queues) new_is;
             };
           };
-          answers = record {
+          answered = record {
             given = given;
             journal = rw (empty, zero_drops) at q.journal;
             arrived = ap (λ (n : Held). n.arrived) new_is;
@@ -106,7 +106,7 @@ module _ (p : ParamFields) (now : ℕ) (old : Held) (head : Head) (at : head_of 
                 looks = at;
                 does = record { credits = credits; drops = q.drops; codel = s.codel; verdict = q.decides; dropped = refl; stands = is; leaves = ap (λ (n : Held). n.queues) mid_is };
               };
-              answers = record {
+              answered = record {
                 given = given;
                 journal = q.journal;
                 arrived = ap (λ (n : Held). n.arrived) mid_is;
@@ -121,7 +121,7 @@ pub record IsOnChain (p : ParamFields) (now : ℕ) (old : Held) (book : Book) (c
   pub goes_on : (more : List TurnMade) (new : FairQueues) → Chain (fq_codel_policy p) now cur.queues more new
       → Chain (fq_codel_policy p) now old.queues (turns ++ more) new × (service_in (turns ++ more) ≡ service_in more)
   pub count_is : count ≡ length turns
-  pub answers : Answers now None old book None cur book'
+  pub answered : IsAnswered now None old book None cur book'
   pub queues : cur.queues.lists.queues ≡ old.queues.lists.queues
   pub bound : count + turns_at_most p.quantum cur.queues ≤ turns_at_most p.quantum old.queues
   pub few : turns_at_most p.quantum old.queues ≤ 2 ^ 40
@@ -139,7 +139,7 @@ module _ (p : ParamFields) (now : ℕ) (old : Held) (book : Book) where
     turns = [];
     goes_on = λ more new c. (c, refl);
     count_is = refl;
-    answers = record {
+    answered = record {
       given = refl;
       journal = drops_none book now cause.Codel;
       arrived = refl;
@@ -154,8 +154,8 @@ module _ (p : ParamFields) (now : ℕ) (old : Held) (book : Book) where
   }
 
   -- what turns without a service and then others answer
-  then_answers : (mid new : Held) (book' book'' : Book) (service : Option Service) (answer : Option Served) → mid.queues.lists.queues ≡ old.queues.lists.queues → Answers now None old book None mid book' → Answers now service mid book' answer new book'' → Answers now service old book answer new book''
-  then_answers mid new book' book'' service answer same first then' = record {
+  then_answered : (mid new : Held) (book' book'' : Book) (service : Option Service) (answer : Option Served) → mid.queues.lists.queues ≡ old.queues.lists.queues → IsAnswered now None old book None mid book' → IsAnswered now service mid book' answer new book'' → IsAnswered now service old book answer new book''
+  then_answered mid new book' book'' service answer same first then' = record {
     given = then'.given;
     journal = then'.journal ∙ ap (λ (b : Book). with_drops b now cause.Codel (dropped_in service)) (first.journal ∙ sym (drops_none book now cause.Codel));
     arrived = then'.arrived ∙ first.arrived;
@@ -173,17 +173,17 @@ module _ (p : ParamFields) (now : ℕ) (old : Held) (book : Book) where
       pub one_turn_more : (next' : Option Head) → 0 < p.quantum → IsNone answer → AreSound new.queues → next' ≡ head_of new.queues
           → IsOnChain p now old book (count + 1) new book'' next' × (turns_at_most p.quantum new.queues < turns_at_most p.quantum cur.queues)
       one_turn_more next' some is_none sound head =
-          let none = unserved (service_by t.made.kind) t.answers.given is_none in
+          let none = unserved (service_by t.made.kind) t.answered.given is_none in
           let lower = turn_lowers (fq_codel_policy p) some now cur.queues new.queues t.made on.sound t.turn none in
           let less = lower.1 in
           let bound = on.bound in
           let counted = on.count_is in
-          let answers = subst (λ o. Answers now o cur book' answer new book'') none t.answers in (
+          let answered = subst (λ o. IsAnswered now o cur book' answer new book'') none t.answered in (
             record {
               turns = on.turns ++ t.made ∷ [];
               goes_on = λ more last c. (let on' = on.goes_on (t.made ∷ more) last (inr (new.queues, none, t.turn, c)) in let e = append_assoc on.turns (t.made ∷ []) more in rw e (on'.0, on'.1 ∙ rw none refl));
               count_is = omega (arith, length-append on.turns (t.made ∷ []));
-              answers = then_answers cur new book' book'' None None on.queues on.answers (rw answers.given at answers);
+              answered = then_answered cur new book' book'' None None on.queues on.answered (rw answered.given at answered);
               queues = queues_stay (fq_codel_policy p) now cur.queues new.queues t.made t.turn none ∙ on.queues;
               bound = omega arith;
               few = on.few;
@@ -198,7 +198,7 @@ module _ (p : ParamFields) (now : ℕ) (old : Held) (book : Book) where
       chain_served some = go (service_by t.made.kind) refl
         where
           go : (o : Option Service) → service_by t.made.kind ≡ o → MakesChain p now old book (count + 1) answer new book''
-          go None is = let e : answer ≡ None = t.answers.given ∙ ap (option_map shown_service) is in let none : IsSome {T = Served} None = rw e at some in absurd (false≢true none)
+          go None is = let e : answer ≡ None = t.answered.given ∙ ap (option_map shown_service) is in let none : IsSome {T = Served} None = rw e at some in absurd (false≢true none)
           go (Some s) is =
               let on' = on.goes_on (t.made ∷ []) new.queues (inl (s, is, refl, t.turn)) in
               let counted = on.count_is in
@@ -207,7 +207,7 @@ module _ (p : ParamFields) (now : ℕ) (old : Held) (book : Book) where
                 turns = on.turns ++ t.made ∷ [];
                 chain = on'.0;
                 count_is = omega (arith, length-append on.turns (t.made ∷ []));
-                answers = rw service (then_answers cur new book' book'' (service_by t.made.kind) answer on.queues on.answers t.answers);
+                answered = rw service (then_answered cur new book' book'' (service_by t.made.kind) answer on.queues on.answered t.answered);
               }
 
     -- no flow is listed
@@ -219,5 +219,5 @@ module _ (p : ParamFields) (now : ℕ) (old : Held) (book : Book) where
           turns = on.turns;
           chain = rw turns_are at on'.0;
           count_is = on.count_is;
-          answers = rw (rw turns_are at on'.1) on.answers;
+          answered = rw (rw turns_are at on'.1) on.answered;
         }

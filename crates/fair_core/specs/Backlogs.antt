@@ -46,8 +46,8 @@ held_of b = record {
 }
 
 -- the flows of what is held
-abbrev pub holding_of : Held → Holding
-holding_of h = record { lists = h.queues.lists; room = h.room; comparisons = h.comparisons }
+abbrev pub held_flows : Held → Holding
+held_flows h = record { lists = h.queues.lists; room = h.room; comparisons = h.comparisons }
 
 -- The numbers of an account fit: CoDel's count is of packets that came, and so many that wait did not count yet.
 pub record IsAccountInRange (account : Account) (waiting arrived : ℕ) : Type 0 where
@@ -111,7 +111,7 @@ pub record ServesFlow (p : ParamFields) (now flow : ℕ) (old : Held) (book : Bo
     (book' : Book) : Type 0 where
   pub flows : Holding
   pub codel : CodelState
-  pub serves : ServesQueue p now flow (holding_of old) (account_at old.queues flow).codel book answer flows codel book'
+  pub serves : ServesQueue p now flow (held_flows old) (account_at old.queues flow).codel book answer flows codel book'
   pub rest : new
       ≡ with_holding old flows
       (set old.queues.accounts flow
@@ -127,7 +127,7 @@ shown_service s = served s.given.mark s.given.waiting
 
 -- Turns with that service, or with none, gave the answer. The journal records what they dropped, and few comparisons
 -- came for each packet that left.
-pub record Answers (now : ℕ) (service : Option Service) (old : Held) (book : Book) (answer : Option Served) (new : Held)
+pub record IsAnswered (now : ℕ) (service : Option Service) (old : Held) (book : Book) (answer : Option Served) (new : Held)
     (book' : Book) : Type 0 where
   pub given : answer ≡ option_map shown_service service
   pub journal : book' ≡ with_drops book now cause.Codel (dropped_in service)
@@ -140,7 +140,7 @@ pub record MakesTurn (p : ParamFields) (now : ℕ) (old : Held) (book : Book) (a
     (book' : Book) : Type 0 where
   pub made : TurnMade
   pub turn : Turn (fq_codel_policy p) now old.queues made new.queues
-  pub answers : Answers now (service_by made.kind) old book answer new book'
+  pub answered : IsAnswered now (service_by made.kind) old book answer new book'
 
 -- A serving chain of so many turns is made, with that answer.
 pub record MakesChain (p : ParamFields) (now : ℕ) (old : Held) (book : Book) (count : ℕ) (answer : Option Served)
@@ -148,7 +148,7 @@ pub record MakesChain (p : ParamFields) (now : ℕ) (old : Held) (book : Book) (
   pub turns : List TurnMade
   pub chain : Chain (fq_codel_policy p) now old.queues turns new.queues
   pub count_is : count ≡ length turns
-  pub answers : Answers now (service_in turns) old book answer new book'
+  pub answered : IsAnswered now (service_in turns) old book answer new book'
 
 -- a quantum more for that flow
 abbrev pub with_credits_raised : ℕ → Held → ℕ → Held

@@ -1,5 +1,5 @@
 -- How an acceptance, a dequeue and a close keep the flows and their journal.
-use Rattle.std.proofs.Common.{◌≡◌, ℕ, zero, suc, ◌+◌, ◌-◌, ◌<◌, ◌≤◌, Bool, true, not, List, [], ◌∷◌, ◌++◌, drop, take, map, set, length, sum_by, Option, Some, None, option_map, refl, sym, ap, subst, ◌∙◌, inl, inr, arith, append_assoc, append-nil, length-append, length-drop, length-take}
+use Rattle.std.proofs.Common.{◌≡◌, ℕ, ◌+◌, ◌-◌, ◌<◌, ◌≤◌, Bool, true, not, List, [], ◌∷◌, ◌++◌, drop, map, set, length, sum_by, Option, Some, None, option_map, refl, sym, ap, subst, ◌∙◌, inl, inr, arith, append_assoc, append-nil, length-append, length-drop, length-take}
 use Rattle.std.specs.List.{AllByRecursion}
 use Rattle.std.proofs.lemmas.Bool.{eq-eqb}
 use Rattle.std.proofs.lemmas.List.{length-map, length_push}
@@ -11,7 +11,7 @@ use Rattle.packet_core.specs.declared.packet.Waiting.{Waiting}
 use Rattle.packet_core.specs.declared.params.ParamFields.{ParamFields}
 use Rattle.codel_core.specs.Verdict.{sent_ecn}
 use Rattle.codel_core.specs.declared.served.Served.{Served}
-use Rattle.flow_core.specs.FlowLists.{queue_at, waiting_in}
+use Rattle.flow_core.specs.FlowLists.{waiting_in}
 use Rattle.journal_core.specs.declared.event.Cause.{Cause}
 use Rattle.journal_core.specs.declared.event.Cause.TheVariants as cause
 use Rattle.journal_core.specs.declared.event.Event.{Event}
@@ -150,7 +150,7 @@ module _ (p : ParamFields) (seed : Seed) where
       let events = events_of_serve book moment (service_in s.turns) in
       let history = history_of_serve held held' book book' last moment turns room closed answer s arrived fits h in
       let counts = counts_of_serve book moment (service_in s.turns) known h.counts in
-      let sent = ap (with_sent book' moment) s.answers.given ∙ ap (λ b. with_sent b moment (option_map shown_service (service_in s.turns))) s.answers.journal in
+      let sent = ap (with_sent book' moment) s.answered.given ∙ ap (λ b. with_sent b moment (option_map shown_service (service_in s.turns))) s.answered.journal in
       let waits = chain_waiting p moment s.turns held.queues held'.queues s.chain in
       let next = dequeue_next (state_of held last closed) moment fits in
       let few_events = length_of_serve book moment (service_in s.turns) in
@@ -183,7 +183,7 @@ module _ (p : ParamFields) (seed : Seed) where
       → IsServed (record { params = p; seed = seed; standing = record { state = state_of held last closed; events = book.events }; turns = turns0; comparisons = before; room = room }) moment (option_map (λ (s : Service). sent_at moment s.given) (service_in s.turns))
       (record { params = p; seed = seed; standing = record { state = state_of held' moment closed; events = (with_sent book' moment answer).events }; turns = turns; comparisons = after; room = room })
   is_served held held' book book' last moment turns0 turns before after room closed answer s arrived sound some fits =
-      let sent = ap (with_sent book' moment) s.answers.given ∙ ap (λ b. with_sent b moment (option_map shown_service (service_in s.turns))) s.answers.journal in
+      let sent = ap (with_sent book' moment) s.answered.given ∙ ap (λ b. with_sent b moment (option_map shown_service (service_in s.turns))) s.answered.journal in
       record {
         gives = record {
           fits = fits;
@@ -210,8 +210,8 @@ module _ (p : ParamFields) (seed : Seed) where
       → ComparesFew (record { params = p; seed = seed; standing = record { state = state_of held last closed; events = book.events }; turns = turns0; comparisons = before; room = room })
       (record { params = p; seed = seed; standing = record { state = state_of held' moment closed; events = (with_sent book' moment answer).events }; turns = turns; comparisons = held'.comparisons; room = room })
   few_served held held' book book' last moment turns0 turns before room closed answer s flows zero_before =
-      let sent = ap (with_sent book' moment) s.answers.given ∙ ap (λ b. with_sent b moment (option_map shown_service (service_in s.turns))) s.answers.journal in
-      few_compared _ _ (leaving (service_in s.turns)) (ap (λ (b : Book). length b.events) sent ∙ length_of_serve book moment (service_in s.turns)) (rw (flows, zero_before) at s.answers.few_comparisons)
+      let sent = ap (with_sent book' moment) s.answered.given ∙ ap (λ b. with_sent b moment (option_map shown_service (service_in s.turns))) s.answered.journal in
+      few_compared _ _ (leaving (service_in s.turns)) (ap (λ (b : Book). length b.events) sent ∙ length_of_serve book moment (service_in s.turns)) (rw (flows, zero_before) at s.answered.few_comparisons)
 
   -- an answer that is there, and one that is not
   pub told_none : (moment : ℕ) (service : Option Service) → None ≡ option_map shown_service service → None ≡ option_map (λ (s : Service). sent_at moment s.given) service
@@ -228,10 +228,10 @@ module _ (p : ParamFields) (seed : Seed) where
   room_for_sent held held' book book' last moment turns room closed served s h = go (service_in s.turns) refl
     where
       go : (service : Option Service) → (service_in s.turns) ≡ service → 0 < book'.room
-      go None is = absurd (let e : Some served ≡ None = s.answers.given ∙ ap (option_map shown_service) is in cc)
+      go None is = absurd (let e : Some served ≡ None = s.answered.given ∙ ap (option_map shown_service) is in cc)
       go (Some given) is =
           let waits = chain_waiting p moment s.turns held.queues held'.queues s.chain in
-          let left : book'.room ≡ book.room - length (dropped_in (service_in s.turns)) = ap (λ (b : Book). b.room) s.answers.journal in
+          let left : book'.room ≡ book.room - length (dropped_in (service_in s.turns)) = ap (λ (b : Book). b.room) s.answered.journal in
           let one : length (given_packet (given_in (service_in s.turns))) ≡ 1 = ap (λ (o : Option Service). length (given_packet (given_in o))) is in
           let space = h.space in
           omega arith

@@ -1,6 +1,6 @@
 -- Every list of steps has a run, whatever policy decides and drops from heads: each step has an answer, its events and
 -- a state behind it, and the flows stay such that the next step has them too. FQ-CoDel's is such a policy.
-use Rattle.std.proofs.Common.{◌≡◌, ℕ, ◌+◌, ◌<◌, true, All, List, [], ◌∷◌, ◌++◌, eqb, length, map, set, Option, Some, None, MatchOption, refl, subst, ◌∙◌, inl, inr}
+use Rattle.std.proofs.Common.{◌≡◌, ℕ, ◌+◌, ◌<◌, true, All, List, [], ◌∷◌, ◌++◌, eqb, map, set, Option, Some, None, MatchOption, refl, subst, inl, inr}
 use Rattle.std.specs.List.{AllByRecursion}
 use Rattle.std.proofs.lemmas.Bool.{cases_Bool}
 use Rattle.std.proofs.lemmas.List.Elements.{All-from_get_or, All-from_recursion, All-push, All-set, recursion_from_All}
@@ -154,18 +154,10 @@ module _ (p : Policy) (drops : DropsFromHeads p) (decided : IsDecided p) (flows 
         ),
       )
 
-  closes_there : (old : State FairQueues) (moment : ℕ) → MakesThere old (Close moment)
-  closes_there old moment = (
-    answer.Closed,
-    event.Closed moment ∷ [],
-    record old { last = moment; closed = true },
-    (refl, record { told = refl; state = refl }),
-  )
-
   makes_there : (old : State FairQueues) (step : Step) → AreReady old.queues → HasLengthInRange step → MakesThere old step
   makes_there old (Enqueue moment lane packet) ready has = admits_there old moment lane packet ready has
   makes_there old (Dequeue moment) ready has = serves_there old moment ready
-  makes_there old (Close moment) ready has = closes_there old moment
+  makes_there old (Close moment) ready has = (answer.Closed, event.Closed moment ∷ [], record old { last = moment; closed = true }, (refl, record { told = refl; state = refl }))
 
   steps_there : (old : State FairQueues) (step : Step) → AreReady old.queues → HasLengthInRange step
       → (said : Answer) × (made : List Event) × (new : State FairQueues)

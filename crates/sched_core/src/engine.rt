@@ -111,7 +111,8 @@ impl Engine {
         ensures room { OnOk result (self.new.room ≡ self.old.room - 1) }
         ensures few_comparisons { OnOk result (ComparesFew self.old.sched self.new.sched) }
         ensures refused { IfErr result (IsRefusal (refusal_of self.old.sched.standing.state (Dequeue moment))) }
-        ensures reserved { 0 < self.old.room → OnErr result (refusal_of self.old.sched.standing.state (Dequeue moment) ≢ None) }
+        ensures reserved { 0 < self.old.room
+            → OnErr result (refusal_of self.old.sched.standing.state (Dequeue moment) ≢ None) }
         ensures unchanged { OnErr result (self.new ≡ self.old) }
     {
         let step = Step::Dequeue { moment };

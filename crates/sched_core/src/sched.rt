@@ -202,7 +202,8 @@ impl<K: Keeps> Sched<K> {
     pub fn dequeue(&mut self, moment: u64) -> Result<Option<Sent>, MomentFault>
         ensures made { IfOk result (λ sent. IsServed self.old moment sent self.new) }
         ensures few_comparisons { OnOk result (ComparesFew self.old self.new) }
-        ensures refused { IfErr result (λ fault. refusal_of self.old.standing.state (Dequeue moment) ≡ Some (refusal.Moment fault)) }
+        ensures refused { IfErr result
+            (λ fault. refusal_of self.old.standing.state (Dequeue moment) ≡ Some (refusal.Moment fault)) }
         ensures unchanged { OnErr result (self.new ≡ self.old) }
     {
         test_moment(moment, self.last_moment)?;

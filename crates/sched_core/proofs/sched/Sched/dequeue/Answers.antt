@@ -15,7 +15,7 @@ pub returns-in_default-clause-made : goal.returns-in_default-clause-made
 returns-in_default-clause-made g c =
     let s = c.self.inside in
     let chain = rw (c.clear_comparisons.ensures, c.in_default.is) at c.serve-serving.ensures.chain in
-    rw (← c.self.view_is, told_none s.params s.seed c.args.moment (service_in chain.turns) chain.answers.given)
+    rw (← c.self.view_is, told_none s.params s.seed c.args.moment (service_in chain.turns) chain.answered.given)
     (is_served s.params s.seed (record s.backlog { comparisons = 0 }) c.serve-serving.new.self s.journal c.serve-serving.new.journal s.last_moment c.args.moment s.turns c.serve-serving.result.turns s.backlog.comparisons c.serve-serving.new.self.comparisons s.room s.is_closed None
     chain (rw c.clear_comparisons.ensures at c.serve-serving.ensures.arrived) (rw c.clear_comparisons.ensures at c.serve-serving.ensures.sound) c.serve-serving.ensures.quantum (ap (option_map Moment) c.in_ok-test_moment.ensures))
 
@@ -37,7 +37,7 @@ pub returns-clause-made : goal.returns-clause-made
 returns-clause-made g c =
     let s = c.self.inside in
     let chain = rw (c.clear_comparisons.ensures, c.in-Some.is) at c.serve-serving.ensures.chain in
-    rw (← c.self.view_is, c.send.ensures, c.sent_of-sent.ensures, told_some s.params s.seed c.args.moment (service_in chain.turns) c.in-Some.served chain.answers.given)
+    rw (← c.self.view_is, c.send.ensures, c.sent_of-sent.ensures, told_some s.params s.seed c.args.moment (service_in chain.turns) c.in-Some.served chain.answered.given)
     (is_served s.params s.seed (record s.backlog { comparisons = 0 }) c.serve-serving.new.self s.journal c.serve-serving.new.journal s.last_moment c.args.moment s.turns c.serve-serving.result.turns s.backlog.comparisons c.serve-serving.new.self.comparisons s.room s.is_closed (Some c.in-Some.served)
     chain (rw c.clear_comparisons.ensures at c.serve-serving.ensures.arrived) (rw c.clear_comparisons.ensures at c.serve-serving.ensures.sound) c.serve-serving.ensures.quantum (ap (option_map Moment) c.in_ok-test_moment.ensures))
 
