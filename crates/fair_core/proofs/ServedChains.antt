@@ -183,7 +183,7 @@ module _ (p : ParamFields) (now : ℕ) (old : Held) (book : Book) where
               turns = on.turns ++ t.made ∷ [];
               goes_on = λ more last c. (let on' = on.goes_on (t.made ∷ more) last (inr (new.queues, none, t.turn, c)) in let e = append_assoc on.turns (t.made ∷ []) more in rw e (on'.0, on'.1 ∙ rw none refl));
               count_is = omega (arith, length-append on.turns (t.made ∷ []));
-              answered = then_answered cur new book' book'' None None on.queues on.answered (rw answers.given at answers);
+              answered = then_answered cur new book' book'' None None on.queues on.answered (rw answered.given at answered);
               queues = queues_stay (fq_codel_policy p) now cur.queues new.queues t.made t.turn none ∙ on.queues;
               bound = omega arith;
               few = on.few;

@@ -1,6 +1,5 @@
 -- Every run of FQ-CoDel has the laws.
-use Rattle.std.proofs.Common.{◌≡◌, ℕ, zero, suc, ◌+◌, ◌<◌, ◌≤◌, not, List, [], ◌∷◌, drop, length, sum_by, Option, Some, None, MatchOption, refl, sym, ◌∙◌, inl, inr, arith}
-use Rattle.std.proofs.lemmas.List.{length-replicate, length-set}
+use Rattle.std.proofs.Common.{◌≡◌, ℕ, ◌+◌, ◌<◌, ◌≤◌, not, List, length, sum_by, sym, ◌∙◌, arith}
 use Rattle.std.proofs.lemmas.List.Elements.{recursion_from_All}
 use Rattle.std.proofs.lemmas.Nat.{mod_below}
 use Rattle.packet_core.specs.FlowNumber.{flow_number, hash_value, hashed_message}
@@ -12,10 +11,9 @@ use Rattle.packet_core.specs.declared.params.Classify.{Classify}
 use Rattle.packet_core.specs.declared.params.Classify.TheVariants.{Dport, Hash}
 use Rattle.packet_core.specs.declared.params.ParamFields.{ParamFields}
 use Rattle.codel_core.specs.Queue.{bytes_of}
-use Rattle.flow_core.specs.FlowLists.{queue_at, waiting_in}
-use Rattle.journal_core.specs.declared.event.Event.{Event}
+use Rattle.flow_core.specs.FlowLists.{waiting_in}
 use Rattle.journal_core.specs.declared.step.Step.{Step}
-use Rattle.fair_core.specs.FairQueues.{AreSound, FairQueues, no_queues, queue_of}
+use Rattle.fair_core.specs.FairQueues.{FairQueues, no_queues, queue_of}
 use Rattle.fair_core.specs.FqCodel.{fq_codel, fq_codel_policy}
 use Rattle.journal_core.specs.Happened.{acceptances, fate_ids, is_among, waiting_of, without_fate}
 use Rattle.journal_core.specs.JournalLaws.{JournalLaws, WaitWithoutFate}

@@ -1,6 +1,6 @@
 -- Every list of steps has a run, whatever policy decides and drops from heads: each step has an answer, its events and
 -- a state behind it, and the flows stay such that the next step has them too. FQ-CoDel's is such a policy.
-use Rattle.std.proofs.Common.{◌≡◌, ℕ, ◌+◌, ◌<◌, true, All, List, [], ◌∷◌, ◌++◌, eqb, length, map, set, Option, Some, None, MatchOption, refl, subst, ◌∙◌, inl, inr}
+use Rattle.std.proofs.Common.{◌≡◌, ℕ, ◌+◌, ◌<◌, true, All, List, [], ◌∷◌, ◌++◌, eqb, map, set, Option, Some, None, MatchOption, refl, subst, inl, inr}
 use Rattle.std.specs.List.{AllByRecursion}
 use Rattle.std.proofs.lemmas.Bool.{cases_Bool}
 use Rattle.std.proofs.lemmas.List.Elements.{All-from_get_or, All-from_recursion, All-push, All-set, recursion_from_All}
