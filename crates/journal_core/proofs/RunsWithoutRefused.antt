@@ -23,7 +23,7 @@ module _ {Q : Type 0} (d : Discipline Q) where
       go None m = absurd (false≢true (sym (made_answer old new step said events m) ∙ t))
       go (Some r) m = (m.1, m.2)
 
-  without : (old new : State Q) (steps : List Step) (made : List Made) → Runs d old steps made new → Runs d old (steps_made steps made) (given_by_made made) new × (journal_of (given_by_made made) ≡ journal_of made)
+  without : (old new : State Q) (steps : List Step) (made : List Made) → Runs d old steps made new → Runs d old (steps_made steps made (λ m. m.answer)) (given_by_made made) new × (journal_of (given_by_made made) ≡ journal_of made)
   without old new [] [] r = (r, refl)
   without old new [] (m ∷ made) r = absurd r
   without old new (step ∷ steps) [] r = absurd r
@@ -32,11 +32,11 @@ module _ {Q : Type 0} (d : Discipline Q) where
       elim (cases_Bool (is_refused m.answer)) [
         | inl t ↦
             let same = refused_leaves old r.0 step m.answer m.events r.1 t in
-            rw (t, same.0) (subst (λ (x : State Q). Runs d x (steps_made steps made) (given_by_made made) new) same.1 rest.0, rest.1)
+            rw (t, same.0) (subst (λ (x : State Q). Runs d x (steps_made steps made (λ m. m.answer)) (given_by_made made) new) same.1 rest.0, rest.1)
         | inr t ↦ rw t ((r.0, r.1, rest.0), ap (λ es. m.events ++ es) rest.1)
       ]
 
-  pub runs_without : (old new : State Q) (steps : List Step) (made : List Made) → Runs d old steps made new → Runs d old (steps_made steps made) (given_by_made made) new
+  pub runs_without : (old new : State Q) (steps : List Step) (made : List Made) → Runs d old steps made new → Runs d old (steps_made steps made (λ m. m.answer)) (given_by_made made) new
   runs_without old new steps made r = (without old new steps made r).0
 
   pub journal_without : (old new : State Q) (steps : List Step) (made : List Made) → Runs d old steps made new → journal_of (given_by_made made) ≡ journal_of made

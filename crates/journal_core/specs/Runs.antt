@@ -39,12 +39,15 @@ is_refused answer.Idle = false
 is_refused answer.Closed = false
 is_refused (answer.Refused r) = true
 
--- the steps that weren't refused, in order
-abbrev pub steps_made : List Step → List Made → List Step
-steps_made [] made = []
-steps_made (step ∷ steps) [] = []
-steps_made (step ∷ steps) (m ∷ made) =
-    if is_refused m.answer then steps_made steps made else step ∷ steps_made steps made
+-- the step alone, or nothing where it was refused
+abbrev pub unless_refused : Answer → Step → List Step
+unless_refused said step = if is_refused said then [] else step ∷ []
+
+-- the steps that weren't refused, in order, where each has something that tells its answer
+abbrev pub steps_made : {X : Type 0} → List Step → List X → (X → Answer) → List Step
+steps_made [] told said = []
+steps_made (step ∷ steps) [] said = []
+steps_made (step ∷ steps) (x ∷ told) said = unless_refused (said x) step ++ steps_made steps told said
 
 -- what they gave
 abbrev pub given_by_made : List Made → List Made
@@ -82,16 +85,6 @@ pub record IsRunOf {Q : Type 0} (d : Discipline Q) (steps : List Step) (sched : 
   pub runs : Runs d (opening_state d.opening) steps made sched.state
   pub journal : sched.events ≡ journal_of made
   pub none_refused : All (λ m. is_refused m.answer ≡ false) made
-
--- the step alone, or nothing where it was refused
-abbrev pub unless_refused : Answer → Step → List Step
-unless_refused said step = if is_refused said then [] else step ∷ []
-
--- the steps that weren't refused, in order, by their outcomes
-abbrev pub steps_kept : List Step → List Outcome → List Step
-steps_kept [] outcomes = []
-steps_kept (step ∷ steps) [] = []
-steps_kept (step ∷ steps) (o ∷ outcomes) = unless_refused o.answer step ++ steps_kept steps outcomes
 
 -- The outcome's places lie in the journal, the first not behind the end.
 pub record StandsIn (events : List Event) (o : Outcome) : Type 0 where

@@ -12,7 +12,7 @@ use Rattle.journal_core.specs.declared.step.Step.TheVariants.{Dequeue}
 use Rattle.sched_core.specs.AnyStep.{GoesOn}
 use Rattle.journal_core.specs.Calls.{Standing}
 use Rattle.journal_core.specs.Disciplines.{Discipline}
-use Rattle.journal_core.specs.Runs.{Made, IsRunOf, Takes, is_refused, steps_kept, unless_refused}
+use Rattle.journal_core.specs.Runs.{Made, IsRunOf, Takes, is_refused, steps_made, unless_refused}
 use Rattle.sched_core.specs.Schedulers.{IsAdvanced, IsServed, Scheduler, discipline_of}
 use Rattle.journal_core.specs.State.{opening_state, refusal_of}
 use Rattle.journal_core.specs.Steps.{Makes, dequeue_answer}
@@ -58,10 +58,10 @@ room_left old new step answer.Closed g = let e = g.room in omega arith
 room_left old new step (answer.Refused why) g = let e : new.room ≡ old.room = ap (λ (s : Scheduler). s.room) g.1 in omega arith
 
 -- a step and its outcome more
-pub kept_push : (steps : List Step) (outcomes : List Outcome) (step : Step) (o : Outcome) → length outcomes ≡ length steps → steps_kept (steps ++ step ∷ []) (outcomes ++ o ∷ []) ≡ steps_kept steps outcomes ++ unless_refused o.answer step
+pub kept_push : (steps : List Step) (outcomes : List Outcome) (step : Step) (o : Outcome) → length outcomes ≡ length steps → steps_made (steps ++ step ∷ []) (outcomes ++ o ∷ []) (λ x. x.answer) ≡ steps_made steps outcomes (λ x. x.answer) ++ unless_refused o.answer step
 kept_push [] [] step o e = append-nil (unless_refused o.answer step)
 kept_push [] (x ∷ outcomes) step o e = absurd cc
 kept_push (x ∷ steps) [] step o e = absurd cc
 kept_push (x ∷ steps) (y ∷ outcomes) step o e =
     ap (λ l. unless_refused y.answer x ++ l) (kept_push steps outcomes step o cc)
-    ∙ sym (append_assoc (unless_refused y.answer x) (steps_kept steps outcomes) (unless_refused o.answer step))
+    ∙ sym (append_assoc (unless_refused y.answer x) (steps_made steps outcomes (λ x. x.answer)) (unless_refused o.answer step))

@@ -6,7 +6,7 @@ ghost use Rattle.journal_core.specs.declared.step.Refusal.TheVariants as refusal
 ghost use Rattle.journal_core.specs.JournalLaws.{JournalLaws, WaitWithoutFate};
 ghost use Rattle.fair_core.specs.FairQueues.{queue_of};
 ghost use Rattle.fair_core.specs.FqCodel.{fq_codel};
-ghost use Rattle.journal_core.specs.Runs.{IsRun, StandsIn, steps_kept};
+ghost use Rattle.journal_core.specs.Runs.{IsRun, StandsIn, steps_made};
 ghost use Rattle.sched_core.specs.LastSteps.{AreFewOfLast, AreTurnsOfLast};
 ghost use Rattle.sched_core.specs.Schedulers.{flows_of};
 
@@ -29,7 +29,8 @@ pub struct Ran {
 pub fn run_steps(alloc: Global, params: Params, seed: Seed, steps: &[Step]) -> Result<Ran, Memory>
     ensures run { IfOk result
         (λ ran. IsRun (fq_codel params seed) steps.now ran.engine.sched.standing ran.outcomes.items) }
-    ensures steps { IfOk result (λ ran. ran.engine.steps ≡ steps_kept steps.now ran.outcomes.items) }
+    ensures steps { IfOk result
+        (λ ran. ran.engine.steps ≡ steps_made steps.now ran.outcomes.items (λ o. o.answer)) }
     ensures made_with { IfOk result (λ ran. (ran.engine.sched.params ≡ params) × (ran.engine.sched.seed ≡ seed)) }
     ensures places { IfOk result (λ ran. All (StandsIn ran.engine.sched.standing.events) ran.outcomes.items) }
     ensures laws { IfOk result (λ ran. JournalLaws (fq_codel params seed).flow_of ran.engine.sched.standing.events) }
