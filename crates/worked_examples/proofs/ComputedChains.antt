@@ -1,142 +1,85 @@
--- How serving chains are computed in the worked examples: a turn and a walk of turns, each with the lemma that it is what the definitions mean.
-use Rattle.std.proofs.Common.{◌≡◌, ℕ, zero, suc, ◌+◌, Bool, true, false, ◌&&◌, List, [], ◌∷◌, drop, take, set, Option, Some, None, slice_get, ℤ, pos, negsuc, ◌+ℤ◌, ◌-ℤ◌, ◌<ℤ◌, refl, inl, inr, arith}
-use Rattle.std.proofs.lemmas.Bool.{and_parts}
+-- Turns and serving chains, computed for the worked examples together with the proof that they are those of the
+-- definitions.
+use Rattle.std.proofs.Common.{◌≡◌, ℕ, zero, suc, ◌⊎◌, List, [], ◌∷◌, Option, Some, None, option_and_then, option_map, slice_get, ℤ, pos, negsuc, ◌≤ℤ◌, ◌<ℤ◌, refl, inl, inr, arith}
 use Rattle.std.proofs.lemmas.Int.{ints}
 use Rattle.packet_core.specs.declared.packet.Waiting.{Waiting}
 use Rattle.packet_core.specs.declared.params.ParamFields.{ParamFields}
-use Rattle.flow_core.specs.FlowLists.{FlowLists, queue_at, with_queue}
-use Rattle.fair_core.specs.FairQueues.{FairQueues, Head, account_at, head_of, to_old, unlisted}
+use Rattle.codel_core.specs.declared.state.CodelState.{CodelState}
+use Rattle.flow_core.specs.FlowLists.{queue_at}
+use Rattle.fair_core.specs.FairQueues.{FairQueues, Head, account_at, head_of}
 use Rattle.fair_core.specs.declared.backlog.FlowList.{FlowList}
 use Rattle.fair_core.specs.declared.backlog.FlowList.TheVariants.{New, Old}
 use Rattle.fair_core.specs.FqCodel.{fq_codel_policy}
 use Rattle.fair_core.specs.Turns.{Chain, Service, Turn}
 use Rattle.fair_core.specs.Turns.Turn.{used_up, emptied_new, emptied_old, serving}
-use Rattle.worked_examples.proofs.ComputedVerdicts.{Judged, judged}
+use Rattle.worked_examples.proofs.ComputedVerdicts.{Judged, judged, undropped}
 
--- what a turn serves and leaves; `good` says that the computation came to an end
-pub record Turned : Type 0 where
+abbrev sign : (c : ℤ) → (c ≤ℤ pos 0) ⊎ (pos 0 <ℤ c)
+sign (negsuc n) = inl (omega (arith, ints))
+sign (pos zero) = inl (omega (arith, ints))
+sign (pos (suc n)) = inr (omega (arith, ints))
+
+-- a turn
+pub record Turned (p : ParamFields) (now : ℕ) (s : FairQueues) : Type 0 where
   pub service : Option Service
   pub queues : FairQueues
-  pub good : Bool
+  pub turn : Turn (fq_codel_policy p) now s service queues
 
--- Turns, as many as are needed and no more than the fuel.
-pub record Walk : Type 0 where
+module _ (p : ParamFields) (now : ℕ) (s : FairQueues) (head : Head) (at : head_of s ≡ Some head) where
+  abbrev credits : ℤ
+  credits = (account_at s head.flow).credits
+
+  abbrev codel : CodelState
+  codel = (account_at s head.flow).codel
+
+  abbrev queue : List Waiting
+  queue = queue_at s.lists head.flow
+
+  abbrev nothing_late : Judged p now [] codel
+  nothing_late = undropped p now [] codel (λ h. h.0)
+
+  abbrev gives : pos 0 <ℤ credits → (v : Judged p now queue codel) → (o : Option Waiting) → slice_get queue v.drops ≡ o
+      → Option (Turned p now s)
+  gives some v None found = None
+  gives some v (Some w) found =
+      Some (record { service = _; queues = _; turn = serving head at some v.drops v.mark v.codel v.decides w found refl refl })
+
+  -- one turn, by what the head's credits, queue and list are
+  abbrev turned : (credits ≤ℤ pos 0) ⊎ (pos 0 <ℤ credits) → (q : List Waiting) → queue ≡ q → (from : FlowList) → head.from ≡ from
+      → Option (Turned p now s)
+  turned (inl used) q e from f = Some (record { service = _; queues = _; turn = used_up head at used refl refl })
+  turned (inr some) [] e New f =
+      let v = nothing_late in Some (record { service = _; queues = _; turn = emptied_new head at f some e v.mark v.codel v.decides refl refl })
+  turned (inr some) [] e Old f =
+      let v = nothing_late in Some (record { service = _; queues = _; turn = emptied_old head at f some e v.mark v.codel v.decides refl refl })
+  turned (inr some) (w ∷ behind) e from f =
+      option_and_then (λ v. gives some v (slice_get queue v.drops) refl) (judged p now queue codel)
+
+-- a serving chain
+pub record Walk (p : ParamFields) (now : ℕ) (s : FairQueues) : Type 0 where
   pub turns : ℕ
   pub service : Option Service
   pub queues : FairQueues
-  pub good : Bool
+  pub chain : Chain (fq_codel_policy p) now s turns service queues
 
 module _ (p : ParamFields) (now : ℕ) where
-  -- A TURN
+  abbrev Walks : Type 0
+  Walks = (s : FairQueues) → Option (Walk p now s)
 
-  abbrev used : FairQueues → Head → Turned
-  used s head = record {
-    service = None;
-    queues = record {
-      lists = to_old s head;
-      accounts = set s.accounts head.flow (record (account_at s head.flow) { credits = (account_at s head.flow).credits +ℤ pos p.quantum });
-    };
-    good = true;
-  }
+  abbrev walk_on : Walks → (s : FairQueues) (service : Option Service) (next : FairQueues)
+      → Turn (fq_codel_policy p) now s service next → Option (Walk p now s)
+  walk_on further s (Some service) next turn =
+      Some (record { turns = 1; service = Some service; queues = next; chain = inl (refl, service, refl, turn) })
+  walk_on further s None next turn =
+      option_map (λ w. record { turns = suc w.turns; service = w.service; queues = w.queues; chain = inr (next, turn, w.chain) }) (further next)
 
-  abbrev emptied : FairQueues → Head → FlowLists → Turned
-  emptied s head lists = record {
-    service = None;
-    queues = record {
-      lists = lists;
-      accounts = set s.accounts head.flow (record (account_at s head.flow) { codel = (judged p now [] ((account_at s head.flow).codel)).codel });
-    };
-    good = true;
-  }
+  abbrev walk_at : Walks → (s : FairQueues) (head : Option Head) → head_of s ≡ head → Option (Walk p now s)
+  walk_at further s None e = Some (record { turns = 0; service = None; queues = s; chain = (e, refl, refl) })
+  walk_at further s (Some head) e =
+      option_and_then (λ t. walk_on further s t.service t.queues t.turn)
+      (turned p now s head e (sign (account_at s head.flow).credits) (queue_at s.lists head.flow) refl head.from refl)
 
-  abbrev VerdictOn : FairQueues → Head → Type 0
-  VerdictOn s head = Judged p now (queue_at s.lists head.flow) ((account_at s head.flow).codel)
-
-  abbrev served : (s : FairQueues) (head : Head) → VerdictOn s head → Option Waiting → Turned
-  served s head v None = record { service = None; queues = s; good = false }
-  served s head v (Some w) = record {
-    service = Some (record { dropped = take v.drops (queue_at s.lists head.flow); given = record { waiting = w; mark = v.mark } });
-    queues = record {
-      lists = with_queue s.lists head.flow (drop (v.drops + 1) (queue_at s.lists head.flow));
-      accounts = set s.accounts head.flow (record { credits = (account_at s head.flow).credits -ℤ pos w.packet.len; codel = v.codel });
-    };
-    good = v.good;
-  }
-
-  -- one turn, by what the head's credits, queue and list are
-  abbrev turned : FairQueues → Head → ℤ → List Waiting → FlowList → Turned
-  turned s head (pos zero) queue from = used s head
-  turned s head (negsuc n) queue from = used s head
-  turned s head (pos (suc n)) [] New = emptied s head (to_old s head)
-  turned s head (pos (suc n)) [] Old = emptied s head (unlisted s head)
-  turned s head (pos (suc n)) (w ∷ behind) from =
-      let v = judged p now (queue_at s.lists head.flow) ((account_at s head.flow).codel) in
-      served s head v (slice_get (queue_at s.lists head.flow) v.drops)
-
-  -- A WALK
-
-  abbrev walk_on : (FairQueues → Walk) → Option Service → FairQueues → Bool → Walk
-  walk_on on (Some service) next good = record { turns = 1; service = Some service; queues = next; good = good }
-  walk_on on None next good = let rest = on next in record rest { turns = suc rest.turns; good = good && rest.good }
-
-  abbrev walk_at : (FairQueues → Walk) → FairQueues → Option Head → Walk
-  walk_at on s None = record { turns = 0; service = None; queues = s; good = true }
-  walk_at on s (Some head) =
-      let t = turned s head ((account_at s head.flow).credits) (queue_at s.lists head.flow) head.from in
-      walk_on on t.service t.queues t.good
-
-  abbrev pub walk : ℕ → FairQueues → Walk
-  walk zero s = record { turns = 0; service = None; queues = s; good = false }
-  walk (suc fuel) s = walk_at (λ next. walk fuel next) s (head_of s)
-
-  -- A TURN IS RIGHT
-
-  abbrev IsTurn : FairQueues → Turned → Type 0
-  IsTurn s t = Turn (fq_codel_policy p) now s t.service t.queues
-
-  served_is : (s : FairQueues) (head : Head) → head_of s ≡ Some head → pos 0 <ℤ (account_at s head.flow).credits
-      → (v : VerdictOn s head) (o : Option Waiting) → slice_get (queue_at s.lists head.flow) v.drops ≡ o
-      → (served s head v o).good ≡ true → IsTurn s (served s head v o)
-  served_is s head at some v None found good = absurd cc
-  served_is s head at some v (Some w) found good = serving head at some v.drops v.mark v.codel (v.right good) w found refl refl
-
-  turned_is : (s : FairQueues) (head : Head) → head_of s ≡ Some head → (credits : ℤ) → (account_at s head.flow).credits ≡ credits
-      → (queue : List Waiting) → queue_at s.lists head.flow ≡ queue → (from : FlowList) → head.from ≡ from
-      → (turned s head credits queue from).good ≡ true → IsTurn s (turned s head credits queue from)
-  turned_is s head at (pos zero) c queue q from f good = used_up head at (omega (arith, ints)) refl refl
-  turned_is s head at (negsuc n) c queue q from f good = used_up head at (omega (arith, ints)) refl refl
-  turned_is s head at (pos (suc n)) c [] q New f good =
-      let v = judged p now [] ((account_at s head.flow).codel) in
-      emptied_new head at f (omega (arith, ints)) q v.mark v.codel (v.right refl) refl refl
-  turned_is s head at (pos (suc n)) c [] q Old f good =
-      let v = judged p now [] ((account_at s head.flow).codel) in
-      emptied_old head at f (omega (arith, ints)) q v.mark v.codel (v.right refl) refl refl
-  turned_is s head at (pos (suc n)) c (w ∷ behind) q from f good =
-      let v = judged p now (queue_at s.lists head.flow) ((account_at s head.flow).codel) in
-      served_is s head at (omega (arith, ints)) v (slice_get (queue_at s.lists head.flow) v.drops) refl good
-
-  -- A WALK IS RIGHT
-
-  abbrev IsChain : FairQueues → Walk → Type 0
-  IsChain s w = Chain (fq_codel_policy p) now s w.turns w.service w.queues
-
-  walk_on_is : (fuel : ℕ) (s : FairQueues) (service : Option Service) (next : FairQueues) (good : Bool) → ((walk fuel next).good ≡ true → IsChain next (walk fuel next))
-      → Turn (fq_codel_policy p) now s service next → (walk_on (λ n. walk fuel n) service next good).good ≡ true → IsChain s (walk_on (λ n. walk fuel n) service next good)
-  walk_on_is fuel s (Some service) next good further turn e = inl (refl, service, refl, turn)
-  walk_on_is fuel s None next good further turn e = inr (next, turn, further (and_parts good ((walk fuel next).good) e).1)
-
-  turn_good : (on : FairQueues → Walk) (service : Option Service) (next : FairQueues) (good : Bool) → (walk_on on service next good).good ≡ true → good ≡ true
-  turn_good on (Some service) next good e = e
-  turn_good on None next good e = (and_parts good ((on next).good) e).0
-
-  walk_at_is : (fuel : ℕ) (s : FairQueues) → ((next : FairQueues) → (walk fuel next).good ≡ true → IsChain next (walk fuel next))
-      → (head : Option Head) → head_of s ≡ head → (walk_at (λ n. walk fuel n) s head).good ≡ true → IsChain s (walk_at (λ n. walk fuel n) s head)
-  walk_at_is fuel s further None none e = (none, refl, refl)
-  walk_at_is fuel s further (Some head) is e =
-      let t = turned s head ((account_at s head.flow).credits) (queue_at s.lists head.flow) head.from in
-      walk_on_is fuel s t.service t.queues t.good (further t.queues)
-      (turned_is s head is ((account_at s head.flow).credits) refl (queue_at s.lists head.flow) refl head.from refl (turn_good (λ n. walk fuel n) t.service t.queues t.good e)) e
-
-  pub walk_is : (fuel : ℕ) (s : FairQueues) → (walk fuel s).good ≡ true → IsChain s (walk fuel s)
-  walk_is zero s e = absurd cc
-  walk_is (suc fuel) s e = walk_at_is fuel s (λ next good. walk_is fuel next good) (head_of s) refl e
+  -- the serving chain of a state, if it has fewer turns than that
+  abbrev pub walk : ℕ → Walks
+  walk zero s = None
+  walk (suc fuel) s = walk_at (λ next. walk fuel next) s (head_of s) refl
