@@ -46,7 +46,10 @@ fn run_steps_gives_own_events(rt: HostRuntime) -> Result<(), Fail> {
     ];
     let ran = expect_outcomes(&rt, &steps, &outcomes)?;
     assert_eq!(rt; ran.engine.events().len(), 3);
-    assert_eq!(rt; ran.engine.steps(), [steps[0], steps[1], steps[3]].as_slice());
+    assert_eq!(rt;
+        ran.engine.steps(),
+        [steps[0], steps[1], steps[3]].as_slice()
+    );
     Ok(())
 }
 

@@ -26,16 +26,13 @@ use Rattle.worked_examples.proofs.ComputedRuns.{RunGives, RunLeaves, accepts, ar
 -- THE SPACING OF DROPS
 
 -- with an interval of 100 milliseconds, behind two drops and three
-spacing_behind_two : IsSpacing 100000 2 70710
-spacing_behind_two = (lit≤ tt, lit< tt)
-
-spacing_behind_three : IsSpacing 100000 3 57735
-spacing_behind_three = (lit≤ tt, lit< tt)
+spacings_in_milliseconds : IsSpacing 100000 2 70710 × IsSpacing 100000 3 57735
+spacings_in_milliseconds = ((lit≤ tt, lit< tt), (lit≤ tt, lit< tt))
 
 -- with an interval of 100 microseconds, behind one, two and three, as a number that computes
-spacings : map (spacing_of 100) (1 ∷ 2 ∷ 3 ∷ []) ≡ 100 ∷ 70 ∷ 57 ∷ []
+spacings_computed : map (spacing_of 100) (1 ∷ 2 ∷ 3 ∷ []) ≡ 100 ∷ 70 ∷ 57 ∷ []
 unfolding spacing_of
-spacings = refl
+spacings_computed = refl
 
 -- TEN PACKETS
 

@@ -1,5 +1,5 @@
 -- How whole runs of the worked examples are computed: a step and a run, each with the lemma that it is what the definitions mean.
-use Rattle.std.proofs.Common.{◌≡◌, ℕ, zero, suc, ◌+◌, ◌<◌, ◌≤◌, max, Bool, true, false, ◌&&◌, List, [], ◌∷◌, ◌++◌, drop, get_or, set, length, map, sum_by, Option, Some, None, MatchOption, if◌then◌else◌, nat_le, nat_lt, refl, sym, subst, arith}
+use Rattle.std.proofs.Common.{◌≡◌, ℕ, zero, suc, ◌+◌, ◌<◌, ◌≤◌, max, Bool, true, false, ◌&&◌, List, [], ◌∷◌, ◌++◌, drop, get_or, set, length, map, sum_by, Option, Some, None, MatchOption, IsSomeAnd, if◌then◌else◌, nat_le, nat_lt, refl, sym, subst, arith}
 use Rattle.std.proofs.lemmas.Bool.{and_parts, leb-true, leb-false, ltb-true}
 use Rattle.packet_core.specs.FlowNumber.{flow_number}
 use Rattle.packet_core.specs.Packets.{PacketParts}
@@ -29,7 +29,7 @@ use Rattle.journal_core.specs.Runs.{Made, Runs}
 use Rattle.journal_core.specs.State.{State, arrival, opening_state, refusal_of}
 use Rattle.journal_core.specs.Steps.{Makes, Steps, dequeue_answer, drop_event, sent_events}
 use Rattle.fair_core.specs.Turns.{Chain, TurnMade, service_in}
-use Rattle.worked_examples.proofs.ComputedChains.{Walk, walk, walk_is}
+use Rattle.worked_examples.proofs.ComputedChains.{Walk, walk}
 
 -- THE FATTEST FLOW
 
@@ -89,7 +89,7 @@ pub record Run : Type 0 where
   pub state : State FairQueues
   pub good : Bool
 
-module _ (p : ParamFields) (seed : Seed) (fuel : ℕ) where
+module _ (p : ParamFields) (seed : Seed) where
   abbrev flow_of : PacketParts → ℕ
   flow_of packet = flow_number p.classify p.flows seed packet.tuple
 
@@ -123,23 +123,22 @@ module _ (p : ParamFields) (seed : Seed) (fuel : ℕ) where
         good = nat_lt (flow_of packet) (length old.queues.lists.queues) && is_fattest queues fattest;
       }
 
+  abbrev dequeued : (old : State FairQueues) (moment : ℕ) → Option (Walk p moment old.queues) → Stepped
+  dequeued old moment None = record { answer = answer.Idle; events = []; state = old; good = false }
+  dequeued old moment (Some w) = record {
+    answer = dequeue_answer (given_in (service_in w.turns));
+    events = map (drop_event moment cause.Codel) (dropped_in (service_in w.turns)) ++ sent_events moment (given_in (service_in w.turns));
+    state = record old { queues = w.queues; last = moment };
+    good = true;
+  }
+
   abbrev stepped : State FairQueues → Step → Option Refusal → Stepped
   stepped old step (Some r) = record { answer = answer.Refused r; events = []; state = old; good = true }
   stepped old (Enqueue moment lane packet) None =
       let queues = arrived old moment packet in
       admitted old moment lane packet queues (nat_le (sum_by length queues) p.limit)
-  stepped old (Dequeue moment) None =
-      let w = walk p moment fuel old.queues in
-      record {
-        answer = dequeue_answer (given_in (service_in w.turns));
-        events = map (drop_event moment cause.Codel) (dropped_in (service_in w.turns)) ++ sent_events moment (given_in (service_in w.turns));
-        state = record old { queues = w.queues; last = moment };
-        good = w.good;
-      }
+  stepped old (Dequeue moment) None = dequeued old moment (walk p moment 10 old.queues)
   stepped old (Close moment) None = record { answer = answer.Closed; events = event.Closed moment ∷ []; state = record old { last = moment; closed = true }; good = true }
-
-  abbrev StepsSo : State FairQueues → Step → Stepped → Type 0
-  StepsSo old step s = Steps (fq_codel p seed) old step s.answer s.events s.state
 
   abbrev MakesSo : State FairQueues → Step → Stepped → Type 0
   MakesSo old step s = Makes (fq_codel p seed) old step s.answer s.events s.state
@@ -184,24 +183,28 @@ module _ (p : ParamFields) (seed : Seed) (fuel : ℕ) where
         },
       )
 
+  dequeued_is : (old : State FairQueues) (moment : ℕ) (o : Option (Walk p moment old.queues)) → (dequeued old moment o).good ≡ true
+      → MakesSo old (Dequeue moment) (dequeued old moment o)
+  dequeued_is old moment None e = absurd cc
+  dequeued_is old moment (Some w) e = (
+    given_in (service_in w.turns),
+    refl,
+    record {
+      dropped = dropped_in (service_in w.turns);
+      queues = record { turns = w.turns; chain = w.chain; dropped_by = refl; given_by = refl };
+      told = refl;
+      next_id = refl;
+      last = refl;
+      closed = refl;
+    },
+  )
+
   made_is : (old : State FairQueues) (step : Step) → (stepped old step None).good ≡ true → MakesSo old step (stepped old step None)
   made_is old (Enqueue moment lane packet) e = admitted_is old moment lane packet (nat_le (sum_by length (arrived old moment packet)) p.limit) refl e
-  made_is old (Dequeue moment) e =
-      let w = walk p moment fuel old.queues in (
-        given_in (service_in w.turns),
-        refl,
-        record {
-          dropped = dropped_in (service_in w.turns);
-          queues = record { turns = w.turns; chain = walk_is p moment fuel old.queues e; dropped_by = refl; given_by = refl };
-          told = refl;
-          next_id = refl;
-          last = refl;
-          closed = refl;
-        },
-      )
+  made_is old (Dequeue moment) e = dequeued_is old moment (walk p moment 10 old.queues) e
   made_is old (Close moment) e = (refl, record { told = refl; state = refl })
 
-  stepped_is : (old : State FairQueues) (step : Step) (r : Option Refusal) → refusal_of old step ≡ r → (stepped old step r).good ≡ true → StepsSo old step (stepped old step r)
+  stepped_is : (old : State FairQueues) (step : Step) (r : Option Refusal) → refusal_of old step ≡ r → (stepped old step r).good ≡ true → Steps (fq_codel p seed) old step (stepped old step r).answer (stepped old step r).events (stepped old step r).state
   stepped_is old step (Some r) is e =
       let s = stepped old step (Some r) in
       subst (λ (o : Option Refusal). MatchOption o (MakesSo old step s) (λ r'. (s.answer ≡ answer.Refused r') × (s.events ≡ []) × (s.state ≡ old))) (sym is) (refl, refl, refl)
@@ -237,25 +240,29 @@ pub record RunLeaves (p : ParamFields) (seed : Seed) (steps : List Step) (Holds 
 
 -- a dequeue of that state makes so many turns
 abbrev pub MakesTurns : ParamFields → ℕ → ℕ → State FairQueues → Type 0
-MakesTurns p moment turns s = (made : List TurnMade) × (new : FairQueues) × Chain (fq_codel_policy p) moment s.queues made new × (turns ≡ length made)
+MakesTurns p moment turns s =
+    (made : List TurnMade) × (new : FairQueues) × Chain (fq_codel_policy p) moment s.queues made new × (turns ≡ length made)
+
+-- a serving chain that was computed is one
+turns_are : (p : ParamFields) (moment turns : ℕ) (s : State FairQueues) (o : Option (Walk p moment s.queues))
+    → IsSomeAnd o (λ w. length w.turns ≡ turns) → MakesTurns p moment turns s
+turns_are p moment turns s None is = absurd is
+turns_are p moment turns s (Some w) is = (w.turns, w.queues, w.chain, sym is)
 
 module _ (p : ParamFields) (seed : Seed) (steps : List Step) where
   abbrev pub run_of : Run
-  run_of = run_from p seed 10 (opening_state (no_queues p.flows)) steps
+  run_of = run_from p seed (opening_state (no_queues p.flows)) steps
 
   pub run_gives : run_of.good ≡ true → RunGives p seed steps run_of.made
-  run_gives good = record { state = run_of.state; runs = run_is p seed 10 (opening_state (no_queues p.flows)) steps good }
+  run_gives good = record { state = run_of.state; runs = run_is p seed (opening_state (no_queues p.flows)) steps good }
 
   pub run_leaves : (Holds : State FairQueues → Type 0) → run_of.good ≡ true → Holds run_of.state → RunLeaves p seed steps Holds
-  run_leaves Holds good holds = record { made = run_of.made; state = run_of.state; runs = run_is p seed 10 (opening_state (no_queues p.flows)) steps good; holds = holds }
+  run_leaves Holds good holds = record { made = run_of.made; state = run_of.state; runs = run_is p seed (opening_state (no_queues p.flows)) steps good; holds = holds }
 
-  abbrev walk_of : ℕ → Walk
-  walk_of moment = walk p moment 10 run_of.state.queues
-
-  pub run_turns : (moment : ℕ) → run_of.good ≡ true → (walk_of moment).good ≡ true → RunLeaves p seed steps (λ s. MakesTurns p moment (length (walk_of moment).turns) s)
-  run_turns moment good ends =
-      run_leaves (λ s. MakesTurns p moment (length (walk_of moment).turns) s) good
-      ((walk_of moment).turns, (walk_of moment).queues, walk_is p moment 10 run_of.state.queues ends, refl)
+  pub run_turns : (moment turns : ℕ) → run_of.good ≡ true → IsSomeAnd (walk p moment 10 run_of.state.queues) (λ w. length w.turns ≡ turns)
+      → RunLeaves p seed steps (MakesTurns p moment turns)
+  run_turns moment turns good is =
+      run_leaves (MakesTurns p moment turns) good (turns_are p moment turns run_of.state (walk p moment 10 run_of.state.queues) is)
 
 -- PACKETS AND WHAT STEPS GIVE
 

@@ -41,13 +41,12 @@ of_some A P test (Some a) = test a
 
 -- THE VERDICT
 
--- what a verdict says; `good` says that the computation came to an end
+-- a verdict
 pub record Judged (p : ParamFields) (now : ℕ) (q : List Waiting) (s : CodelState) : Type 0 where
   pub drops : ℕ
   pub mark : Mark
   pub codel : CodelState
-  pub good : Bool
-  pub right : good ≡ true → Decides p now q s drops mark codel
+  pub decides : Decides p now q s drops mark codel
 
 -- a place, all places before which are dropped
 record Front (p : ParamFields) (now : ℕ) (q : List Waiting) (s : CodelState) : Type 0 where
@@ -89,8 +88,7 @@ module _ (p : ParamFields) (now : ℕ) (q : List Waiting) (s : CodelState) where
         drops = k;
         mark = mark;
         codel = record codel { first_above = a.above };
-        good = true;
-        right = λ _. record { verdict = verdict; first_above = a.right };
+        decides = record { verdict = verdict; first_above = a.right };
       }
 
   -- the first place from that one on that isn't dropped, as far as the fuel goes
@@ -111,23 +109,30 @@ module _ (p : ParamFields) (now : ℕ) (q : List Waiting) (s : CodelState) where
 
   abbrev stopped : s.dropping ≡ true → IsDroppable p now q s.first_above 0 → (f : Front p now q s)
       → Tells (IsDroppable p now q s.first_above f.place) → Tells (drop_moment p.interval s f.place ≤ now)
-      → Tells (IsMarkableAt p q f.place) → Judged p now q s
+      → Tells (IsMarkableAt p q f.place) → Option (Judged p now q s)
   stopped is first f (inr never) come marked =
-      judge f.place NoMark (stopped_after p.interval s f.place) (drops first is f.before (leaves never))
+      Some (judge f.place NoMark (stopped_after p.interval s f.place) (drops first is f.before (leaves never)))
   stopped is first f (inl stands) (inr early) marked =
-      judge f.place NoMark (after_drops p.interval s f.place) (drops first is f.before (waits stands (omega arith)))
+      Some (judge f.place NoMark (after_drops p.interval s f.place) (drops first is f.before (waits stands (omega arith))))
   stopped is first f (inl stands) (inl come) (inl marked) =
-      judge f.place CodelMark (after_drops p.interval s (f.place + 1)) (drops first is f.before (marks stands come marked))
-  stopped is first f (inl stands) (inl come) (inr never) =
-      record { drops = 0; mark = NoMark; codel = s; good = false; right = λ e. absurd cc }
+      Some (judge f.place CodelMark (after_drops p.interval s (f.place + 1)) (drops first is f.before (marks stands come marked)))
+  stopped is first f (inl stands) (inl come) (inr never) = None
 
-  abbrev judged_by : Tells (IsDroppable p now q s.first_above 0) → (b : Bool) → s.dropping ≡ b → Tells (IsMarkableAt p q 0) → Judged p now q s
-  judged_by (inr never) b is marked = judge 0 NoMark (record s { dropping = false }) (nothing never)
-  judged_by (inl first) false is (inl marked) = judge 0 CodelMark (entered p now s) (first_mark first is marked)
-  judged_by (inl first) false is (inr never) = judge 1 NoMark (entered p now s) (first_drop first is never)
+  -- the verdict on a head that isn't droppable, as that of an empty queue
+  abbrev pub undropped : ¬ IsDroppable p now q s.first_above 0 → Judged p now q s
+  undropped never = judge 0 NoMark (record s { dropping = false }) (nothing never)
+
+  abbrev judged_by : Tells (IsDroppable p now q s.first_above 0) → (b : Bool) → s.dropping ≡ b → Tells (IsMarkableAt p q 0)
+      → Option (Judged p now q s)
+  judged_by (inr never) b is marked = Some (undropped never)
+  judged_by (inl first) false is (inl marked) =
+      Some (judge 0 CodelMark (entered p now s) (first_mark first is marked))
+  judged_by (inl first) false is (inr never) =
+      Some (judge 1 NoMark (entered p now s) (first_drop first is never))
   judged_by (inl first) true is marked =
       let f = first_stop 10 (record { place = 0; before = below_none (IsDropped p now q s) }) in
       stopped is first f (droppable f.place) (due f.place) (markable f.place)
 
-  abbrev pub judged : Judged p now q s
+  -- the verdict, if no more than ten packets are dropped
+  abbrev pub judged : Option (Judged p now q s)
   judged = judged_by (droppable 0) s.dropping refl (markable 0)

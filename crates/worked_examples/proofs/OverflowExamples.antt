@@ -1,19 +1,17 @@
 -- Worked examples of overflow, by computation: which flow loses packets, how many and in which order.
-use Rattle.std.proofs.Common.{◌≡◌, ℕ, List, [], ◌∷◌, ◌++◌, map, replicate, refl}
+use Rattle.std.proofs.Common.{ℕ, List, [], ◌∷◌, ◌++◌, map, replicate, refl}
 use Rattle.std.specs.List.{range_with_len}
 use Rattle.packet_core.specs.Params.{standard_fields}
 use Rattle.packet_core.specs.declared.params.Classify.TheVariants.{Dport}
 use Rattle.packet_core.specs.declared.flow.Seed.{Seed}
-use Rattle.packet_core.specs.declared.packet.Waiting.{Waiting}
 use Rattle.packet_core.specs.declared.params.EcnUse.TheVariants.{Drop}
 use Rattle.packet_core.specs.declared.params.ParamFields.{ParamFields}
 use Rattle.journal_core.specs.declared.event.Cause.TheVariants.{Overflow}
 use Rattle.journal_core.specs.declared.event.Event.TheVariants.{Dropped}
 use Rattle.journal_core.specs.declared.outcome.Answer.TheVariants as answer
 use Rattle.journal_core.specs.declared.step.Step.TheVariants.{Dequeue}
-use Rattle.fair_core.specs.FairQueues.{queue_of}
 use Rattle.journal_core.specs.Runs.{Made}
-use Rattle.worked_examples.proofs.ComputedRuns.{RunGives, RunLeaves, acceptance, accepts, arrives, idles, packet_to, run_gives, run_leaves, sends}
+use Rattle.worked_examples.proofs.ComputedRuns.{RunGives, acceptance, accepts, arrives, idles, run_gives, sends}
 
 -- four flows with that limit, and no marks
 abbrev limited : ℕ → ParamFields
@@ -43,13 +41,7 @@ tie_goes_to_least_flow seed = run_gives (limited 1) seed _ refl
 abbrev one_flow : ParamFields
 one_flow = record standard_fields { limit = 200; flows = 1; ecn = Drop; classify = Dport }
 
--- The packet past the limit finds 201, half of which are more than a batch: 64 are dropped, and 137 wait.
+-- The packet past the limit finds 201, half of which are more than a batch: 64 are dropped.
 batch_of_sixty_four : (seed : Seed)
     → RunGives one_flow seed (replicate 201 (arrives 0 100)) (map (λ id. accepts id 0 100) (range_with_len 0 200) ++ accepts_over 200 0 100 (range_with_len 0 64) ∷ [])
 batch_of_sixty_four seed = run_gives one_flow seed _ refl
-
-abbrev still_waiting : List Waiting
-still_waiting = map (λ id. record { id = id; stamp = 0; packet = packet_to 0 100 }) (range_with_len 64 137)
-
-batch_leaves : (seed : Seed) → RunLeaves one_flow seed (replicate 201 (arrives 0 100)) (λ s. queue_of s.queues 0 ≡ still_waiting)
-batch_leaves seed = run_leaves one_flow seed (replicate 201 (arrives 0 100)) (λ s. queue_of s.queues 0 ≡ still_waiting) refl refl

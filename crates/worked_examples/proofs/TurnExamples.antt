@@ -23,12 +23,12 @@ small_quantum_two_flows seed = run_gives small_quantum seed _ refl
 -- the turns of its second dequeue, and of the last: used up, unlisted, used up, unlisted
 small_quantum_second_turns : (seed : Seed)
     → RunLeaves small_quantum seed (arrives 1 500 ∷ arrives 1 500 ∷ arrives 2 200 ∷ arrives 2 200 ∷ Dequeue 1 ∷ []) (MakesTurns small_quantum 1 2)
-small_quantum_second_turns seed = run_turns small_quantum seed _ 1 refl refl
+small_quantum_second_turns seed = run_turns small_quantum seed _ 1 2 refl refl
 
 small_quantum_last_turns : (seed : Seed)
     → RunLeaves small_quantum seed (arrives 1 500 ∷ arrives 1 500 ∷ arrives 2 200 ∷ arrives 2 200 ∷ Dequeue 1 ∷ Dequeue 1 ∷ Dequeue 1 ∷ Dequeue 1 ∷ [])
     (MakesTurns small_quantum 1 4)
-small_quantum_last_turns seed = run_turns small_quantum seed _ 1 refl refl
+small_quantum_last_turns seed = run_turns small_quantum seed _ 1 4 refl refl
 
 -- Where a flow owes 65,534 bytes and a quantum is one, a dequeue makes 65,537 turns at most.
 giant_packets_bound : (seed : Seed)
