@@ -1,4 +1,4 @@
-use Rattle.std.specs.Prelude.{ℕ, ◌+◌, ◌*◌, ◌-◌, ◌≤◌, List, [], ◌∷◌, ◌++◌, length}
+use Rattle.std.specs.Prelude.{ℕ, ◌+◌, ◌*◌, ◌-◌, ◌≤◌, List, [], ◌∷◌, ◌++◌, length, min}
 use Rattle.codel_core.specs.declared.served.Mark.{Mark}
 use Rattle.codel_core.specs.declared.served.Mark.TheVariants.{NoMark, CodelMark}
 use Rattle.packet_core.specs.declared.packet.Waiting.{Waiting}
@@ -6,7 +6,7 @@ use Rattle.journal_core.specs.declared.event.Cause.{Cause}
 use Rattle.journal_core.specs.declared.event.Cause.TheVariants.{Codel, Overflow}
 use Rattle.journal_core.specs.declared.event.Event.{Event}
 use Rattle.journal_core.specs.declared.journal.Counts.{Counts}
-use Rattle.journal_core.specs.declared.keeper.TheConstants.{MAX_EVENTS}
+use Rattle.journal_core.specs.declared.journal.TheConstants.{MAX_EVENTS}
 
 -- the journal as the scheduler sees it: the events, the counts that run along, and how many events more take no memory
 pub record Book : Type 0 where
@@ -14,8 +14,21 @@ pub record Book : Type 0 where
   pub counts : Counts
   pub room : ℕ
 
+-- that of a keeper which was told those events and has so much room; there is no more than the most events leave
+abbrev pub book_of : List Event → Counts → ℕ → Book
+book_of events counts room = record { events = events; counts = counts; room = min room (MAX_EVENTS - length events) }
+
 abbrev pub no_counts : Counts
-no_counts = record { accepted = 0; accepted_bytes = 0; sent = 0; sent_bytes = 0; dropped_codel = 0; dropped_overflow = 0; dropped_bytes = 0; marked = 0 }
+no_counts = record {
+  accepted = 0;
+  accepted_bytes = 0;
+  sent = 0;
+  sent_bytes = 0;
+  dropped_codel = 0;
+  dropped_overflow = 0;
+  dropped_bytes = 0;
+  marked = 0;
+}
 
 -- one event more, and these counts
 abbrev pub with_event : Book → Event → Counts → Book
@@ -32,7 +45,11 @@ marks_of CodelMark = 1
 
 -- one sent
 abbrev pub count_sent : Counts → ℕ → Mark → Counts
-count_sent c len mark = record c { sent = c.sent + 1; sent_bytes = c.sent_bytes + len; marked = c.marked + marks_of mark }
+count_sent c len mark = record c {
+  sent = c.sent + 1;
+  sent_bytes = c.sent_bytes + len;
+  marked = c.marked + marks_of mark;
+}
 
 -- how many drops by CoDel that is, and how many by overflow
 abbrev pub codel_drops_of : Cause → ℕ

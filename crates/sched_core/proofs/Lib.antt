@@ -4,5 +4,5 @@ pub mod KeptAcceptances
 pub mod FqCodelRuns
 pub mod ShortPackets
 pub mod RunExistence
-pub mod StoredRuns
+pub mod EngineRuns
 pub mod LastStepLemmas

@@ -1,6 +1,6 @@
-ghost use Rattle.std.specs.Prelude.{◌≡◌, ◌≢◌, ◌++◌, All, IfOk, OnErr};
-ghost use Rattle.journal_core.specs.declared.outcome.Answer.TheVariants as answer;
-ghost use Rattle.journal_core.specs.declared.step.Refusal.TheVariants as refusals;
+//! A run: a list of steps made in turn, with an answer to each.
+
+ghost use Rattle.std.specs.Prelude.{◌≡◌, All, IfOk};
 ghost use Rattle.journal_core.specs.JournalLaws.{JournalLaws, WaitWithoutFate};
 ghost use Rattle.fair_core.specs.FairQueues.{queue_of};
 ghost use Rattle.fair_core.specs.FqCodel.{fq_codel};
@@ -25,13 +25,16 @@ pub struct Ran {
 /// Makes the steps in turn with a new engine of those parameters and that seed. A refused step changes nothing and
 /// isn't stored, and the run goes on after it. It answers Err where a growth is refused, and then nothing is given.
 pub fn run_steps(alloc: Global, params: Params, seed: Seed, steps: &[Step]) -> Result<Ran, Memory>
-    ensures run { IfOk result (λ ran. IsRun (fq_codel params seed) steps.now ran.engine.sched.standing ran.outcomes.items) }
+    ensures run { IfOk result (λ ran. IsRun (fq_codel params seed) steps.now
+        ran.engine.sched.standing ran.outcomes.items) }
     ensures steps { IfOk result (λ ran. ran.engine.steps ≡ steps_kept steps.now ran.outcomes.items) }
     ensures made_with { IfOk result (λ ran. (ran.engine.sched.params ≡ params) × (ran.engine.sched.seed ≡ seed)) }
     ensures places { IfOk result (λ ran. All (StandsIn ran.engine.sched.standing.events) ran.outcomes.items) }
     ensures laws { IfOk result (λ ran. JournalLaws (fq_codel params seed).flow_of ran.engine.sched.standing.events) }
-    ensures waiting { IfOk result (λ ran. WaitWithoutFate (queue_of (flows_of ran.engine.sched)) ran.engine.sched.standing.events) }
-    ensures turns { IfOk result (λ ran. AreTurnsOfLast params seed steps.now ran.outcomes.items ran.engine.sched.turns) }
+    ensures waiting { IfOk result (λ ran. WaitWithoutFate (queue_of (flows_of ran.engine.sched))
+        ran.engine.sched.standing.events) }
+    ensures turns { IfOk result (λ ran. AreTurnsOfLast params seed steps.now
+        ran.outcomes.items ran.engine.sched.turns) }
     ensures comparisons { IfOk result (λ ran. AreFewOfLast params ran.outcomes.items ran.engine.sched.comparisons) }
 {
     let mut engine = Engine::try_new(alloc, params, seed)?;
