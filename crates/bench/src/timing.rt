@@ -8,7 +8,7 @@ use crate::workload::{Keeper, ROUNDS, Round, Workload};
 use packet_core::{
     Ecn, FiveTuple, Ip, LengthOutOfRange, Packet, ParamFields, ParamName, Params, Seed,
 };
-use sched_core::{Keeps, Sched, Stored, Unstored};
+use sched_core::{Event, Keeps, Sched, Stored, Unstored};
 use std::alloc::{AllocError, Global};
 use std::io;
 use std::time::Instant;
@@ -170,16 +170,20 @@ fn nanoseconds(rt: &HostRuntime, workload: &Workload) -> Result<u128, Fault> {
 
 /// The same with a journal that tells its events to that keeper. What makes the packets and fills the queues before
 /// isn't counted.
-fn nanoseconds_over<K: Keeps>(
+fn nanoseconds_over<K: Keeps<Event>>(
     rt: &HostRuntime,
     workload: &Workload,
     keeper: K,
 ) -> Result<u128, Fault>
-    requires { K.events keeper ≡ [] }
+    requires { K.told keeper ≡ [] }
 {
     let mut traffic = Traffic::try_new(rt.alloc(), workload)?;
-    let mut sched =
-        Sched::try_with_keeper(rt.alloc(), params_of(workload)?, Seed([0; 16]), keeper)?;
+    let mut sched = Sched::try_with_keeper(
+        rt.alloc(),
+        params_of(workload)?,
+        Seed([0; 16]),
+        keeper,
+    )?;
     let waiting = workload.waiting_in_all();
     fill(&mut sched, &mut traffic, waiting)?;
     if matches!(workload.round, Round::Enqueue | Round::TwoEnqueuesDequeue) {
@@ -197,7 +201,10 @@ fn nanoseconds_over<K: Keeps>(
 /// The workload's parameters, and otherwise the standard ones.
 fn params_of(workload: &Workload) -> Result<Params, ParamName>
     ensures { IfOk result (λ p. p ≡ record standard_fields {
-        limit = workload.now.limit; ecn = workload.now.ecn_use; classify = workload.now.classify }) }
+      limit = workload.now.limit;
+      ecn = workload.now.ecn_use;
+      classify = workload.now.classify;
+    }) }
 {
     Params::try_new(ParamFields {
         limit: workload.limit,
@@ -208,7 +215,7 @@ fn params_of(workload: &Workload) -> Result<Params, ParamName>
 }
 
 /// That many packets come before the first round.
-fn fill<K: Keeps>(
+fn fill<K: Keeps<Event>>(
     sched: &mut Sched<K>,
     traffic: &mut Traffic,
     packets: u64,
@@ -220,7 +227,7 @@ fn fill<K: Keeps>(
 }
 
 /// All rounds of a workload.
-fn rounds<K: Keeps>(
+fn rounds<K: Keeps<Event>>(
     sched: &mut Sched<K>,
     traffic: &mut Traffic,
     workload: &Workload,
@@ -263,7 +270,7 @@ fn rounds<K: Keeps>(
 }
 
 /// The next packet comes, at a moment in microseconds.
-fn enqueue<K: Keeps>(
+fn enqueue<K: Keeps<Event>>(
     sched: &mut Sched<K>,
     traffic: &mut Traffic,
     moment: u64,
@@ -276,7 +283,7 @@ fn enqueue<K: Keeps>(
 }
 
 /// The device takes a packet, at a moment in microseconds.
-fn dequeue<K: Keeps>(sched: &mut Sched<K>, moment: u64) -> Result<(), Refused> {
+fn dequeue<K: Keeps<Event>>(sched: &mut Sched<K>, moment: u64) -> Result<(), Refused> {
     if sched.dequeue(moment).is_err() {
         return Err(Refused);
     }

@@ -13,7 +13,7 @@ use crate::account::Account;
 use crate::flow_view::FlowView;
 use codel_core::{Codel, Served};
 use flow_core::Flows;
-use journal_core::{Cause, Fates, Journal, Keeps, Memory};
+use journal_core::{Cause, Event, Fates, Journal, Keeps, Memory};
 use packet_core::{Params, Waiting};
 use std::alloc::Global;
 use std::marker::Model;
@@ -183,7 +183,7 @@ impl Backlog {
 
     /// Where more than `limit` packets wait, the flow with the most bytes loses a batch from its head, which the
     /// journal records (RFC 8290, section 4.1).
-    pub fn overflow<K: Keeps>(&mut self, limit: u32, moment: u64, journal: &mut Journal<K>)
+    pub fn overflow<K: Keeps<Event>>(&mut self, limit: u32, moment: u64, journal: &mut Journal<K>)
         requires limit { 1 ≤ limit }
         requires room { waiting_in self.old.queues.lists ≤ journal.old.room }
         ensures { DropsOverflow limit moment self.old journal.old self.new journal.new }
@@ -200,7 +200,7 @@ impl Backlog {
 
     /// A chain of turns, up to the first one that serves a flow, or to where both lists are empty (RFC 8290,
     /// section 4.2). What CoDel drops goes to the journal.
-    pub fn serve<K: Keeps>(
+    pub fn serve<K: Keeps<Event>>(
         &mut self,
         now: u64,
         params: &Params,
@@ -233,7 +233,7 @@ impl Backlog {
     }
 
     /// One turn of the flow at the head (RFC 8290, section 4.2).
-    fn turn<K: Keeps>(
+    fn turn<K: Keeps<Event>>(
         &mut self,
         head: Head,
         now: u64,
@@ -298,7 +298,7 @@ impl Backlog {
     }
 
     /// CoDel serves a flow, which has credits above 0. The length of the packet that is given is taken from them.
-    fn serve_flow<K: Keeps>(
+    fn serve_flow<K: Keeps<Event>>(
         &mut self,
         flow: u32,
         now: u64,
@@ -326,7 +326,7 @@ impl Backlog {
 }
 
 /// CoDel serves the queue of a flow.
-fn serve_queue<K: Keeps>(
+fn serve_queue<K: Keeps<Event>>(
     flows: &mut Flows,
     flow: u32,
     codel: &mut Codel,
@@ -350,7 +350,7 @@ fn serve_queue<K: Keeps>(
 }
 
 /// Drops so many packets from the head of a flow's queue, as overflow.
-fn drop_batch<K: Keeps>(
+fn drop_batch<K: Keeps<Event>>(
     flows: &mut Flows,
     flow: u32,
     batch: u64,

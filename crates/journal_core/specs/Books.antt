@@ -1,4 +1,4 @@
-use Rattle.std.specs.Prelude.{ℕ, ◌+◌, ◌*◌, ◌-◌, ◌≤◌, List, [], ◌∷◌, ◌++◌, length}
+use Rattle.std.specs.Prelude.{ℕ, ◌+◌, ◌*◌, ◌-◌, ◌≤◌, List, [], ◌∷◌, ◌++◌, length, min}
 use Rattle.codel_core.specs.declared.served.Mark.{Mark}
 use Rattle.codel_core.specs.declared.served.Mark.TheVariants.{NoMark, CodelMark}
 use Rattle.packet_core.specs.declared.packet.Waiting.{Waiting}
@@ -6,13 +6,17 @@ use Rattle.journal_core.specs.declared.event.Cause.{Cause}
 use Rattle.journal_core.specs.declared.event.Cause.TheVariants.{Codel, Overflow}
 use Rattle.journal_core.specs.declared.event.Event.{Event}
 use Rattle.journal_core.specs.declared.journal.Counts.{Counts}
-use Rattle.journal_core.specs.declared.keeper.TheConstants.{MAX_EVENTS}
+use Rattle.journal_core.specs.declared.journal.TheConstants.{MAX_EVENTS}
 
 -- the journal as the scheduler sees it: the events, the counts that run along, and how many events more take no memory
 pub record Book : Type 0 where
   pub events : List Event
   pub counts : Counts
   pub room : ℕ
+
+-- that of a keeper which was told those events and has so much room; there is no more than the most events leave
+abbrev pub book_of : List Event → Counts → ℕ → Book
+book_of events counts room = record { events = events; counts = counts; room = min room (MAX_EVENTS - length events) }
 
 abbrev pub no_counts : Counts
 no_counts = record {

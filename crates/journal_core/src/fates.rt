@@ -1,6 +1,6 @@
 //! A journal as the sink of packets that are dropped.
 
-use crate::event::Cause;
+use crate::event::{Cause, Event};
 use crate::journal::Journal;
 use crate::keeper::Keeps;
 use codel_core::DropSink;
@@ -8,7 +8,7 @@ use packet_core::Waiting;
 
 /// The journal, borrowed: a packet that is taken is dropped at that moment, in microseconds, for that cause.
 #[derive(Drop)]
-pub struct Fates<'a, K: Keeps> {
+pub struct Fates<'a, K: Keeps<Event>> {
     /// The journal.
     pub journal: &'a mut Journal<K>,
     /// The moment of the drops, in microseconds.
@@ -17,7 +17,7 @@ pub struct Fates<'a, K: Keeps> {
     pub cause: Cause,
 }
 
-impl<K: Keeps> DropSink for Fates<'_, K> {
+impl<K: Keeps<Event>> DropSink for Fates<'_, K> {
     ghost use Rattle.journal_core.specs.JournalDrops.{RecordsDrops, records_none, records_more};
 
     ghost room = { λ f. f.journal.now.room };

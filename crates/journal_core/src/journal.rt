@@ -1,7 +1,7 @@
 //! The events so far, with the counts that run along.
 
 ghost use Rattle.std.specs.Prelude.{◌≡◌, ◌+◌, ◌*◌, ◌-◌, ◌^◌, ◌<◌, ◌≤◌, [], IfOk, OnOk, OnErr, length};
-ghost use Rattle.journal_core.specs.declared.keeper.TheConstants.{MAX_EVENTS};
+ghost use Rattle.journal_core.specs.declared.journal.TheConstants.{MAX_EVENTS};
 
 use crate::event::{Cause, Event};
 use crate::keeper::{Keeps, Stored, Unstored};
@@ -10,6 +10,10 @@ use codel_core::{Mark, Served};
 use packet_core::Waiting;
 use std::alloc::Global;
 use std::marker::Model;
+
+/// The most events of a journal. 2^40 packets have at most two each, there is one close, and room may be reserved for
+/// as many packets more.
+pub const MAX_EVENTS: usize = 1 << 43;
 
 /// Numbers of events and sums of lengths, in bytes, that run along with the journal.
 #[derive(Clone, Copy, Debug, PartialEq, Eq)]
@@ -34,22 +38,22 @@ pub struct Counts {
 
 /// The events so far, told to a keeper. Room for more is taken ahead, so that to record one takes no memory.
 #[derive(Debug, Drop)]
-pub struct Journal<K: Keeps = Stored> {
+pub struct Journal<K: Keeps<Event> = Stored> {
     keeper: K,
     counts: Counts,
 }
 
-impl<K: Keeps> Model for Journal<K> {
-    ghost use Rattle.journal_core.specs.Books.{Book, CountsFewEvents};
+impl<K: Keeps<Event>> Model for Journal<K> {
+    ghost use Rattle.journal_core.specs.Books.{Book, CountsFewEvents, book_of};
 
     ghost Value = { Book };
 
-    ghost view = { λ j. record { events = K.events j.keeper; counts = j.counts; room = K.room j.keeper } };
+    ghost view = { λ j. book_of (K.told j.keeper) j.counts (K.room j.keeper) };
 
-    ghost invariant = { λ j. CountsFewEvents j.counts (K.events j.keeper) };
+    ghost invariant = { λ j. CountsFewEvents j.counts (K.told j.keeper) };
 }
 
-impl<K: Keeps> Journal<K> {
+impl<K: Keeps<Event>> Journal<K> {
     ghost use Rattle.packet_core.specs.Packets.{IsLengthInRange};
     ghost use Rattle.journal_core.specs.Books.{no_counts, with_event, count_accepted, count_sent, count_dropped};
     ghost use Rattle.journal_core.specs.declared.event.Event.TheVariants.{Accepted, Closed};
@@ -57,7 +61,7 @@ impl<K: Keeps> Journal<K> {
 
     /// A journal with no event, and room for `room` of them, which it tells to a keeper that was told none.
     pub fn try_over(mut keeper: K, room: usize) -> Result<Journal<K>, Memory>
-        requires untold { K.events keeper ≡ [] }
+        requires untold { K.told keeper ≡ [] }
         requires most { room ≤ MAX_EVENTS }
         ensures { IfOk result (λ j. (j.events ≡ []) × (j.counts ≡ no_counts) × (room ≤ j.room)) }
     {
@@ -99,7 +103,9 @@ impl<K: Keeps> Journal<K> {
     /// A packet was accepted.
     pub fn accept(&mut self, waiting: &Waiting, lane: u32, flow: u32)
         requires { 0 < self.old.room }
-        ensures { self.new ≡ with_event self.old (Accepted waiting.now.id waiting.now.stamp lane flow waiting.now.packet) (count_accepted self.old.counts waiting.now.packet.len) }
+        ensures { self.new ≡ with_event self.old
+            (Accepted waiting.now.id waiting.now.stamp lane flow waiting.now.packet)
+            (count_accepted self.old.counts waiting.now.packet.len) }
     {
         self.counts.accepted += 1;
         self.counts.accepted_bytes += u64::from(waiting.packet.len());
@@ -115,7 +121,9 @@ impl<K: Keeps> Journal<K> {
     /// A packet was given to the device, with that ECN field.
     pub fn send(&mut self, served: &Served, moment: u64)
         requires { 0 < self.old.room }
-        ensures { self.new ≡ with_event self.old (event.Sent served.now.waiting.id moment served.now.waiting.packet.ecn served.now.mark) (count_sent self.old.counts served.now.waiting.packet.len served.now.mark) }
+        ensures { self.new ≡ with_event self.old
+            (event.Sent served.now.waiting.id moment served.now.waiting.packet.ecn served.now.mark)
+            (count_sent self.old.counts served.now.waiting.packet.len served.now.mark) }
     {
         self.counts.sent += 1;
         self.counts.sent_bytes += u64::from(served.waiting.packet.len());
@@ -134,7 +142,9 @@ impl<K: Keeps> Journal<K> {
     /// A packet was dropped.
     pub fn drop(&mut self, waiting: &Waiting, moment: u64, cause: Cause)
         requires { 0 < self.old.room }
-        ensures { self.new ≡ with_event self.old (event.Dropped waiting.now.id moment cause) (count_dropped self.old.counts waiting.now.packet.len cause) }
+        ensures { self.new ≡ with_event self.old
+            (event.Dropped waiting.now.id moment cause)
+            (count_dropped self.old.counts waiting.now.packet.len cause) }
     {
         match cause {
             Cause::Codel => self.counts.dropped_codel += 1,
@@ -172,7 +182,7 @@ impl Journal<Stored> {
     pub fn events(&self) -> &[Event]
         ensures { result.now ≡ self.now.events }
     {
-        self.keeper.events()
+        self.keeper.items()
     }
 
     /// Where its memory comes from.

@@ -1,114 +1,108 @@
-//! What is told of events, and stores them or not.
+//! What is told of events or of steps, and stores them or not.
 
-ghost use Rattle.std.specs.Prelude.{◌≡◌, ◌+◌, ◌-◌, ◌<◌, ◌≤◌, ℕ, List, [], ◌∷◌, ◌++◌, length, OnErr, OnOk};
-ghost use Rattle.journal_core.specs.Keepers.{stored_events, stored_room, unstored_events, unstored_room};
-ghost use Rattle.journal_core.specs.declared.event.Event.{Event};
-ghost use Rattle.journal_core.specs.declared.keeper.TheConstants.{MAX_EVENTS};
+ghost use Rattle.std.specs.Prelude.{◌≡◌, ◌-◌, ◌<◌, ◌≤◌, ℕ, List, [], ◌∷◌, ◌++◌, OnErr, OnOk};
+ghost use Rattle.journal_core.specs.Keepers.{stored_items, stored_room, unstored_items, unstored_room};
 
 use crate::event::Event;
-use crate::ghost_events::GhostEvents;
+use crate::ghost_list::GhostList;
 use crate::step::Memory;
 use std::alloc::Global;
 
-/// The most events that a keeper is told. 2^40 packets have at most two each, there is one close, and room may be
-/// reserved for as many packets more.
-pub const MAX_EVENTS: usize = 1 << 43;
+/// What a journal tells its events to, or an engine its steps. It may store all of them, some or none: the list of all
+/// that it was told is there for proofs.
+pub trait Keeps<T>: Drop {
+    /// All that it was told, in order.
+    ghost told: { Self → List T };
 
-/// What a journal tells its events to. It may store all of them, some or none: the list of all that it was told is
-/// there for proofs.
-pub trait Keeps: Drop {
-    /// All events that it was told, in order.
-    ghost events: { Self → List Event };
-
-    /// How many events more it can be told before it must reserve.
+    /// How many more it can be told before it must reserve.
     ghost room: { Self → ℕ };
 
-    /// One event more, which takes no memory.
-    fn tell(&mut self, event: Event)
+    /// One more, which takes no memory.
+    fn tell(&mut self, item: T)
         requires { 0 < room self.old }
-        ensures events { events self.new ≡ events self.old ++ event ∷ [] }
-        ensures room { room self.new ≡ room self.old - 1 }
-        ensures few { length (events self.old) < MAX_EVENTS };
+        ensures told { told self.new ≡ told self.old ++ item ∷ [] }
+        ensures room { room self.new ≡ room self.old - 1 };
 
-    /// Takes what memory it needs for so many events more.
+    /// Takes what memory it needs for so many more. It is refused only where there is less room already.
     fn reserve(&mut self, more: usize) -> Result<(), Memory>
-        requires { length (events self.old) + more ≤ MAX_EVENTS }
-        ensures events { events self.new ≡ events self.old }
+        ensures told { told self.new ≡ told self.old }
         ensures room { room self.old ≤ room self.new }
         ensures ok { OnOk result (more ≤ room self.new) }
+        ensures missing { OnErr result (room self.old < more) }
         ensures err { OnErr result (room self.new ≡ room self.old) };
 }
 
-/// It stores all events.
+/// It stores all that it is told, which is events where nothing else is said.
 #[derive(Debug, Drop)]
-pub struct Stored {
-    events: Vec<Event>,
+pub struct Stored<T = Event> {
+    items: Vec<T>,
 }
 
-impl Stored {
+impl<T> Stored<T> {
     /// Nothing was told yet.
-    pub fn new(alloc: Global) -> Stored
-        ensures { stored_events result ≡ [] }
+    pub fn new(alloc: Global) -> Stored<T>
+        ensures { stored_items result ≡ [] }
     {
         Stored {
-            events: Vec::new(alloc),
+            items: Vec::new(alloc),
         }
     }
 
-    /// All events that it was told, in order.
-    pub fn events(&self) -> &[Event]
-        ensures { result.now ≡ stored_events self.now }
+    /// All that it was told, in order.
+    pub fn items(&self) -> &[T]
+        ensures { result.now ≡ stored_items self.now }
     {
-        &self.events
+        &self.items
     }
 
     /// Where its memory comes from.
     pub fn allocator(&self) -> Global {
-        *self.events.allocator()
+        *self.items.allocator()
     }
 }
 
-impl Keeps for Stored {
-    ghost events = { stored_events };
+impl<T: Drop> Keeps<T> for Stored<T> {
+    ghost told = { stored_items };
 
     ghost room = { stored_room };
 
-    fn tell(&mut self, event: Event) {
-        self.events.push_reserved(event);
+    fn tell(&mut self, item: T) {
+        self.items.push_reserved(item);
     }
 
     fn reserve(&mut self, more: usize) -> Result<(), Memory> {
-        self.events.reserve(more)
+        self.items.reserve(more)
     }
 }
 
-/// It stores no event, and takes no byte: the events stand in proofs alone.
+/// It stores nothing, and takes no byte: what it is told, events where nothing else is said, stands in proofs alone.
 #[derive(Debug, Drop)]
-pub struct Unstored {
-    told: GhostEvents,
+pub struct Unstored<T = Event> {
+    told: GhostList<T>,
 }
 
-impl Unstored {
+impl<T> Unstored<T> {
     /// Nothing was told yet.
-    pub fn new() -> Unstored
-        ensures { unstored_events result ≡ [] }
+    pub fn new() -> Unstored<T>
+        ensures { unstored_items result ≡ [] }
     {
         Unstored {
-            told: GhostEvents::new(),
+            told: GhostList::new(),
         }
     }
 }
 
-impl Keeps for Unstored {
-    ghost events = { unstored_events };
+impl<T: Drop> Keeps<T> for Unstored<T> {
+    ghost told = { unstored_items };
 
     ghost room = { unstored_room };
 
-    fn tell(&mut self, event: Event) {
-        self.told = self.told.and(&event);
+    fn tell(&mut self, item: T) {
+        self.told = self.told.and(&item);
     }
 
-    fn reserve(&mut self, _more: usize) -> Result<(), Memory> {
+    fn reserve(&mut self, more: usize) -> Result<(), Memory> {
+        self.told = self.told.with_room(more);
         Ok(())
     }
 }

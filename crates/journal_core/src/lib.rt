@@ -5,7 +5,7 @@
 
 mod event;
 mod fates;
-mod ghost_events;
+mod ghost_list;
 mod journal;
 mod keeper;
 mod outcome;
@@ -16,9 +16,9 @@ mod tuple_rows;
 pub use codel_core::Mark;
 pub use event::{Cause, Event};
 pub use fates::Fates;
-pub use ghost_events::GhostEvents;
-pub use journal::{Counts, Journal};
-pub use keeper::{Keeps, MAX_EVENTS, Stored, Unstored};
+pub use ghost_list::GhostList;
+pub use journal::{Counts, Journal, MAX_EVENTS};
+pub use keeper::{Keeps, Stored, Unstored};
 pub use outcome::{Answer, Outcome};
 pub use step::{Admitted, CloseFault, Memory, MomentFault, Refusal, Sent, Step};
 pub use totals::Totals;

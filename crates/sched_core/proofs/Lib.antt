@@ -2,5 +2,5 @@ pub mod KeptScheduler
 pub mod FqCodelRuns
 pub mod ShortPackets
 pub mod RunExistence
-pub mod StoredRuns
+pub mod EngineRuns
 pub mod LastStepLemmas

@@ -1,10 +1,10 @@
-use Rattle.std.specs.Prelude.{◌≡◌, ℕ, ◌-◌, List, [], None, if◌then◌else◌}
+use Rattle.std.specs.Prelude.{◌≡◌, ℕ, ◌-◌, ◌≤◌, List, [], None, if◌then◌else◌}
 use Rattle.packet_core.specs.declared.flow.Seed.{Seed}
 use Rattle.packet_core.specs.declared.params.ParamFields.{ParamFields}
 use Rattle.journal_core.specs.declared.step.Step.{Step}
 use Rattle.journal_core.specs.declared.outcome.Answer.{Answer}
-use Rattle.journal_core.specs.Runs.{is_refused}
-use Rattle.sched_core.specs.Schedulers.{Scheduler, new_scheduler}
+use Rattle.journal_core.specs.Runs.{IsRunOf, is_refused}
+use Rattle.sched_core.specs.Schedulers.{Scheduler, discipline_of, new_scheduler}
 use Rattle.journal_core.specs.State.{refusal_of}
 
 -- An engine as callers see it: its scheduler, the steps that it made, in order, and how many steps more take no memory.
@@ -25,3 +25,10 @@ room_behind said room = if is_refused said then room else room - 1
 pub record WantsRoomFor (old : Running) (step : Step) : Type 0 where
   pub fits : refusal_of old.sched.standing.state step ≡ None
   pub none : old.room ≡ 0
+
+-- What an engine keeps of its scheduler, its steps, their keeper's room and the steps that are reserved: the scheduler
+-- is the run of the steps, and each reserved step has its room in both.
+pub record EngineInvariant (sched : Scheduler) (steps : List Step) (keeper_room reserved : ℕ) : Type 0 where
+  pub run : IsRunOf (discipline_of sched) steps sched.standing
+  pub in_sched : reserved ≤ sched.room
+  pub in_keeper : reserved ≤ keeper_room

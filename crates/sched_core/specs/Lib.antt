@@ -3,4 +3,3 @@ pub mod AnyStep
 pub mod LastSteps
 pub mod Kept
 pub mod Engines
-pub mod Stored

@@ -1,34 +1,37 @@
+//! The engine: a scheduler with the list of its steps.
+
 ghost use Rattle.std.specs.Prelude.{◌≡◌, ◌≢◌, ◌+◌, ◌-◌, ◌<◌, ◌≤◌, ◌++◌, ◌∷◌, [], All, max, None, IfOk, IfErr, OnOk, OnErr};
 
 use crate::sched::{MAX_ACCEPTED, MAX_MOMENT, Sched};
 use fair_core::FlowView;
-use journal_core::{Admitted, Answer, Event, Memory, Refusal, Sent, Step, Totals, TupleRow};
+use journal_core::{
+    Admitted, Answer, Event, Keeps, Memory, Refusal, Sent, Step, Stored, Totals, TupleRow,
+};
 use packet_core::{Packet, Params, Seed};
 use std::alloc::Global;
 use std::marker::Model;
 
 /// A scheduler that keeps the list of its steps. At every moment it is the run of those steps with the parameters
-/// and the seed that it was made with: whoever has the three has the whole of it again.
+/// and the seed that it was made with: whoever has the three has the whole of it again. It tells its steps to a keeper,
+/// as its journal tells its events to another; both store all that they are told unless others are chosen.
 #[derive(Debug, Drop)]
-pub struct Engine {
-    sched: Sched,
-    steps: Vec<Step>,
+pub struct Engine<K: Keeps<Event> = Stored, S: Keeps<Step> = Stored<Step>> {
+    sched: Sched<K>,
+    steps: S,
     room: u64,
 }
 
-impl Model for Engine {
-    ghost use Rattle.sched_core.specs.Engines.{Running};
+impl<K: Keeps<Event>, S: Keeps<Step>> Model for Engine<K, S> {
+    ghost use Rattle.sched_core.specs.Engines.{EngineInvariant, Running};
 
     ghost Value = { Running };
 
-    ghost use Rattle.sched_core.specs.Stored.{running_of, IsStored};
+    ghost view = { λ e. record { sched = e.sched; steps = S.told e.steps; room = e.room } };
 
-    ghost view = { running_of };
-
-    ghost invariant = { IsStored };
+    ghost invariant = { λ e. EngineInvariant e.sched (S.told e.steps) (S.room e.steps) e.room };
 }
 
-impl Engine {
+impl<K: Keeps<Event>, S: Keeps<Step>> Engine<K, S> {
     ghost use Rattle.flow_core.specs.FlowLists.{waiting_in};
     ghost use Rattle.sched_core.specs.AnyStep.{GoesOn};
     ghost use Rattle.journal_core.specs.Calls.{admitted_at};
@@ -40,17 +43,24 @@ impl Engine {
     ghost use Rattle.fair_core.specs.Shown.{flow_shown};
     ghost use Rattle.journal_core.specs.State.{refusal_of, IsRefusal};
     ghost use Rattle.journal_core.specs.Statistics.{statistics};
-    ghost use Rattle.journal_core.specs.TupleRows.{tuple_rows};
     ghost use Rattle.journal_core.specs.declared.step.Step.TheVariants.{Enqueue, Dequeue, Close};
     ghost use Rattle.journal_core.specs.declared.outcome.Answer.TheVariants as answer;
 
-    /// An engine before its first step.
-    pub fn try_new(alloc: Global, params: Params, seed: Seed) -> Result<Engine, Memory>
+    /// An engine before its first step, which tells its events and its steps to keepers that were told none.
+    pub fn try_with_keepers(
+        alloc: Global,
+        params: Params,
+        seed: Seed,
+        events: K,
+        steps: S,
+    ) -> Result<Engine<K, S>, Memory>
+        requires events { K.told events ≡ [] }
+        requires steps { S.told steps ≡ [] }
         ensures { IfOk result (λ e. e ≡ new_engine params seed) }
     {
         Ok(Engine {
-            sched: Sched::try_new(alloc, params, seed)?,
-            steps: Vec::new(alloc),
+            sched: Sched::try_with_keeper(alloc, params, seed, events)?,
+            steps,
             room: 0,
         })
     }
@@ -60,7 +70,10 @@ impl Engine {
     pub fn reserve(&mut self, steps: u64) -> Result<(), Memory>
         requires { steps ≤ MAX_ACCEPTED }
         ensures ok { OnOk result (self.new.room ≡ max self.old.room steps) }
-        ensures rest { self.new ≡ record self.old { sched = record self.old.sched { room = self.new.sched.room }; room = self.new.room } }
+        ensures rest { self.new ≡ record self.old {
+          sched = record self.old.sched { room = self.new.sched.room };
+          room = self.new.room;
+        } }
         ensures missing { OnErr result (self.old.room < steps) }
         ensures err { OnErr result (self.new ≡ self.old) }
     {
@@ -73,20 +86,24 @@ impl Engine {
         Ok(())
     }
 
-    /// Accepts a packet from a lane at a moment, in microseconds, as a scheduler does, and stores the step. It
+    /// Accepts a packet from a lane at a moment, in microseconds, as a scheduler does, and keeps the step. It
     /// refuses a moment of 2^60 or more or before the last one, then a packet after the close, then one after 2^40
     /// others, and last where a growth is refused.
     pub fn enqueue(&mut self, moment: u64, lane: u32, packet: Packet) -> Result<Admitted, Refusal>
-        ensures admitted { IfOk result (λ a. a ≡ admitted_at (discipline_of self.old.sched) self.old.sched.standing.state moment packet) }
-        ensures made { OnOk result (IsAdvanced self.old.sched (Enqueue moment lane packet) answer.Accepted self.new.sched) }
+        ensures admitted { IfOk result (λ a. a
+            ≡ admitted_at (discipline_of self.old.sched) self.old.sched.standing.state moment packet) }
+        ensures made { OnOk result (IsAdvanced self.old.sched
+            (Enqueue moment lane packet) answer.Accepted self.new.sched) }
         ensures steps { OnOk result (self.new.steps ≡ self.old.steps ++ Enqueue moment lane packet ∷ []) }
         ensures room { OnOk result (self.new.room ≡ self.old.room - 1) }
         ensures few_comparisons { OnOk result (ComparesFew self.old.sched self.new.sched) }
         ensures compares { 2 ≤ self.old.sched.params.flows → OnOk result (1 ≤ self.new.sched.comparisons) }
 
         // Each refusal comes in its case, want of memory last, and changes nothing.
-        ensures refused { IfErr result (IsRefusal (refusal_of self.old.sched.standing.state (Enqueue moment lane packet))) }
-        ensures reserved { 0 < self.old.room → OnErr result (refusal_of self.old.sched.standing.state (Enqueue moment lane packet) ≢ None) }
+        ensures refused { IfErr result (IsRefusal
+            (refusal_of self.old.sched.standing.state (Enqueue moment lane packet))) }
+        ensures reserved { 0 < self.old.room → OnErr result
+            (refusal_of self.old.sched.standing.state (Enqueue moment lane packet) ≢ None) }
         ensures unchanged { OnErr result (self.new ≡ self.old) }
     {
         let step = Step::Enqueue {
@@ -97,13 +114,13 @@ impl Engine {
         self.sched.test(&step)?;
         self.steps.reserve(1)?;
         let admitted = self.sched.enqueue(moment, lane, packet)?;
-        self.steps.push_reserved(step);
+        self.steps.tell(step);
         self.room = self.room.saturating_sub(1);
         Ok(admitted)
     }
 
     /// Gives the packet that is next in turn, or nothing where none waits, at a moment in microseconds, as a
-    /// scheduler does, and stores the step. It refuses a moment of 2^60 or more or before the last one, and last
+    /// scheduler does, and keeps the step. It refuses a moment of 2^60 or more or before the last one, and last
     /// where a growth is refused.
     pub fn dequeue(&mut self, moment: u64) -> Result<Option<Sent>, Refusal>
         ensures made { IfOk result (λ sent. IsServed self.old.sched moment sent self.new.sched) }
@@ -119,12 +136,12 @@ impl Engine {
         self.sched.test(&step)?;
         self.steps.reserve(1)?;
         let sent = self.sched.dequeue(moment)?;
-        self.steps.push_reserved(step);
+        self.steps.tell(step);
         self.room = self.room.saturating_sub(1);
         Ok(sent)
     }
 
-    /// From here on nothing is accepted; dequeues go on. The moment is in microseconds, and the step is stored. It
+    /// From here on nothing is accepted; dequeues go on. The moment is in microseconds, and the step is kept. It
     /// refuses a moment of 2^60 or more or before the last one, then a second close, and last where a growth is
     /// refused.
     pub fn close(&mut self, moment: u64) -> Result<(), Refusal>
@@ -133,23 +150,25 @@ impl Engine {
         ensures room { OnOk result (self.new.room ≡ self.old.room - 1) }
         ensures few_comparisons { OnOk result (ComparesFew self.old.sched self.new.sched) }
         ensures refused { IfErr result (IsRefusal (refusal_of self.old.sched.standing.state (Close moment))) }
-        ensures reserved { 0 < self.old.room → OnErr result (refusal_of self.old.sched.standing.state (Close moment) ≢ None) }
+        ensures reserved { 0 < self.old.room → OnErr result
+            (refusal_of self.old.sched.standing.state (Close moment) ≢ None) }
         ensures unchanged { OnErr result (self.new ≡ self.old) }
     {
         let step = Step::Close { moment };
         self.sched.test(&step)?;
         self.steps.reserve(1)?;
         self.sched.close(moment)?;
-        self.steps.push_reserved(step);
+        self.steps.tell(step);
         self.room = self.room.saturating_sub(1);
         Ok(())
     }
 
     /// Makes a step of any kind as the call for its kind does, and answers as a run does: where the step is refused the
-    /// answer says why, and it isn't stored. It fails for want of memory alone, for a step that isn't refused, and not
+    /// answer says why, and it isn't kept. It fails for want of memory alone, for a step that isn't refused, and not
     /// where room is reserved. Nothing has changed after either.
     pub fn make(&mut self, step: &Step) -> Result<Answer, Memory>
-        ensures made { IfOk result (λ said. Takes (discipline_of self.old.sched) self.old.sched.standing step.now said self.new.sched.standing) }
+        ensures made { IfOk result (λ said. Takes (discipline_of self.old.sched)
+            self.old.sched.standing step.now said self.new.sched.standing) }
         ensures params { self.new.sched.params ≡ self.old.sched.params }
         ensures seed { self.new.sched.seed ≡ self.old.sched.seed }
         ensures goes_on { IfOk result (λ said. GoesOn self.old.sched step.now said self.new.sched) }
@@ -163,17 +182,24 @@ impl Engine {
         }
         self.steps.reserve(1)?;
         let answer = self.sched.make(step)?;
-        self.steps.push_reserved(*step);
+        self.steps.tell(*step);
         self.room = self.room.saturating_sub(1);
         Ok(answer)
     }
 
-    /// The steps that weren't refused, in order. The engine is their run.
-    pub fn steps(&self) -> &[Step]
-        ensures value { result.now ≡ self.now.steps }
-        ensures run { IsRunOf (discipline_of self.now.sched) result.now self.now.sched.standing }
+    /// At every moment it is the run of its steps, whether they are stored or not.
+    pub fn run_of_steps(&self)
+        ensures { IsRunOf (discipline_of self.now.sched) self.now.steps self.now.sched.standing }
     {
-        &self.steps
+        let _ = &self.steps;
+    }
+
+    /// The laws of the journal at every moment, whether its events are stored or not.
+    pub fn journal_laws(&self)
+        ensures laws { JournalLaws (discipline_of self.now.sched).flow_of self.now.sched.standing.events }
+        ensures waiting { WaitWithoutFate (queue_of (flows_of self.now.sched)) self.now.sched.standing.events }
+    {
+        self.sched.journal_laws();
     }
 
     /// The parameters that it was made with.
@@ -215,30 +241,13 @@ impl Engine {
         self.sched.flow_view(flow)
     }
 
-    /// The journal: what became of every packet, in order.
-    pub fn events(&self) -> &[Event]
-        ensures value { result.now ≡ self.now.sched.standing.events }
-        ensures laws { JournalLaws (discipline_of self.now.sched).flow_of result.now }
-        ensures waiting { WaitWithoutFate (queue_of (flows_of self.now.sched)) result.now }
-    {
-        self.sched.events()
-    }
-
     /// The statistics of the journal.
     pub fn totals(&self) -> Totals
         ensures value { result ≡ statistics self.now.sched.standing.events }
-        ensures balance { result.accepted ≡ result.sent + result.dropped_codel + result.dropped_overflow + result.queued }
+        ensures balance { result.accepted
+            ≡ result.sent + result.dropped_codel + result.dropped_overflow + result.queued }
     {
         self.sched.totals()
-    }
-
-    /// What became of the packets of each five-tuple, in order of first acceptance. It goes once through the journal,
-    /// and fails for want of memory alone.
-    pub fn tuple_rows(&self) -> Result<Vec<TupleRow>, Memory>
-        ensures rows { IfOk result (λ rows. rows.items ≡ tuple_rows self.now.sched.standing.events) }
-        ensures balance { IfOk result (λ rows. All (λ row. row.accepted ≡ row.sent + row.dropped + row.queued) rows.items) }
-    {
-        self.sched.tuple_rows()
     }
 
     /// How many packets wait.
@@ -263,5 +272,55 @@ impl Engine {
         ensures range { result < MAX_MOMENT }
     {
         self.sched.last_moment()
+    }
+}
+
+impl Engine {
+    ghost use Rattle.sched_core.specs.Engines.{new_engine};
+
+    /// An engine before its first step.
+    pub fn try_new(alloc: Global, params: Params, seed: Seed) -> Result<Engine, Memory>
+        ensures { IfOk result (λ e. e ≡ new_engine params seed) }
+    {
+        Engine::try_with_keepers(alloc, params, seed, Stored::new(alloc), Stored::new(alloc))
+    }
+}
+
+impl<S: Keeps<Step>> Engine<Stored, S> {
+    ghost use Rattle.fair_core.specs.FairQueues.{queue_of};
+    ghost use Rattle.journal_core.specs.JournalLaws.{JournalLaws, WaitWithoutFate};
+    ghost use Rattle.journal_core.specs.TupleRows.{tuple_rows};
+    ghost use Rattle.sched_core.specs.Schedulers.{discipline_of, flows_of};
+
+    /// The journal: what became of every packet, in order.
+    pub fn events(&self) -> &[Event]
+        ensures value { result.now ≡ self.now.sched.standing.events }
+        ensures laws { JournalLaws (discipline_of self.now.sched).flow_of result.now }
+        ensures waiting { WaitWithoutFate (queue_of (flows_of self.now.sched)) result.now }
+    {
+        self.sched.events()
+    }
+
+    /// What became of the packets of each five-tuple, in order of first acceptance. It goes once through the journal,
+    /// and fails for want of memory alone.
+    pub fn tuple_rows(&self) -> Result<Vec<TupleRow>, Memory>
+        ensures rows { IfOk result (λ rows. rows.items ≡ tuple_rows self.now.sched.standing.events) }
+        ensures balance { IfOk result (λ rows. All
+            (λ row. row.accepted ≡ row.sent + row.dropped + row.queued) rows.items) }
+    {
+        self.sched.tuple_rows()
+    }
+}
+
+impl<K: Keeps<Event>> Engine<K, Stored<Step>> {
+    ghost use Rattle.journal_core.specs.Runs.{IsRunOf};
+    ghost use Rattle.sched_core.specs.Schedulers.{discipline_of};
+
+    /// The steps that weren't refused, in order. The engine is their run.
+    pub fn steps(&self) -> &[Step]
+        ensures value { result.now ≡ self.now.steps }
+        ensures run { IsRunOf (discipline_of self.now.sched) result.now self.now.sched.standing }
+    {
+        self.steps.items()
     }
 }

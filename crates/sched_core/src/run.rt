@@ -1,8 +1,6 @@
-//! A run of a list of steps with a new engine.
+//! A run: a list of steps made in turn, with an answer to each.
 
-ghost use Rattle.std.specs.Prelude.{◌≡◌, ◌≢◌, ◌++◌, All, IfOk, OnErr};
-ghost use Rattle.journal_core.specs.declared.outcome.Answer.TheVariants as answer;
-ghost use Rattle.journal_core.specs.declared.step.Refusal.TheVariants as refusals;
+ghost use Rattle.std.specs.Prelude.{◌≡◌, All, IfOk};
 ghost use Rattle.journal_core.specs.JournalLaws.{JournalLaws, WaitWithoutFate};
 ghost use Rattle.fair_core.specs.FairQueues.{queue_of};
 ghost use Rattle.fair_core.specs.FqCodel.{fq_codel};

@@ -67,7 +67,7 @@ fn sent_of(served: &Served, moment: u64) -> Sent
 /// A packet scheduler by FQ-CoDel (RFC 8290), with the journal of what became of every packet. The journal tells its
 /// events to a keeper, which stores all of them unless another is chosen.
 #[derive(Debug, Drop)]
-pub struct Sched<K: Keeps = Stored> {
+pub struct Sched<K: Keeps<Event> = Stored> {
     params: Params,
     seed: Seed,
     backlog: Backlog,
@@ -78,7 +78,7 @@ pub struct Sched<K: Keeps = Stored> {
     room: u64,
 }
 
-impl<K: Keeps> Model for Sched<K> {
+impl<K: Keeps<Event>> Model for Sched<K> {
     ghost use Rattle.sched_core.specs.Schedulers.{Scheduler};
 
     ghost Value = { Scheduler };
@@ -90,7 +90,7 @@ impl<K: Keeps> Model for Sched<K> {
     ghost invariant = { IsKept };
 }
 
-impl<K: Keeps> Sched<K> {
+impl<K: Keeps<Event>> Sched<K> {
     ghost use Rattle.flow_core.specs.FlowLists.{waiting_in};
     ghost use Rattle.sched_core.specs.AnyStep.{GoesOn, WantsRoom};
     ghost use Rattle.journal_core.specs.Calls.{admitted_at, close_refusal};
@@ -111,7 +111,7 @@ impl<K: Keeps> Sched<K> {
         seed: Seed,
         keeper: K,
     ) -> Result<Sched<K>, Memory>
-        requires { K.events keeper ≡ [] }
+        requires { K.told keeper ≡ [] }
         ensures { IfOk result (λ s. s ≡ new_scheduler params seed) }
     {
         Ok(Sched {

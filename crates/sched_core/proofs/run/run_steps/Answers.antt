@@ -9,7 +9,7 @@ use Rattle.journal_core.specs.Runs.{IsRun}
 use Rattle.sched_core.proofs.FqCodelRuns.{fq_codel_laws}
 use Rattle.sched_core.proofs.LastStepLemmas.{comparisons_of_last, turns_of_last}
 use Rattle.journal_core.proofs.RunLemmas.{places, run_more}
-use Rattle.sched_core.proofs.StoredRuns.{kept_push}
+use Rattle.sched_core.proofs.EngineRuns.{kept_push}
 use Rattle.sched_core.proofs.run.run_steps.Goals as goal
 
 pub loop-step-preserved : goal.loop-step-preserved

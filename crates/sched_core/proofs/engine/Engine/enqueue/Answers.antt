@@ -1,16 +1,11 @@
-use Rattle.std.proofs.Common.{arith}
-use Rattle.journal_core.specs.declared.outcome.Answer.TheVariants as answer
+use Rattle.std.proofs.Common.{arith, refl}
 use Rattle.journal_core.specs.declared.step.Step.TheVariants.{Enqueue}
-use Rattle.sched_core.proofs.StoredRuns.{advanced_on}
+use Rattle.sched_core.proofs.EngineRuns.{advanced_on, told_on}
 use Rattle.sched_core.proofs.engine.Engine.enqueue.Goals as goal
 
 pub invariant_of-self-2 : goal.invariant_of-self-2
-invariant_of-self-2 c =
-    let e = c.self.inside in
+invariant_of-self-2 g c =
     let reserved = c.in_ok-reserve.ensures {u = tt} in
     let done = c.in_ok-admitted.ensures {u = tt} in
-    record {
-      run = rw (c.push_reserved.ensures.items, reserved.items) (advanced_on e.steps.items (Enqueue c.args.moment c.args.lane c.args.packet) e.sched c.enqueue.new.self answer.Accepted c.self.invariant.run done.made);
-      room = omega (arith, c.saturating_sub-self-inside.ensures, done.room, c.self.invariant.room);
-      space = omega (arith, c.saturating_sub-self-inside.ensures, c.push_reserved.ensures.len, c.push_reserved.ensures.capacity, reserved.len, reserved.ok, reserved.capacity, c.self.invariant.space);
-    }
+    told_on (Enqueue c.args.moment c.args.lane c.args.packet) c.self.invariant (advanced_on c.self.invariant.run done.made) (omega (arith, done.room))
+    (rw (c.tell.ensures.told, reserved.told) refl) (omega (arith, c.tell.ensures.room, reserved.room)) c.saturating_sub-self-inside.ensures

@@ -1,18 +1,18 @@
--- The run that an engine is, and the steps that it stores.
-use Rattle.std.proofs.Common.{◌≡◌, ℕ, ◌+◌, ◌≤◌, false, List, [], ◌∷◌, ◌++◌, length, Option, None, MatchOption, refl, sym, ap, subst, ◌∙◌, append_assoc, append-nil, arith}
+-- The run that an engine is, and the steps that it keeps.
+use Rattle.std.proofs.Common.{◌≡◌, ℕ, ◌+◌, ◌-◌, ◌≤◌, false, List, [], ◌∷◌, ◌++◌, length, Option, Some, None, refl, sym, ap, ◌∙◌, append_assoc, append-nil, arith}
 use Rattle.std.proofs.lemmas.List.Elements.{All-push}
 use Rattle.journal_core.specs.declared.event.Event.{Event}
 use Rattle.journal_core.specs.declared.outcome.Answer.{Answer}
 use Rattle.journal_core.specs.declared.outcome.Answer.TheVariants as answer
 use Rattle.journal_core.specs.declared.outcome.Outcome.{Outcome}
-use Rattle.journal_core.specs.declared.step.Refusal.{Refusal}
 use Rattle.journal_core.specs.declared.step.Sent.{Sent}
 use Rattle.journal_core.specs.declared.step.Step.{Step}
 use Rattle.journal_core.specs.declared.step.Step.TheVariants.{Dequeue}
 use Rattle.sched_core.specs.AnyStep.{GoesOn}
 use Rattle.journal_core.specs.Calls.{Standing}
 use Rattle.journal_core.specs.Disciplines.{Discipline}
-use Rattle.journal_core.specs.Runs.{Made, IsRunOf, Takes, is_refused, steps_made, unless_refused}
+use Rattle.sched_core.specs.Engines.{EngineInvariant}
+use Rattle.journal_core.specs.Runs.{Made, IsRunOf, is_refused, steps_made, unless_refused}
 use Rattle.sched_core.specs.Schedulers.{IsAdvanced, IsServed, Scheduler, discipline_of}
 use Rattle.journal_core.specs.State.{opening_state, refusal_of}
 use Rattle.journal_core.specs.Steps.{Makes, dequeue_answer}
@@ -32,30 +32,36 @@ module _ {Q : Type 0} (d : Discipline Q) where
         none_refused = All-push (λ (x : Made). is_refused x.answer ≡ false) run.made m run.none_refused (made_answer d old.state new.state step said events makes);
       }
 
-pub advanced_on : (steps : List Step) (step : Step) (old new : Scheduler) (said : Answer) → IsRunOf (discipline_of old) steps old.standing → IsAdvanced old step said new → IsRunOf (discipline_of new) (steps ++ step ∷ []) new.standing
-advanced_on steps step old new said run a =
+pub advanced_on : {steps : List Step} {step : Step} {said : Answer} {old new : Scheduler} → IsRunOf (discipline_of old) steps old.standing → IsAdvanced old step said new
+    → IsRunOf (discipline_of new) (steps ++ step ∷ []) new.standing
+advanced_on {steps} {step} {said} {old} {new} run a =
     rw (a.params, a.seed) (made_on (discipline_of old) steps step old.standing new.standing said a.advances.made run a.advances.fits a.advances.makes a.advances.journal)
 
-pub served_on : (steps : List Step) (moment : ℕ) (old new : Scheduler) (sent : Option Sent) → IsRunOf (discipline_of old) steps old.standing → IsServed old moment sent new → IsRunOf (discipline_of new) (steps ++ Dequeue moment ∷ []) new.standing
-served_on steps moment old new sent run s =
+pub served_on : {steps : List Step} {moment : ℕ} {sent : Option Sent} {old new : Scheduler} → IsRunOf (discipline_of old) steps old.standing → IsServed old moment sent new
+    → IsRunOf (discipline_of new) (steps ++ Dequeue moment ∷ []) new.standing
+served_on {steps} {moment} {old = old} {new} run s =
     let g = s.gives in
     rw (s.params, s.seed) (made_on (discipline_of old) steps (Dequeue moment) old.standing new.standing (dequeue_answer g.given) g.made run g.fits (g.given, refl, g.serves) g.journal)
 
--- the same of a step of any kind, which isn't refused
-pub taken_on : (steps : List Step) (step : Step) (old new : Scheduler) (said : Answer) → IsRunOf (discipline_of old) steps old.standing → refusal_of old.standing.state step ≡ None
-    → Takes (discipline_of old) old.standing step said new.standing → new.params ≡ old.params → new.seed ≡ old.seed → IsRunOf (discipline_of new) (steps ++ step ∷ []) new.standing
-taken_on steps step old new said run fits t params seed =
-    let d = discipline_of old in
-    let makes = subst (λ (o : Option Refusal). MatchOption o (Makes d old.standing.state step said t.made new.standing.state) (λ r. (said ≡ answer.Refused r) × (t.made ≡ []) × (new.standing.state ≡ old.standing.state))) fits t.steps in
-    rw (params, seed) (made_on d steps step old.standing new.standing said t.made run fits makes t.journal)
+-- the same of a step of any kind that isn't refused; it takes one of the room at most
+pub goes_on : (steps : List Step) (step : Step) (said : Answer) (old new : Scheduler) → IsRunOf (discipline_of old) steps old.standing → refusal_of old.standing.state step ≡ None → GoesOn old step said new
+    → IsRunOf (discipline_of new) (steps ++ step ∷ []) new.standing × (old.room ≤ new.room + 1)
+goes_on steps step answer.Accepted old new run fits g = (advanced_on run g.advances, let e = g.room in omega arith)
+goes_on steps step answer.Sent old new run fits g = (rw g.1.dequeues (served_on run g.1.serves), let e = g.1.serves.room in omega arith)
+goes_on steps step answer.Idle old new run fits g = (rw g.dequeues (served_on run g.serves), let e = g.serves.room in omega arith)
+goes_on steps step answer.Closed old new run fits g = (advanced_on run g.advances, let e = g.room in omega arith)
+goes_on steps step (answer.Refused why) old new run fits g = let e : None ≡ Some why = sym fits ∙ g.0 in absurd cc
 
--- a step takes one of the room at most
-pub room_left : (old new : Scheduler) (step : Step) (said : Answer) → GoesOn old step said new → old.room ≤ new.room + 1
-room_left old new step answer.Accepted g = let e = g.room in omega arith
-room_left old new step answer.Sent g = let e = g.1.serves.room in omega arith
-room_left old new step answer.Idle g = let e = g.serves.room in omega arith
-room_left old new step answer.Closed g = let e = g.room in omega arith
-room_left old new step (answer.Refused why) g = let e : new.room ≡ old.room = ap (λ (s : Scheduler). s.room) g.1 in omega arith
+-- what an engine keeps, behind a step that it made and told to its keeper
+pub told_on : {old new : Scheduler} {steps told : List Step} {space space' reserved reserved' : ℕ} (step : Step) → EngineInvariant old steps space reserved
+    → IsRunOf (discipline_of new) (steps ++ step ∷ []) new.standing → old.room ≤ new.room + 1
+    → told ≡ steps ++ step ∷ [] → space ≤ space' + 1 → reserved' ≡ reserved - 1 → EngineInvariant new told space' reserved'
+told_on step kept run room is less used =
+    record {
+      run = rw is run;
+      in_sched = omega (arith, kept.in_sched);
+      in_keeper = omega (arith, kept.in_keeper);
+    }
 
 -- a step and its outcome more
 pub kept_push : (steps : List Step) (outcomes : List Outcome) (step : Step) (o : Outcome) → length outcomes ≡ length steps → steps_made (steps ++ step ∷ []) (outcomes ++ o ∷ []) (λ x. x.answer) ≡ steps_made steps outcomes (λ x. x.answer) ++ unless_refused o.answer step
