@@ -127,8 +127,8 @@ shown_service s = served s.given.mark s.given.waiting
 
 -- Turns with that service, or with none, gave the answer. The journal records what they dropped, and few comparisons
 -- came for each packet that left.
-pub record IsAnswered (now : ℕ) (service : Option Service) (old : Held) (book : Book) (answer : Option Served) (new : Held)
-    (book' : Book) : Type 0 where
+pub record IsAnswered (now : ℕ) (service : Option Service) (old : Held) (book : Book) (answer : Option Served)
+    (new : Held) (book' : Book) : Type 0 where
   pub given : answer ≡ option_map shown_service service
   pub journal : book' ≡ with_drops book now cause.Codel (dropped_in service)
   pub arrived : new.arrived ≡ old.arrived
