@@ -74,7 +74,8 @@ impl Sink for Page {
 
     ghost wrote_none = { λ a. sym (append-nil a.bytes.items) };
 
-    ghost wrote_more = { λ a b c first second one two. two ∙ ap (λ l. l ++ second) one ∙ append_assoc a.bytes.items first second };
+    ghost wrote_more = { λ a b c first second one two.
+        two ∙ ap (λ l. l ++ second) one ∙ append_assoc a.bytes.items first second };
 
     fn write(&mut self, text: &[u8]) -> io::Result<usize> {
         let count = text.len().min(self.room);
