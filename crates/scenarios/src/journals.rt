@@ -82,25 +82,3 @@ fn reserve_takes_the_memory(rt: HostRuntime) -> Result<(), Fail> {
     assert_eq!(rt; sched.queued(), 4);
     Ok(())
 }
-
-/// Half a million rounds of an enqueue and a dequeue.
-fn make_rounds<K: Keeps>(sched: &mut Sched<K>, packet: Packet) -> Result<(), Fail> {
-    for moment in 0..500_000 {
-        sched.enqueue(moment, 0, packet)?;
-        sched.dequeue(moment)?;
-    }
-    Ok(())
-}
-
-#[test]
-fn totals_without_stored_events(rt: HostRuntime) -> Result<(), Fail> {
-    let packet = packet(PORT, 1_000, Ecn::NotEct)?;
-    let params = Params::try_new(one_flow())?;
-    let mut storing = scheduler(&rt, one_flow())?;
-    make_rounds(&mut storing, packet)?;
-    let mut unstored = Sched::try_with_keeper(rt.alloc(), params, SEED, Unstored::new())?;
-    make_rounds(&mut unstored, packet)?;
-    assert_eq!(rt; storing.totals().sent, 500_000);
-    assert_eq!(rt; unstored.totals(), storing.totals());
-    Ok(())
-}

@@ -299,7 +299,7 @@ module _ (p : ParamFields) (seed : Seed) where
   seen s book turns comparisons room = record { params = p; seed = seed; standing = standing_of s book; turns = turns; comparisons = comparisons; room = room }
 
   module _ {held held' : Held} {book book' : Book} {moment turns : ℕ} {answer : Option Served} (s : MakesChain p moment held book turns answer held' book') where
-    served_next : ServesNext (fq_codel_policy p) moment held.queues (dropped_in (service_in s.turns)) (given_in (service_in s.turns)) held'.queues
+    abbrev served_next : ServesNext (fq_codel_policy p) moment held.queues (dropped_in (service_in s.turns)) (given_in (service_in s.turns)) held'.queues
     served_next = record { turns = s.turns; chain = s.chain; dropped_by = refl; given_by = refl }
 
     book_is : with_sent book' moment answer ≡ served_book book moment (service_in s.turns)
@@ -309,7 +309,7 @@ module _ (p : ParamFields) (seed : Seed) where
     journal_is = ap (λ (b : Book). b.events) book_is ∙ served_grown book moment (service_in s.turns)
 
     -- what the code does in a dequeue is one of the definition
-    served : (last : ℕ) (closed : Bool) → held'.arrived ≡ held.arrived
+    abbrev served : (last : ℕ) (closed : Bool) → held'.arrived ≡ held.arrived
         → Serves (fq_codel p seed) (state_of held last closed) moment (given_in (service_in s.turns)) (served_events moment (service_in s.turns)) (state_of held' moment closed)
     served last closed arrived = record { dropped = dropped_in (service_in s.turns); queues = served_next; told = refl; next_id = arrived; last = refl; closed = refl }
 

@@ -1,5 +1,5 @@
 -- Of which step of a run a scheduler tells its turns and its comparisons.
-use Rattle.std.specs.Prelude.{◌≡◌, ℕ, ◌-◌, ◌*◌, ◌≤◌, Bool, true, false, not, List, ◌∷◌, ◌++◌, All, length, take, slice_get, Some}
+use Rattle.std.specs.Prelude.{◌≡◌, ℕ, ◌-◌, ◌*◌, ◌≤◌, Bool, true, false, not, List, ◌∷◌, ◌++◌, All, length, take, slice_get, Some, None}
 use Rattle.packet_core.specs.declared.flow.Seed.{Seed}
 use Rattle.packet_core.specs.declared.params.ParamFields.{ParamFields}
 use Rattle.flow_core.specs.Winners.{IsLevels}
