@@ -1,8 +1,8 @@
-//! What a scheduler's journal tells, its totals, and its rows by five-tuple; with events stored and not.
+//! What a scheduler's journal tells, its totals, and its rows by five-tuple.
 
-use crate::schedulers::{PORT, SEED, arrive, four_flows, one_flow, packet, scheduler, tuple};
-use packet_core::{Ecn, Packet, Params};
-use sched_core::{Cause, Event, Keeps, Mark, Sched, TupleRow, Unstored};
+use crate::schedulers::{PORT, arrive, four_flows, one_flow, packet, scheduler, tuple};
+use packet_core::{Ecn, Packet};
+use sched_core::{Cause, Event, Mark, TupleRow};
 use std::test::Fail;
 
 #[test]
