@@ -4,7 +4,7 @@ use Rattle.std.specs.Prelude.{ok_or, codes, unwrap_or}
 use Rattle.std.specs.List.{position}
 use Rattle.std.specs.Str.{bytes_eq}
 use Rattle.csv.specs.Records.{field_at}
-use Rattle.packet_core.specs.Words.{number_of}
+use Rattle.packet_core.specs.Numerals.{numeral_of}
 use Rattle.packet_core.specs.Packets.{PacketParts}
 use Rattle.packet_core.specs.declared.packet.Ecn.{Ecn}
 use Rattle.packet_core.specs.declared.packet.Ecn.TheVariants.{NotEct, Ect1, Ect0, Ce}
@@ -33,7 +33,7 @@ below bound n = if nat_lt n bound then Some n else None
 
 -- the number that a text writes, below a bound
 unfoldable pub number_below : ℕ → List ℕ → Result ℕ TraceFaultKind
-number_below bound text = ok_or (number_of text >>? below bound) BadNumber
+number_below bound text = ok_or (numeral_of text >>? below bound) BadNumber
 
 -- whether a packet can have this length
 abbrev pub is_length : ℕ → Bool
@@ -41,7 +41,7 @@ is_length len = nat_le 1 len && nat_le len 65535
 
 -- a packet's length
 unfoldable pub length_of : List ℕ → Result ℕ TraceFaultKind
-length_of text = ok_or (number_of text) BadNumber >>= λ len. if is_length len then Ok len else Err LengthOutOfRange
+length_of text = ok_or (numeral_of text) BadNumber >>= λ len. if is_length len then Ok len else Err LengthOutOfRange
 
 -- an ECN field
 unfoldable pub ecn_of : List ℕ → Result Ecn TraceFaultKind
@@ -70,7 +70,7 @@ starts_with_zero text = nat_lt 1 (length text) && (get_or text 0 0 == 48)
 
 -- a number from 0 to 255 without leading zeros
 unfoldable pub octet_of : List ℕ → Option ℕ
-octet_of text = if starts_with_zero text then None else number_of text >>? below (2 ^ 8)
+octet_of text = if starts_with_zero text then None else numeral_of text >>? below (2 ^ 8)
 
 -- four of them, joined by dots
 unfoldable pub four_octets_of : List ℕ → Option Ip

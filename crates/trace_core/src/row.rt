@@ -4,12 +4,11 @@ ghost use Rattle.std.specs.Char.{digit_value};
 ghost use Rattle.std.specs.Option.{SomeIff};
 ghost use Rattle.packet_core.specs.Packets.{IsLengthInRange};
 ghost use Rattle.csv.specs.Records.{fields_of};
-ghost use Rattle.packet_core.specs.Words.{number_of};
 ghost use Rattle.trace_core.specs.Rows.{address_of, cut_of, ecn_of, field_of, fields_of_kind, four_octets_of, kind_of, length_of, number_below, octet_of, packet_of, row_of, starts_with_zero};
 
 use crate::faults::TraceFaultKind;
 use csv::ByteRecord;
-use packet_core::{Ecn, FiveTuple, Ip, MAX_LENGTH, Packet};
+use packet_core::{Ecn, FiveTuple, Ip, MAX_LENGTH, Packet, read_numeral};
 use sched_core::{MAX_MOMENT, Step};
 
 /// Every packet of a trace comes from the one lane.
@@ -117,7 +116,7 @@ fn read_moment(text: &[u8]) -> Result<u64, TraceFaultKind>
     ensures value { result ≡ number_below (2 ^ 60) text.now }
     ensures fault { IfErr result (λ fault. fault ≢ TraceFaultKind.Read) }
 {
-    match number(text) {
+    match read_numeral(text) {
         Some(moment) if moment < MAX_MOMENT => Ok(moment),
         _ => Err(TraceFaultKind::BadNumber),
     }
@@ -129,7 +128,7 @@ fn read_u8(text: &[u8]) -> Result<u8, TraceFaultKind>
     ensures value { result ≡ number_below (2 ^ 8) text.now }
     ensures fault { IfErr result (λ fault. fault ≢ TraceFaultKind.Read) }
 {
-    let value = number(text).ok_or(TraceFaultKind::BadNumber)?;
+    let value = read_numeral(text).ok_or(TraceFaultKind::BadNumber)?;
     u8::try_from(value).map_err(|_| TraceFaultKind::BadNumber)
 }
 
@@ -139,7 +138,7 @@ fn read_u16(text: &[u8]) -> Result<u16, TraceFaultKind>
     ensures value { result ≡ number_below (2 ^ 16) text.now }
     ensures fault { IfErr result (λ fault. fault ≢ TraceFaultKind.Read) }
 {
-    let value = number(text).ok_or(TraceFaultKind::BadNumber)?;
+    let value = read_numeral(text).ok_or(TraceFaultKind::BadNumber)?;
     u16::try_from(value).map_err(|_| TraceFaultKind::BadNumber)
 }
 
@@ -150,7 +149,7 @@ fn read_length(text: &[u8]) -> Result<u32, TraceFaultKind>
     ensures range { IfOk result (λ len. IsLengthInRange len) }
     ensures fault { IfErr result (λ fault. fault ≢ TraceFaultKind.Read) }
 {
-    let value = number(text).ok_or(TraceFaultKind::BadNumber)?;
+    let value = read_numeral(text).ok_or(TraceFaultKind::BadNumber)?;
     match u32::try_from(value) {
         Ok(len) if 0 < len && len <= MAX_LENGTH => Ok(len),
         _ => Err(TraceFaultKind::LengthOutOfRange),
@@ -215,7 +214,7 @@ fn octet(text: &[u8]) -> Option<u8>
     if has_leading_zero(text) {
         return None;
     }
-    u8::try_from(number(text)?).ok()
+    u8::try_from(read_numeral(text)?).ok()
 }
 
 /// Whether a zero stands before another byte.
@@ -223,30 +222,4 @@ fn has_leading_zero(text: &[u8]) -> bool
     ensures { result ≡ starts_with_zero text.now }
 {
     text.len() > 1 && text[0] == b'0'
-}
-
-/// The value of a text of one or more decimal digits, and 2^64 - 1 where it is more than that. A text with any
-/// other byte has none.
-fn number(text: &[u8]) -> Option<u64>
-    ensures { result ≡ option_map (λ n. min n (2 ^ 64 - 1)) (number_of text.now) }
-{
-    if text.is_empty() {
-        return None;
-    }
-    let mut value = 0u64;
-    for byte in text {
-        let digit = digit(*byte)?;
-        value = value.saturating_mul(10).saturating_add(u64::from(digit));
-    }
-    Some(value)
-}
-
-/// The value of a decimal digit.
-fn digit(byte: u8) -> Option<u8>
-    ensures { SomeIff result (digit_value byte < 10) (digit_value byte) }
-{
-    match byte {
-        b'0'..=b'9' => Some(byte - b'0'),
-        _ => None,
-    }
 }
