@@ -301,7 +301,7 @@ impl<S: Keeps<Step>> Engine<Stored, S> {
         self.sched.events()
     }
 
-    /// What became of the packets of each five-tuple, in order of first acceptance. It goes once through the journal,
+    /// What became of the packets of each five-tuple, in order of first acceptance. It goes twice through the journal,
     /// and fails for want of memory alone.
     pub fn tuple_rows(&self) -> Result<Vec<TupleRow>, Memory>
         ensures rows { IfOk result (λ rows. rows.items ≡ tuple_rows self.now.sched.standing.events) }
