@@ -43,7 +43,7 @@ pub fn refused_steps_change_nothing()
     ensures state { (p : ParamFields) (seed : Seed) (steps : List Step) (made : List Made) (new : State FairQueues)
         → Runs (fq_codel p seed) (opening_state (no_queues p.flows)) steps made new
         → Runs (fq_codel p seed) (opening_state (no_queues p.flows)) (steps_made steps made (λ m. m.answer))
-            (given_by_made made) new }
+        (given_by_made made) new }
     ensures journal { (p : ParamFields) (seed : Seed) (steps : List Step) (made : List Made) (new : State FairQueues)
         → Runs (fq_codel p seed) (opening_state (no_queues p.flows)) steps made new
         → journal_of (given_by_made made) ≡ journal_of made }
