@@ -2,6 +2,9 @@
 ghost use Rattle.std.specs.Prelude.{◌≡◌, ◌≢◌, ◌≤◌, ℕ, List, IfErr, IfOk, IfSome, OnErr, OnOk, [], length, take};
 ghost use Rattle.std.specs.Result.{IsOkUnless};
 ghost use Rattle.std.specs.Io.KnownBytes.{Appends, Keeps};
+ghost use Rattle.packet_core.specs.declared.flow.Seed.{Seed};
+ghost use Rattle.packet_core.specs.declared.params.ParamFields.{ParamFields};
+ghost use Rattle.sched_core.specs.Schedulers.{new_scheduler};
 ghost use Rattle.trace_core.specs.Report.{IsReportOf, RunsStep, RunsText};
 ghost use Rattle.trace_core.specs.Traces.{HasTaken, IsFaultOf, IsRowsFault, ReadFails, TextReader};
 ghost use Rattle.trace_core.specs.declared.faults.TraceFault.{TraceFault};
@@ -114,9 +117,21 @@ fn run_text(alloc: Global, text: &[u8], params: Params, seed: Seed) -> Result<Ve
     ensures write { IfErr result (λ fault. fault ≢ RunFault.Write) }
 {
     let mut sched = Sched::try_new(alloc, params, seed)?;
+    text_of(alloc, text, &mut sched)
+}
+
+/// Makes the steps of a text with a new scheduler, and gives the report.
+fn text_of(alloc: Global, text: &[u8], sched: &mut Sched) -> Result<Vec<u8>, RunFault>
+    requires { length text.now ≤ MAX_BYTES }
+    ensures report { IfOk result (λ report. (params : ParamFields) → (seed : Seed)
+        → sched.old ≡ new_scheduler params seed → IsReportOf params seed text.now report.items) }
+    ensures trace { IfErr result (λ fault. (why : TraceFault) → fault ≡ RunFault.Trace why
+        → (reader : TextReader) × IsRowsFault text.now reader why) }
+    ensures write { IfErr result (λ fault. fault ≢ RunFault.Write) }
+{
     let mut report = Rows::new(alloc);
-    run_rows(&mut sched, &mut TraceRows::new(alloc, text), &mut report)?;
-    Ok(report.finish(&sched)?)
+    run_rows(sched, &mut TraceRows::new(alloc, text), &mut report)?;
+    Ok(report.finish(sched)?)
 }
 
 /// Makes the steps of all rows of a text, from its start on, each as it is read, and writes its rows of the report.

@@ -2,14 +2,13 @@ use Rattle.std.proofs.Common.{◌≡◌, Err, length, rules}
 use Rattle.std.proofs.lemmas.Bool.{le-ltb}
 use Rattle.journal_core.specs.Runs.{journal_of}
 use Rattle.trace_core.specs.Report.{Adds}
-use Rattle.trace_core.proofs.trace_run.run_text.Goals as goal
+use Rattle.trace_core.proofs.trace_run.text_of.Goals as goal
 
 pub returns-clause-report : goal.returns-clause-report
 unfolding Adds
-returns-clause-report c =
+returns-clause-report c = λ params seed made.
     let text = c.args.text.now in
     let (steps, read, run) = c.in_ok-run_rows.ensures.run text c.new.ensures in
-    let made = c.in_ok-sched.ensures {u = tt} in
     let journal : c.run_rows.new.sched.standing.events ≡ journal_of run.made = rw made at run.journal in
     record {
       steps = steps;
@@ -22,5 +21,5 @@ returns-clause-report c =
 
 pub returns-in_err-run_rows-clause-trace : goal.returns-in_err-run_rows-clause-trace
 returns-in_err-run_rows-clause-trace c =
-    let err : c.from_residual-in_err-run_rows.result ≡ Err c.in_err-run_rows.field-0.0 = search rules in
+    let err : c.from_residual.result ≡ Err c.in_err-run_rows.field-0.0 = search rules in
     rw err (λ why is. (c.run_rows.new.rows.records, c.in_err-run_rows.ensures.trace why is c.args.text.now c.new.ensures))
