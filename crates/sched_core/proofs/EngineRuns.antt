@@ -1,6 +1,6 @@
 -- The run that an engine is, and the steps that it keeps.
 use Rattle.std.proofs.Common.{◌≡◌, ℕ, ◌+◌, ◌-◌, ◌≤◌, false, List, [], ◌∷◌, ◌++◌, length, Option, Some, None, refl, sym, ap, ◌∙◌, append_assoc, append-nil, arith}
-use Rattle.std.proofs.lemmas.List.Elements.{All-push}
+use Rattle.std.proofs.lemmas.List.Elements.{All-nil, All-push}
 use Rattle.journal_core.specs.declared.event.Event.{Event}
 use Rattle.journal_core.specs.declared.outcome.Answer.{Answer}
 use Rattle.journal_core.specs.declared.outcome.Answer.TheVariants as answer
@@ -11,7 +11,11 @@ use Rattle.journal_core.specs.declared.step.Step.TheVariants.{Dequeue}
 use Rattle.sched_core.specs.AnyStep.{GoesOn}
 use Rattle.journal_core.specs.Calls.{Standing}
 use Rattle.journal_core.specs.Disciplines.{Discipline}
-use Rattle.sched_core.specs.Engines.{EngineInvariant}
+use Rattle.packet_core.specs.declared.flow.Seed.{Seed}
+use Rattle.packet_core.specs.declared.params.ParamFields.{ParamFields}
+use Rattle.sched_core.specs.Engines.{EngineInvariant, HasRun, new_engine}
+use Rattle.sched_core.specs.LastSteps.{is_dequeued, is_made}
+use Rattle.sched_core.specs.LastSteps.AtLast.{none as at_none}
 use Rattle.journal_core.specs.Runs.{Made, IsRunOf, is_refused, steps_made, unless_refused}
 use Rattle.sched_core.specs.Schedulers.{IsAdvanced, IsServed, Scheduler, discipline_of}
 use Rattle.journal_core.specs.State.{opening_state, refusal_of}
@@ -62,6 +66,18 @@ told_on step kept run room is less used =
       in_sched = omega (arith, kept.in_sched);
       in_keeper = omega (arith, kept.in_keeper);
     }
+
+-- A new engine has made no step yet.
+pub has_run_none : (p : ParamFields) (seed : Seed) (steps : List Step) → HasRun p seed steps [] [] (new_engine p seed)
+has_run_none p seed steps = record {
+  run = record { made = []; runs = refl; journal = refl; told = refl };
+  params_kept = refl;
+  seed_kept = refl;
+  one_each = refl;
+  stored = refl;
+  turns = at_none (All-nil (λ (x : Outcome). is_dequeued x.answer ≡ false)) refl;
+  few = at_none (All-nil (λ (x : Outcome). is_made x.answer ≡ false)) refl;
+}
 
 -- a step and its outcome more
 pub kept_push : (steps : List Step) (outcomes : List Outcome) (step : Step) (o : Outcome) → length outcomes ≡ length steps → steps_made (steps ++ step ∷ []) (outcomes ++ o ∷ []) (λ x. x.answer) ≡ steps_made steps outcomes (λ x. x.answer) ++ unless_refused o.answer step

@@ -1,9 +1,12 @@
-use Rattle.std.specs.Prelude.{◌≡◌, ℕ, ◌-◌, ◌≤◌, List, [], None, if◌then◌else◌}
+use Rattle.std.specs.Prelude.{◌≡◌, ℕ, ◌-◌, ◌≤◌, List, [], None, if◌then◌else◌, length}
 use Rattle.packet_core.specs.declared.flow.Seed.{Seed}
 use Rattle.packet_core.specs.declared.params.ParamFields.{ParamFields}
 use Rattle.journal_core.specs.declared.step.Step.{Step}
 use Rattle.journal_core.specs.declared.outcome.Answer.{Answer}
-use Rattle.journal_core.specs.Runs.{IsRunOf, is_refused}
+use Rattle.journal_core.specs.declared.outcome.Outcome.{Outcome}
+use Rattle.journal_core.specs.Runs.{IsRun, IsRunOf, is_refused, steps_made}
+use Rattle.fair_core.specs.FqCodel.{fq_codel}
+use Rattle.sched_core.specs.LastSteps.{AreFewOfLast, AreTurnsOfLast}
 use Rattle.sched_core.specs.Schedulers.{Scheduler, discipline_of, new_scheduler}
 use Rattle.journal_core.specs.State.{refusal_of}
 
@@ -32,3 +35,13 @@ pub record EngineInvariant (sched : Scheduler) (steps : List Step) (keeper_room 
   pub run : IsRunOf (discipline_of sched) steps sched.standing
   pub in_sched : reserved ≤ sched.room
   pub in_keeper : reserved ≤ keeper_room
+
+-- A new engine of those parameters and that seed has made the first of these steps, with those outcomes.
+pub record HasRun (p : ParamFields) (seed : Seed) (steps first : List Step) (outcomes : List Outcome) (e : Running) : Type 0 where
+  pub run : IsRun (fq_codel p seed) first e.sched.standing outcomes
+  pub params_kept : e.sched.params ≡ p
+  pub seed_kept : e.sched.seed ≡ seed
+  pub one_each : length outcomes ≡ length first
+  pub stored : e.steps ≡ steps_made first outcomes (λ o. o.answer)
+  pub turns : AreTurnsOfLast p seed steps outcomes e.sched.turns
+  pub few : AreFewOfLast p outcomes e.sched.comparisons

@@ -5,6 +5,9 @@ ghost use Rattle.journal_core.specs.JournalLaws.{JournalLaws, WaitWithoutFate};
 ghost use Rattle.fair_core.specs.FairQueues.{queue_of};
 ghost use Rattle.fair_core.specs.FqCodel.{fq_codel};
 ghost use Rattle.journal_core.specs.Runs.{IsRun, StandsIn, steps_made};
+ghost use Rattle.packet_core.specs.declared.flow.Seed.{Seed};
+ghost use Rattle.packet_core.specs.declared.params.ParamFields.{ParamFields};
+ghost use Rattle.sched_core.specs.Engines.{HasRun, new_engine};
 ghost use Rattle.sched_core.specs.LastSteps.{AreFewOfLast, AreTurnsOfLast};
 ghost use Rattle.sched_core.specs.Schedulers.{flows_of};
 
@@ -39,6 +42,15 @@ pub fn run_steps(alloc: Global, params: Params, seed: Seed, steps: &[Step]) -> R
     ensures comparisons { IfOk result (λ ran. AreFewOfLast params ran.outcomes.items ran.engine.sched.comparisons) }
 {
     let mut engine = Engine::try_new(alloc, params, seed)?;
+    let outcomes = make_all(alloc, &mut engine, steps)?;
+    Ok(Ran { engine, outcomes })
+}
+
+/// Makes the steps in turn with a new engine, and gives one outcome for each.
+fn make_all(alloc: Global, engine: &mut Engine, steps: &[Step]) -> Result<Vec<Outcome>, Memory>
+    ensures { IfOk result (λ outcomes. (params : ParamFields) → (seed : Seed) → engine.old ≡ new_engine params seed
+        → HasRun params seed steps.now steps.now outcomes.items engine.new) }
+{
     let mut outcomes = Vec::with_capacity(alloc, steps.len())?;
     for step in steps {
         let first_event = engine.events().len();
@@ -49,5 +61,5 @@ pub fn run_steps(alloc: Global, params: Params, seed: Seed, steps: &[Step]) -> R
             end_event: engine.events().len(),
         })?;
     }
-    Ok(Ran { engine, outcomes })
+    Ok(outcomes)
 }
