@@ -1,0 +1,105 @@
+//! Flows by hash and by port.
+
+use packet_core::{Classify, FiveTuple, Ip, ParamFields, ParamName, Params, Seed, flow_of};
+
+/// The seed of zeros.
+const ZERO_SEED: Seed = Seed([0; 16]);
+
+/// A seed whose bytes all differ.
+const RISING_SEED: Seed = Seed([0, 1, 2, 3, 4, 5, 6, 7, 8, 9, 10, 11, 12, 13, 14, 15]);
+
+/// A query of the domain name system.
+const QUERY: FiveTuple = FiveTuple {
+    proto: 17,
+    src: Ip::V4([10, 0, 0, 1]),
+    dst: Ip::V4([10, 0, 0, 2]),
+    sport: 5000,
+    dport: 53,
+};
+
+/// Its answer.
+const ANSWER: FiveTuple = FiveTuple {
+    proto: 17,
+    src: Ip::V4([10, 0, 0, 2]),
+    dst: Ip::V4([10, 0, 0, 1]),
+    sport: 53,
+    dport: 5000,
+};
+
+/// A request for a page.
+const REQUEST: FiveTuple = FiveTuple {
+    proto: 6,
+    src: Ip::V4([192, 168, 1, 10]),
+    dst: Ip::V4([93, 184, 216, 34]),
+    sport: 49152,
+    dport: 443,
+};
+
+/// A message of a protocol that has no ports.
+const PING: FiveTuple = FiveTuple {
+    proto: 1,
+    src: Ip::V4([172, 16, 0, 1]),
+    dst: Ip::V4([8, 8, 8, 8]),
+    sport: 0,
+    dport: 0,
+};
+
+/// The greatest and the least values that the fields have.
+const ENDS: FiveTuple = FiveTuple {
+    proto: 6,
+    src: Ip::V4([255, 255, 255, 255]),
+    dst: Ip::V4([0, 0, 0, 0]),
+    sport: 65535,
+    dport: 1,
+};
+
+/// The standard parameters with this number of flows, found in this way.
+fn with_flows(classify: Classify, flows: u32) -> Result<Params, ParamName> {
+    Params::try_new(ParamFields {
+        flows,
+        classify,
+        ..ParamFields::standard()
+    })
+}
+
+/// The flow numbers were computed with the SHA-256 of python's hashlib, over the 29 bytes
+/// 00000000000000000000000000000000 11 0a000001 0a000002 1388 0035. The hash is 4184301397059139397.
+#[test]
+fn hashed_message(rt: HostRuntime) -> Result<(), ParamName> {
+    for (flows, flow) in [
+        (1, 0),
+        (7, 6),
+        (1000, 397),
+        (1024, 837),
+        (65535, 54827),
+        (65536, 30533),
+    ] {
+        let params = with_flows(Classify::Hash, flows)?;
+        assert_eq!(rt; flow_of(&params, &ZERO_SEED, &QUERY), flow);
+    }
+    Ok(())
+}
+
+/// As computed with python's hashlib, with the seed of zeros and with the rising one; the ports by hand.
+#[test]
+fn flows_of_five_tuples(rt: HostRuntime) -> Result<(), ParamName> {
+    let hashed = with_flows(Classify::Hash, 65536)?;
+    let by_port = with_flows(Classify::Dport, 1024)?;
+    for (tuple, flow_of_zeros, rising_flow, port_flow) in [
+        (QUERY, 30533, 25935, 53),
+        (ANSWER, 27923, 22397, 904),
+        (REQUEST, 58405, 986, 443),
+        (PING, 52606, 25737, 0),
+        (ENDS, 19333, 40771, 1),
+    ] {
+        for (params, seed, flow) in [
+            (hashed, ZERO_SEED, flow_of_zeros),
+            (hashed, RISING_SEED, rising_flow),
+            (by_port, ZERO_SEED, port_flow),
+            (by_port, RISING_SEED, port_flow),
+        ] {
+            assert_eq!(rt; flow_of(&params, &seed, &tuple), flow);
+        }
+    }
+    Ok(())
+}
