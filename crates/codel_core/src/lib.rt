@@ -7,15 +7,9 @@ mod control_law;
 mod judge;
 mod laws;
 mod line;
-#[cfg(test)]
-mod lines;
 mod narrow;
 mod served;
 mod state;
-#[cfg(test)]
-mod tests;
-#[cfg(test)]
-mod verdicts;
 mod wide;
 
 pub use codel::Codel;

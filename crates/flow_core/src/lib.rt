@@ -6,20 +6,10 @@
 //! comes or goes costs one path of that tree besides.
 #![tactic(auto)]
 
-#[cfg(test)]
-mod chain_tests;
 mod chains;
 mod flows;
 mod limits;
 mod listed_flows;
-#[cfg(test)]
-mod listed_tests;
-#[cfg(test)]
-mod serving;
-#[cfg(test)]
-mod tests;
-#[cfg(test)]
-mod winner_tests;
 mod winner_tree;
 
 pub use flows::{Flows, Line};

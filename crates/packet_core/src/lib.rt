@@ -6,8 +6,6 @@ mod flow;
 mod numerals;
 mod packet;
 mod params;
-#[cfg(test)]
-mod tests;
 mod words;
 
 pub use flow::{Seed, flow_of};

@@ -1,6 +1,6 @@
 //! Flows by hash and by port.
 
-use crate::{Classify, FiveTuple, Ip, ParamFields, ParamName, Params, Seed, flow_of};
+use packet_core::{Classify, FiveTuple, Ip, ParamFields, ParamName, Params, Seed, flow_of};
 
 /// The seed of zeros.
 const ZERO_SEED: Seed = Seed([0; 16]);
@@ -80,62 +80,26 @@ fn hashed_message(rt: HostRuntime) -> Result<(), ParamName> {
     Ok(())
 }
 
-/// As computed with python's hashlib.
+/// As computed with python's hashlib, with the seed of zeros and with the rising one; the ports by hand.
 #[test]
-fn five_tuples_hashed(rt: HostRuntime) -> Result<(), ParamName> {
-    let params = with_flows(Classify::Hash, 65536)?;
-    for (tuple, flow) in [
-        (QUERY, 30533),
-        (ANSWER, 27923),
-        (REQUEST, 58405),
-        (PING, 52606),
-        (ENDS, 19333),
+fn flows_of_five_tuples(rt: HostRuntime) -> Result<(), ParamName> {
+    let hashed = with_flows(Classify::Hash, 65536)?;
+    let by_port = with_flows(Classify::Dport, 1024)?;
+    for (tuple, flow_of_zeros, rising_flow, port_flow) in [
+        (QUERY, 30533, 25935, 53),
+        (ANSWER, 27923, 22397, 904),
+        (REQUEST, 58405, 986, 443),
+        (PING, 52606, 25737, 0),
+        (ENDS, 19333, 40771, 1),
     ] {
-        assert_eq!(rt; flow_of(&params, &ZERO_SEED, &tuple), flow);
-    }
-    Ok(())
-}
-
-/// As computed with python's hashlib.
-#[test]
-fn five_tuples_hashed_behind_a_seed(rt: HostRuntime) -> Result<(), ParamName> {
-    let params = with_flows(Classify::Hash, 65536)?;
-    for (tuple, flow) in [
-        (QUERY, 25935),
-        (ANSWER, 22397),
-        (REQUEST, 986),
-        (PING, 25737),
-        (ENDS, 40771),
-    ] {
-        assert_eq!(rt; flow_of(&params, &RISING_SEED, &tuple), flow);
-    }
-    Ok(())
-}
-
-#[test]
-fn one_flow_takes_all(rt: HostRuntime) -> Result<(), ParamName> {
-    for classify in [Classify::Hash, Classify::Dport] {
-        let params = with_flows(classify, 1)?;
-        for tuple in [QUERY, ANSWER, REQUEST, PING, ENDS] {
-            assert_eq!(rt; flow_of(&params, &ZERO_SEED, &tuple), 0);
-            assert_eq!(rt; flow_of(&params, &RISING_SEED, &tuple), 0);
+        for (params, seed, flow) in [
+            (hashed, ZERO_SEED, flow_of_zeros),
+            (hashed, RISING_SEED, rising_flow),
+            (by_port, ZERO_SEED, port_flow),
+            (by_port, RISING_SEED, port_flow),
+        ] {
+            assert_eq!(rt; flow_of(&params, &seed, &tuple), flow);
         }
-    }
-    Ok(())
-}
-
-#[test]
-fn flow_by_destination_port(rt: HostRuntime) -> Result<(), ParamName> {
-    let params = with_flows(Classify::Dport, 1024)?;
-    for (tuple, flow) in [
-        (QUERY, 53),
-        (ANSWER, 904),
-        (REQUEST, 443),
-        (PING, 0),
-        (ENDS, 1),
-    ] {
-        assert_eq!(rt; flow_of(&params, &ZERO_SEED, &tuple), flow);
-        assert_eq!(rt; flow_of(&params, &RISING_SEED, &tuple), flow);
     }
     Ok(())
 }
