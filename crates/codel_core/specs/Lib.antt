@@ -1,6 +1,5 @@
 pub mod Queue
 pub mod Root
 pub mod Schedule
-pub mod SeveralLines
 pub mod Spacing
 pub mod Verdict

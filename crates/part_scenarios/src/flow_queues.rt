@@ -24,12 +24,6 @@ fn pop(rt: &impl Abort, flows: &mut Flows, flow: u32) -> Option<u64> {
     flows.pop(flow).map(|w| w.id)
 }
 
-/// How many packets wait in a flow.
-fn len(rt: &impl Abort, flows: &Flows, flow: u32) -> u64 {
-    assert!(rt; flow < flows.flows());
-    flows.len(flow)
-}
-
 /// The flow with the most bytes, by a look at each of them.
 fn scan(flows: &Flows) -> Option<u32> {
     let mut most = 0;
@@ -61,59 +55,29 @@ fn least_number_at_a_tie(rt: HostRuntime) -> Result<(), Fail> {
     Ok(())
 }
 
-/// A packet comes to a flow, or one goes, and a plain list of ids changes likewise.
-fn turn(
-    rt: &impl Abort,
-    flows: &mut Flows,
-    flow: u32,
-    own: &mut Vec<u64>,
-    id: u64,
-    random: u64,
-) -> Result<(), Fail> {
-    // Five come where four go. There are few lengths, so that flows are often equally fat.
-    if random % 9 < 5 {
-        let len = 500 * (random / 9 % 3) as u32 + 100;
-        push(rt, flows, flow, waiting(id, len, Ecn::NotEct)?)?;
-        own.push(id)?;
-    } else {
-        assert_eq!(rt; pop(rt, flows, flow), own.first().copied());
-        if !own.is_empty() {
-            own.remove(0);
-        }
-    }
-    assert_eq!(rt; len(rt, flows, flow), own.len() as u64);
-    Ok(())
-}
-
-/// The packets of those ids are what a flow gives next.
-fn drain(rt: &impl Abort, flows: &mut Flows, flow: u32, ids: &[u64]) {
-    for id in ids {
-        assert_eq!(rt; pop(rt, flows, flow), Some(*id));
-    }
-}
-
-#[test]
-fn seven_flows_interleaved(rt: HostRuntime) -> Result<(), Fail> {
-    let mut flows = Flows::try_new(rt.alloc(), 7)?;
-    let mut plain = Vec::new(rt.alloc());
-    for _ in 0..7 {
-        plain.push(Vec::new(rt.alloc()))?;
-    }
+/// Packets come to seven flows or leave them, and the fattest flow is that of a scan after each.
+fn compare_with_scans(rt: &impl Abort, flows: &mut Flows) -> Result<(), Fail> {
     let mut seed = 1;
     for id in 0..2000 {
         let (after, random) = next(seed);
         seed = after;
-        let flow = random % 7;
-        let own = plain.get_mut(flow as usize).ok_or("no such flow")?;
-        turn(&rt, &mut flows, flow as u32, own, id, random / 7)?;
-        assert_eq!(rt; flows.fattest(), scan(&flows));
+        let flow = (random % 7) as u32;
+        // Five come where four go. There are few lengths, so that flows are often equally fat.
+        if random / 7 % 9 < 5 {
+            let len = 500 * (random / 63 % 3) as u32 + 100;
+            push(rt, flows, flow, waiting(id, len, Ecn::NotEct)?)?;
+        } else {
+            let _ = pop(rt, flows, flow);
+        }
+        assert_eq!(rt; flows.fattest(), scan(flows));
     }
-    for flow in 0..7u32 {
-        let own = plain.get(flow as usize).ok_or("no such flow")?;
-        drain(&rt, &mut flows, flow, own);
-    }
-    assert_eq!(rt; flows.total_len(), 0);
     Ok(())
+}
+
+#[test]
+fn fattest_as_by_a_scan(rt: HostRuntime) -> Result<(), Fail> {
+    let mut flows = Flows::try_new(rt.alloc(), 7)?;
+    compare_with_scans(&rt, &mut flows)
 }
 
 /// Those flows get a packet each, in turn, of that length. Gives the number of comparisons for the last one.

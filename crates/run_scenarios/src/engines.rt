@@ -5,6 +5,7 @@ use packet_core::Params;
 use sched_core::{
     Admitted, Answer, Engine, Mark, MomentFault, Refusal, Sent, Step, Totals, TupleRow,
 };
+use std::process::Abort;
 use std::test::Fail;
 
 /// A new engine with four flows.
@@ -13,9 +14,8 @@ fn engine(rt: &impl AllocGlobal) -> Result<Engine, Fail> {
     Ok(Engine::try_new(rt.alloc(), params, SEED)?)
 }
 
-#[test]
-fn a_new_engine(rt: HostRuntime) -> Result<(), Fail> {
-    let mut engine = engine(&rt)?;
+/// What a new engine tells.
+fn expect_new(rt: &impl Abort, engine: &mut Engine) -> Result<(), Fail> {
     assert_eq!(rt; *engine.params(), Params::try_new(four_flows())?);
     assert_eq!(rt; engine.seed(), SEED);
     assert_eq!(rt; engine.totals(), Totals::default());
@@ -27,8 +27,12 @@ fn a_new_engine(rt: HostRuntime) -> Result<(), Fail> {
 }
 
 #[test]
-fn calls_are_answered(rt: HostRuntime) -> Result<(), Fail> {
-    let mut engine = engine(&rt)?;
+fn a_new_engine(rt: HostRuntime) -> Result<(), Fail> {
+    expect_new(&rt, &mut engine(&rt)?)
+}
+
+/// One call of each kind and a refused one are answered, and what they made is stored.
+fn expect_answers(rt: &impl Abort, engine: &mut Engine) -> Result<(), Fail> {
     let packet = packet(7)?;
     let admitted = Admitted {
         id: 0,
@@ -61,8 +65,12 @@ fn calls_are_answered(rt: HostRuntime) -> Result<(), Fail> {
 }
 
 #[test]
-fn steps_of_any_kind_are_answered(rt: HostRuntime) -> Result<(), Fail> {
-    let mut engine = engine(&rt)?;
+fn calls_are_answered(rt: HostRuntime) -> Result<(), Fail> {
+    expect_answers(&rt, &mut engine(&rt)?)
+}
+
+/// Steps of each kind and refused ones are answered, and what they made is stored.
+fn expect_answers_to_steps(rt: &impl Abort, engine: &mut Engine) -> Result<(), Fail> {
     let backwards = Refusal::Moment(MomentFault::Backwards { last: 3 });
     let steps = [
         (Step::Dequeue { moment: 0 }, Answer::Idle),
@@ -83,8 +91,12 @@ fn steps_of_any_kind_are_answered(rt: HostRuntime) -> Result<(), Fail> {
 }
 
 #[test]
-fn rows_of_an_engine(rt: HostRuntime) -> Result<(), Fail> {
-    let mut engine = engine(&rt)?;
+fn steps_of_any_kind_are_answered(rt: HostRuntime) -> Result<(), Fail> {
+    expect_answers_to_steps(&rt, &mut engine(&rt)?)
+}
+
+/// Three packets of two five-tuples come and one leaves, and the rows tell it.
+fn expect_rows(rt: &impl Abort, engine: &mut Engine) -> Result<(), Fail> {
     for (moment, dport) in [(0, 3), (1, 2), (2, 3)] {
         engine.enqueue(moment, 0, packet(dport)?)?;
     }
@@ -107,4 +119,9 @@ fn rows_of_an_engine(rt: HostRuntime) -> Result<(), Fail> {
     };
     assert_eq!(rt; engine.tuple_rows()?.as_slice(), [first, second].as_slice());
     Ok(())
+}
+
+#[test]
+fn rows_of_an_engine(rt: HostRuntime) -> Result<(), Fail> {
+    expect_rows(&rt, &mut engine(&rt)?)
 }

@@ -39,11 +39,8 @@ fn expect_step(
     Ok(())
 }
 
-#[test]
-fn turns_and_comparisons_behind_a_step_of_any_kind(rt: HostRuntime) -> Result<(), Fail> {
-    let mut fields = four_flows();
-    fields.limit = 1;
-    let mut sched = scheduler(&rt, fields)?;
+/// Steps of each kind and refused ones, with room for one packet.
+fn expect_steps(rt: &impl Abort, sched: &mut Sched) -> Result<(), Fail> {
     let backwards = Answer::Refused(Refusal::Moment(MomentFault::Backwards { last: 2 }));
     let closed = Answer::Refused(Refusal::ClosedAlready);
     // The second packet's arrival drops the first one, by a tie. So the dequeue looks at a flow without packets, then
@@ -59,7 +56,14 @@ fn turns_and_comparisons_behind_a_step_of_any_kind(rt: HostRuntime) -> Result<()
         (enqueue(3, 1)?, closed, 3, [0, 0]),
     ];
     for (step, answer, turns, comparisons) in steps {
-        expect_step(&rt, &mut sched, &step, answer, turns, comparisons)?;
+        expect_step(rt, sched, &step, answer, turns, comparisons)?;
     }
     Ok(())
+}
+
+#[test]
+fn turns_and_comparisons_behind_a_step_of_any_kind(rt: HostRuntime) -> Result<(), Fail> {
+    let mut fields = four_flows();
+    fields.limit = 1;
+    expect_steps(&rt, &mut scheduler(&rt, fields)?)
 }

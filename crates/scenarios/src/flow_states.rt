@@ -3,7 +3,7 @@
 use crate::schedulers::{PORT, one_flow, packet, scheduler};
 use codel_core::CodelState;
 use packet_core::{Ecn, EcnUse, Packet, ParamFields};
-use sched_core::FlowView;
+use sched_core::{FlowView, Sched};
 use std::process::Abort;
 use std::test::Fail;
 
@@ -16,14 +16,20 @@ fn view_behind(
     moments: &[u64],
 ) -> Result<FlowView, Fail> {
     let mut sched = scheduler(rt, fields)?;
+    pass(&mut sched, packets, packet, moments)?;
+    assert!(rt; 0 < sched.params().flows());
+    Ok(sched.flow_view(0))
+}
+
+/// So many packets come at 0, and then there are dequeues at those moments.
+fn pass(sched: &mut Sched, packets: u64, packet: Packet, moments: &[u64]) -> Result<(), Fail> {
     for _ in 0..packets {
         sched.enqueue(0, 0, packet)?;
     }
     for &moment in moments {
         sched.dequeue(moment)?;
     }
-    assert!(rt; 0 < sched.params().flows());
-    Ok(sched.flow_view(0))
+    Ok(())
 }
 
 /// What is kept of a flow no packet of which has waited too long.

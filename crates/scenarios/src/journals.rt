@@ -2,14 +2,12 @@
 
 use crate::schedulers::{PORT, arrive, four_flows, one_flow, packet, scheduler, tuple};
 use packet_core::{Ecn, Packet};
-use sched_core::{Cause, Event, Mark, TupleRow};
+use sched_core::{Cause, Event, Mark, Sched, TupleRow};
+use std::process::Abort;
 use std::test::Fail;
 
-#[test]
-fn events_tell_lanes_and_moments(rt: HostRuntime) -> Result<(), Fail> {
-    let mut fields = four_flows();
-    fields.limit = 1;
-    let mut sched = scheduler(&rt, fields)?;
+/// Two packets come, the first of which overflows, and the second leaves.
+fn expect_events(rt: &impl Abort, sched: &mut Sched) -> Result<(), Fail> {
     let first = packet(1, 200, Ecn::NotEct)?;
     let second = packet(2, 100, Ecn::Ect0)?;
     sched.enqueue(1, 7, first)?;
@@ -47,8 +45,14 @@ fn events_tell_lanes_and_moments(rt: HostRuntime) -> Result<(), Fail> {
 }
 
 #[test]
-fn rows_in_order_of_first_acceptance(rt: HostRuntime) -> Result<(), Fail> {
-    let mut sched = scheduler(&rt, one_flow())?;
+fn events_tell_lanes_and_moments(rt: HostRuntime) -> Result<(), Fail> {
+    let mut fields = four_flows();
+    fields.limit = 1;
+    expect_events(&rt, &mut scheduler(&rt, fields)?)
+}
+
+/// Three packets of two five-tuples come, and one leaves.
+fn expect_rows(rt: &impl Abort, sched: &mut Sched) -> Result<(), Fail> {
     for sport in [5001, 5000, 5001] {
         let packet = Packet::try_new(tuple(sport, PORT), 1_000, Ecn::NotEct)?;
         sched.enqueue(0, 0, packet)?;
@@ -72,6 +76,11 @@ fn rows_in_order_of_first_acceptance(rt: HostRuntime) -> Result<(), Fail> {
     };
     assert_eq!(rt; sched.tuple_rows()?.as_slice(), [first, second].as_slice());
     Ok(())
+}
+
+#[test]
+fn rows_in_order_of_first_acceptance(rt: HostRuntime) -> Result<(), Fail> {
+    expect_rows(&rt, &mut scheduler(&rt, one_flow())?)
 }
 
 #[test]

@@ -2,7 +2,7 @@
 
 use crate::schedulers::{four_flows, packet, scheduler};
 use packet_core::{Ecn, Params, Seed};
-use sched_core::{Engine, Event, Keeps, Sched, Step, Unstored};
+use sched_core::{Engine, Event, Keeps, Sched, Step, Totals, Unstored};
 use std::process::Abort;
 use std::test::Fail;
 
@@ -17,17 +17,28 @@ fn make_steps<K: Keeps<Event>>(sched: &mut Sched<K>) -> Result<(), Fail> {
     Ok(())
 }
 
+/// The totals behind a million steps, with every event stored.
+fn totals_of_stored(rt: &impl AllocGlobal) -> Result<Totals, Fail> {
+    let mut sched = scheduler(rt, four_flows())?;
+    make_steps(&mut sched)?;
+    Ok(sched.totals())
+}
+
+/// The totals behind the same steps, with no event stored.
+fn totals_of_unstored(rt: &impl AllocGlobal) -> Result<Totals, Fail> {
+    let params = Params::try_new(four_flows())?;
+    let mut sched = Sched::try_with_keeper(rt.alloc(), params, Seed([0; 16]), Unstored::new())?;
+    make_steps(&mut sched)?;
+    Ok(sched.totals())
+}
+
 #[test]
 fn totals_without_stored_events(rt: HostRuntime) -> Result<(), Fail> {
-    let mut stored = scheduler(&rt, four_flows())?;
-    make_steps(&mut stored)?;
-    let params = Params::try_new(four_flows())?;
-    let mut unstored = Sched::try_with_keeper(rt.alloc(), params, Seed([0; 16]), Unstored::new())?;
-    make_steps(&mut unstored)?;
-    assert_eq!(rt; unstored.totals(), stored.totals());
-    assert_eq!(rt; unstored.totals().accepted, 750_000);
-    assert!(rt; unstored.totals().dropped_codel > 0);
-    assert!(rt; unstored.totals().dropped_overflow > 0);
+    let totals = totals_of_unstored(&rt)?;
+    assert_eq!(rt; totals, totals_of_stored(&rt)?);
+    assert_eq!(rt; totals.accepted, 750_000);
+    assert!(rt; totals.dropped_codel > 0);
+    assert!(rt; totals.dropped_overflow > 0);
     Ok(())
 }
 
@@ -43,21 +54,34 @@ fn make_engine_steps<K: Keeps<Event>, S: Keeps<Step>>(
     Ok(())
 }
 
-#[test]
-fn engine_without_stored_steps(rt: HostRuntime) -> Result<(), Fail> {
+/// The totals of an engine that stores its events and its steps, and the number of its steps.
+fn totals_of_stored_engine(rt: &impl AllocGlobal) -> Result<(Totals, usize), Fail> {
     let params = Params::try_new(four_flows())?;
-    let mut stored = Engine::try_new(rt.alloc(), params, Seed([0; 16]))?;
-    make_engine_steps(&mut stored)?;
-    assert_eq!(rt; stored.steps().len(), 101);
-    let mut unstored = Engine::try_with_keepers(
+    let mut engine = Engine::try_new(rt.alloc(), params, Seed([0; 16]))?;
+    make_engine_steps(&mut engine)?;
+    Ok((engine.totals(), engine.steps().len()))
+}
+
+/// The totals of an engine that stores neither.
+fn totals_of_unstored_engine(rt: &impl AllocGlobal) -> Result<Totals, Fail> {
+    let params = Params::try_new(four_flows())?;
+    let seed = Seed([0; 16]);
+    let mut engine = Engine::try_with_keepers(
         rt.alloc(),
         params,
-        Seed([0; 16]),
+        seed,
         Unstored::new(),
         Unstored::new(),
     )?;
-    make_engine_steps(&mut unstored)?;
-    assert_eq!(rt; unstored.totals(), stored.totals());
-    assert_eq!(rt; unstored.totals().sent, 50);
+    make_engine_steps(&mut engine)?;
+    Ok(engine.totals())
+}
+
+#[test]
+fn engine_without_stored_steps(rt: HostRuntime) -> Result<(), Fail> {
+    let (totals, steps) = totals_of_stored_engine(&rt)?;
+    assert_eq!(rt; steps, 101);
+    assert_eq!(rt; totals_of_unstored_engine(&rt)?, totals);
+    assert_eq!(rt; totals.sent, 50);
     Ok(())
 }

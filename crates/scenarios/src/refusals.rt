@@ -25,9 +25,8 @@ fn expect_waiting(
     Ok(())
 }
 
-#[test]
-fn backwards_refused(rt: HostRuntime) -> Result<(), Fail> {
-    let mut sched = scheduler(&rt, one_flow())?;
+/// Calls before the last moment are refused.
+fn expect_backwards(rt: &impl Abort, sched: &mut Sched) -> Result<(), Fail> {
     let packet = packet(PORT, 1_000, Ecn::NotEct)?;
     let admitted = Admitted {
         id: 0,
@@ -38,12 +37,16 @@ fn backwards_refused(rt: HostRuntime) -> Result<(), Fail> {
     let fault = MomentFault::Backwards { last: 10 };
     assert_eq!(rt; sched.dequeue(9), Err(fault));
     assert_eq!(rt; sched.close(9), Err(CloseFault::Moment(fault)));
-    expect_waiting(&rt, &mut sched, 10, packet)
+    expect_waiting(rt, sched, 10, packet)
 }
 
 #[test]
-fn closing_refuses_later_packets(rt: HostRuntime) -> Result<(), Fail> {
-    let mut sched = scheduler(&rt, one_flow())?;
+fn backwards_refused(rt: HostRuntime) -> Result<(), Fail> {
+    expect_backwards(&rt, &mut scheduler(&rt, one_flow())?)
+}
+
+/// Behind a close packets and a second close are refused.
+fn expect_closed(rt: &impl Abort, sched: &mut Sched) -> Result<(), Fail> {
     let packet = packet(PORT, 1_000, Ecn::NotEct)?;
     sched.enqueue(5, 0, packet)?;
     assert!(rt; !sched.is_closed());
@@ -53,5 +56,10 @@ fn closing_refuses_later_packets(rt: HostRuntime) -> Result<(), Fail> {
     assert_eq!(rt; sched.enqueue(4, 0, packet), Err(Refusal::Moment(fault)));
     assert_eq!(rt; sched.enqueue(9, 0, packet), Err(Refusal::ClosedAlready));
     assert_eq!(rt; sched.close(9), Err(CloseFault::ClosedAlready));
-    expect_waiting(&rt, &mut sched, 6, packet)
+    expect_waiting(rt, sched, 6, packet)
+}
+
+#[test]
+fn closing_refuses_later_packets(rt: HostRuntime) -> Result<(), Fail> {
+    expect_closed(&rt, &mut scheduler(&rt, one_flow())?)
 }

@@ -18,14 +18,11 @@ fn expect_turns(
     Ok(())
 }
 
-#[test]
-fn small_quantum_two_flows(rt: HostRuntime) -> Result<(), Fail> {
-    let mut fields = four_flows();
-    fields.quantum = 300;
-    let mut sched = scheduler(&rt, fields)?;
+/// The turns of two flows with a quantum of 300 bytes.
+fn expect_turns_of_two(rt: &impl Abort, sched: &mut Sched) -> Result<(), Fail> {
     assert_eq!(rt; sched.turns(), 0);
-    arrive(&mut sched, 1, 2, 500)?;
-    arrive(&mut sched, 2, 2, 200)?;
+    arrive(sched, 1, 2, 500)?;
+    arrive(sched, 2, 2, 200)?;
     // The flow 1 owes 200 bytes behind its first packet, and a turn gives it a quantum; so it is with the flow 2
     // behind its second. At the last dequeue the flow 1 owes 400 bytes: it gets a quantum twice, and both flows leave.
     for (given, turns) in [
@@ -35,18 +32,29 @@ fn small_quantum_two_flows(rt: HostRuntime) -> Result<(), Fail> {
         (Some(1), 2),
         (None, 4),
     ] {
-        expect_turns(&rt, &mut sched, given, turns)?;
+        expect_turns(rt, sched, given, turns)?;
     }
     Ok(())
+}
+
+#[test]
+fn small_quantum_two_flows(rt: HostRuntime) -> Result<(), Fail> {
+    let mut fields = four_flows();
+    fields.quantum = 300;
+    expect_turns_of_two(&rt, &mut scheduler(&rt, fields)?)
+}
+
+/// The turns of a flow with a quantum of one byte.
+fn expect_many_turns(rt: &impl Abort, sched: &mut Sched) -> Result<(), Fail> {
+    arrive(sched, PORT, 2, 65_535)?;
+    // It owes 65,534 bytes behind the first packet, and gets one byte a turn.
+    expect_turns(rt, sched, Some(0), 1)?;
+    expect_turns(rt, sched, Some(1), 65_536)
 }
 
 #[test]
 fn giant_packets_small_quantum(rt: HostRuntime) -> Result<(), Fail> {
     let mut fields = one_flow();
     fields.quantum = 1;
-    let mut sched = scheduler(&rt, fields)?;
-    arrive(&mut sched, PORT, 2, 65_535)?;
-    // It owes 65,534 bytes behind the first packet, and gets one byte a turn.
-    expect_turns(&rt, &mut sched, Some(0), 1)?;
-    expect_turns(&rt, &mut sched, Some(1), 65_536)
+    expect_many_turns(&rt, &mut scheduler(&rt, fields)?)
 }
