@@ -65,8 +65,44 @@ fn serve(
     served.map(|s| (s.waiting.id, s.waiting.packet.ecn(), s.mark))
 }
 
-/// Packets of `len` bytes with those fields come at 0, numbered from 0, and between them one to another flow. CoDel
-/// begins in a state, and serves at some moments; compares what it tells at each.
+/// Packets of `len` bytes with those fields come to flow 1 at 0, numbered from 0, and one before them to flow 0.
+fn arrive(rt: &impl Abort, flows: &mut Flows, len: u32, codes: &[Ecn]) -> Result<(), Fail> {
+    push(rt, flows, 0, waiting(99, 1000, Ecn::NotEct)?)?;
+    let mut id = 0u64;
+    for &ecn in codes {
+        push(rt, flows, 1, waiting(id, len, ecn)?)?;
+        id = id.wrapping_add(1);
+    }
+    Ok(())
+}
+
+/// CoDel begins in a state, and serves flow 1 at some moments; compares what it tells at each.
+fn compare_serves(
+    rt: &impl Abort,
+    params: &Params,
+    flows: &mut Flows,
+    before: CodelState,
+    serves: &[(u64, Told)],
+) {
+    let mut sink = Dropped {
+        count: 0,
+        last: None,
+        room: 20,
+    };
+    let mut codel = Codel::from_state(before);
+    for &(now, told) in serves {
+        let given = serve(rt, flows, &mut codel, now, params, &mut sink);
+        assert_eq!(rt;
+            (given, sink.count, sink.last, codel.state()),
+            told,
+            "at {now}"
+        );
+    }
+    assert!(rt; 0 < flows.flows());
+    assert_eq!(rt; flows.len(0), 1);
+}
+
+/// Packets of `len` bytes with those fields come at 0, and CoDel, which begins in a state, serves them.
 fn expect_serves(
     rt: &(impl Abort + AllocGlobal),
     fields: ParamFields,
@@ -76,29 +112,9 @@ fn expect_serves(
 ) -> Result<(), Fail> {
     let params = Params::try_new(fields)?;
     let mut flows = Flows::try_new(rt.alloc(), 2)?;
-    push(rt, &mut flows, 0, waiting(99, 1000, Ecn::NotEct)?)?;
     let (len, codes) = packets;
-    let mut id = 0u64;
-    for &ecn in codes {
-        push(rt, &mut flows, 1, waiting(id, len, ecn)?)?;
-        id = id.wrapping_add(1);
-    }
-    let mut sink = Dropped {
-        count: 0,
-        last: None,
-        room: 20,
-    };
-    let mut codel = Codel::from_state(before);
-    for &(now, told) in serves {
-        let given = serve(rt, &mut flows, &mut codel, now, &params, &mut sink);
-        assert_eq!(rt;
-            (given, sink.count, sink.last, codel.state()),
-            told,
-            "at {now}"
-        );
-    }
-    assert!(rt; 0 < flows.flows());
-    assert_eq!(rt; flows.len(0), 1);
+    arrive(rt, &mut flows, len, codes)?;
+    compare_serves(rt, &params, &mut flows, before, serves);
     Ok(())
 }
 

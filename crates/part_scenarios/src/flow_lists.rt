@@ -2,6 +2,7 @@
 
 use crate::queued::next;
 use flow_core::{Flows, Memory};
+use std::process::Abort;
 use std::test::Fail;
 
 /// One of the four moves, where there is a flow for it.
@@ -63,19 +64,21 @@ fn make_plain_move(
     Ok(())
 }
 
-#[test]
-fn lists_under_moves(rt: HostRuntime) -> Result<(), Fail> {
-    let mut flows = Flows::try_new(rt.alloc(), 5)?;
-    let mut new = Vec::new(rt.alloc());
-    let mut old = Vec::new(rt.alloc());
+/// A thousand moves of five flows, and the same of two plain lists.
+fn compare_moves(
+    rt: &impl Abort,
+    flows: &mut Flows,
+    new: &mut Vec<u32>,
+    old: &mut Vec<u32>,
+) -> Result<(), Fail> {
     let mut seed = 2;
     for _ in 0..1000 {
         let (after, random) = next(seed);
         seed = after;
         let flow = (random % 5) as u32;
         let which = random / 5 % 5 % 4;
-        make_move(&mut flows, which, flow);
-        make_plain_move(&mut new, &mut old, which, flow)?;
+        make_move(flows, which, flow);
+        make_plain_move(new, old, which, flow)?;
         assert_eq!(rt; flows.head_new(), new.first().copied());
         assert_eq!(rt; flows.head_old(), old.first().copied());
         assert_eq!(rt;
@@ -84,4 +87,11 @@ fn lists_under_moves(rt: HostRuntime) -> Result<(), Fail> {
         );
     }
     Ok(())
+}
+
+#[test]
+fn lists_under_moves(rt: HostRuntime) -> Result<(), Fail> {
+    let mut flows = Flows::try_new(rt.alloc(), 5)?;
+    let (mut new, mut old) = (Vec::new(rt.alloc()), Vec::new(rt.alloc()));
+    compare_moves(&rt, &mut flows, &mut new, &mut old)
 }

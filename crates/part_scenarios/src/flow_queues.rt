@@ -80,17 +80,16 @@ fn fattest_as_by_a_scan(rt: HostRuntime) -> Result<(), Fail> {
     compare_with_scans(&rt, &mut flows)
 }
 
-/// Those flows get a packet each, in turn, of that length. Gives the number of comparisons for the last one.
-fn comparisons_of_last(
-    rt: &impl Abort,
-    flows: &mut Flows,
-    packets: &[(u32, u32)],
-) -> Result<u64, Fail> {
-    for &packet in packets {
-        flows.clear_comparisons();
-        push_all(rt, flows, &[packet])?;
-    }
-    Ok(flows.comparisons())
+/// A flow gets two packets, the second of which takes one comparison.
+fn expect_one_comparison(rt: &impl Abort, flows: &mut Flows, flow: u32) -> Result<(), Fail> {
+    assert_eq!(rt; flows.comparisons(), 0);
+    push_all(rt, flows, &[(flow, 100)])?;
+    flows.clear_comparisons();
+    push_all(rt, flows, &[(flow, 100)])?;
+    assert_eq!(rt; flows.comparisons(), 1);
+    assert_eq!(rt; flows.fattest(), Some(flow));
+    assert_eq!(rt; flows.comparisons(), 1);
+    Ok(())
 }
 
 #[test]
@@ -99,11 +98,7 @@ fn a_flow_that_wins_compares_once_as_it_grows(rt: HostRuntime) -> Result<(), Fai
         assert!(rt; count >= 1);
         assert!(rt; count <= MAX_FLOWS);
         let mut flows = Flows::try_new(rt.alloc(), count)?;
-        assert_eq!(rt; flows.comparisons(), 0);
-        let made = comparisons_of_last(&rt, &mut flows, &[(flow, 100), (flow, 100)])?;
-        assert_eq!(rt; made, 1);
-        assert_eq!(rt; flows.fattest(), Some(flow));
-        assert_eq!(rt; flows.comparisons(), 1);
+        expect_one_comparison(&rt, &mut flows, flow)?;
     }
     Ok(())
 }
