@@ -7,12 +7,14 @@
 
 mod decimal;
 mod faults;
+mod journal_report;
 mod reader;
 mod report;
 mod row;
 mod streams;
 mod trace_run;
 
+pub use journal_report::{SenderRow, write_journal};
 pub use faults::{MAX_BYTES, MAX_ROWS, TraceFault, TraceFaultKind};
 pub use reader::{read_trace, read_trace_from};
 pub use streams::{Sink, Source};

@@ -151,7 +151,7 @@ fn run_step(sched: &mut Sched, step: &Step, report: &mut Rows) -> Result<(), Mem
 }
 
 /// Writes the whole of a text. Where the sink fails, the front of the text is written.
-fn write_text<S: Sink>(sink: &mut S, text: &[u8]) -> Result<(), RunFault>
+pub(crate) fn write_text<S: Sink>(sink: &mut S, text: &[u8]) -> Result<(), RunFault>
     ensures whole { OnOk result (S.Wrote sink.old text.now sink.new) }
     ensures front { OnErr result ((count : ℕ) × S.Wrote sink.old (take count text.now) sink.new) }
     ensures failed { OnErr result (S.HasFailed sink.new) }
