@@ -24,10 +24,10 @@ pub struct SenderRow {
     pub left: u64,
 }
 
-/// Writes the journal of an engine: a row for each event in its order, a row with the totals, a row for each five-tuple in
-/// order of first acceptance, and a row for each of the senders. The whole text is made before the first byte of it is
-/// written, and the writer isn't flushed. It fails for want of memory, with nothing written, and where a write fails or
-/// takes nothing, with a front of the text written.
+/// Writes the journal of an engine: a row for each event in its order, a row with the totals, a row for each
+/// five-tuple in order of first acceptance, and a row for each of the senders. The whole text is made before the first
+/// byte of it is written, and the writer isn't flushed. It fails for want of memory, with nothing written, and where a
+/// write fails or takes nothing, with a front of the text written.
 pub fn write_journal<W: Write>(
     alloc: Global,
     writer: &mut W,
@@ -46,8 +46,8 @@ pub fn write_journal<W: Write>(
     write_journal_to(alloc, &mut Watched::new(writer), engine, senders)
 }
 
-/// The same as `write_journal`, to a sink, which tells whether it has failed. For a caller whose writer can tell that:
-/// `Write` is answered only where the sink has failed.
+/// The same as `write_journal`, to a sink, which tells whether it has failed. For a caller whose writer can tell
+/// that: `Write` is answered only where the sink has failed.
 pub fn write_journal_to<K: Sink>(
     alloc: Global,
     sink: &mut K,
