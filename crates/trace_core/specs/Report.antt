@@ -114,10 +114,14 @@ tuple_row row =
 abbrev pub tuple_line : TupleRow → List ℕ
 tuple_line row = line_of (tuple_row row)
 
+-- the fields of the row of a sender
+abbrev pub sender_row : SenderRow → List (List ℕ)
+sender_row row =
+    codes "sender" ∷ decimal row.sender ∷ decimal row.submitted ∷ decimal row.accepted ∷ decimal row.left ∷ []
+
 -- the row of a sender
 abbrev pub sender_line : SenderRow → List ℕ
-sender_line row =
-    line_of (codes "sender" ∷ decimal row.sender ∷ decimal row.submitted ∷ decimal row.accepted ∷ decimal row.left ∷ [])
+sender_line row = line_of (sender_row row)
 
 -- The text of a journal: a row for each event, the row of the totals, the row of each five-tuple, in order of first
 -- acceptance, and that of each sender.
