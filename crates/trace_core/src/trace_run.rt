@@ -27,7 +27,7 @@ pub enum RunFault {
     /// A growth was refused, beside those of the reading of the trace. Nothing was written.
     #[error("memory")]
     Memory,
-    /// A write failed or took nothing. What was written is the front of the report.
+    /// A write failed or took nothing. What was written is a front of the report, or of the journal.
     #[error("write")]
     Write,
 }
