@@ -12,6 +12,7 @@ pub mod CountLemmas
 pub mod KnownPackets
 pub mod WaitingPackets
 pub mod RunLemmas
+pub mod StepTotals
 pub mod RunsWithoutRefused
 pub mod TallyLemmas
 pub mod Walks

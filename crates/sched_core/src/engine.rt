@@ -41,7 +41,7 @@ impl<K: Keeps<Event>, S: Keeps<Step>> Engine<K, S> {
     ghost use Rattle.journal_core.specs.Runs.{IsRunOf, Takes, unless_refused};
     ghost use Rattle.sched_core.specs.Schedulers.{ComparesFew, IsAdvanced, IsServed, discipline_of, flows_of};
     ghost use Rattle.fair_core.specs.Shown.{flow_shown};
-    ghost use Rattle.journal_core.specs.State.{refusal_of, IsRefusal};
+    ghost use Rattle.journal_core.specs.State.{refusal_of, IsRefusal, Tests};
     ghost use Rattle.journal_core.specs.Statistics.{statistics};
     ghost use Rattle.journal_core.specs.declared.step.Step.TheVariants.{Enqueue, Dequeue, Close};
     ghost use Rattle.journal_core.specs.declared.outcome.Answer.TheVariants as answer;
@@ -161,6 +161,13 @@ impl<K: Keeps<Event>, S: Keeps<Step>> Engine<K, S> {
         self.steps.tell(step);
         self.room = self.room.saturating_sub(1);
         Ok(())
+    }
+
+    /// Why a step of any kind would be refused now, if it would, apart from want of memory. It changes nothing.
+    pub fn test(&self, step: &Step) -> Result<(), Refusal>
+        ensures { Tests (refusal_of self.now.sched.standing.state step.now) result }
+    {
+        self.sched.test(step)
     }
 
     /// Makes a step of any kind as the call for its kind does, and answers as a run does: where the step is refused the

@@ -33,6 +33,7 @@ use Rattle.journal_core.specs.declared.step.Step.{Step}
 use Rattle.sched_core.specs.Schedulers.{Scheduler, discipline_of}
 use Rattle.journal_core.specs.Steps.{Steps}
 use Rattle.trace_core.specs.Traces.{steps_of, trace_of}
+use Rattle.trace_core.specs.declared.journal_report.SenderRow.{SenderRow}
 use Rattle.trace_core.specs.declared.report.Rows.{Rows}
 
 -- a row: its fields with a comma between each two, and one line feed
@@ -112,6 +113,22 @@ tuple_row row =
 -- the row of a five-tuple
 abbrev pub tuple_line : TupleRow → List ℕ
 tuple_line row = line_of (tuple_row row)
+
+-- the fields of the row of a sender
+abbrev pub sender_row : SenderRow → List (List ℕ)
+sender_row row =
+    codes "sender" ∷ decimal row.sender ∷ decimal row.submitted ∷ decimal row.accepted ∷ decimal row.left ∷ []
+
+-- the row of a sender
+abbrev pub sender_line : SenderRow → List ℕ
+sender_line row = line_of (sender_row row)
+
+-- The text of a journal: a row for each event, the row of the totals, the row of each five-tuple, in order of first
+-- acceptance, and that of each sender.
+abbrev pub journal_text : List Event → List SenderRow → List ℕ
+journal_text events senders =
+    ((flat_map event_line events ++ line_of (totals_row (statistics events)))
+    ++ flat_map tuple_line (tuple_rows events)) ++ flat_map sender_line senders
 
 -- The report of a run: the rows of each step, in order, the row of the totals of the whole journal, and the row of
 -- each five-tuple, in order of first acceptance.

@@ -7,6 +7,7 @@
 
 mod decimal;
 mod faults;
+mod journal_report;
 mod reader;
 mod report;
 mod row;
@@ -14,6 +15,7 @@ mod streams;
 mod trace_run;
 
 pub use faults::{MAX_BYTES, MAX_ROWS, TraceFault, TraceFaultKind};
+pub use journal_report::{SenderRow, write_journal, write_journal_to};
 pub use reader::{read_trace, read_trace_from};
 pub use streams::{Sink, Source};
 pub use trace_run::{RunFault, run, run_between};

@@ -7,9 +7,12 @@ ghost use Rattle.packet_core.specs.Packets.{ip_bytes};
 ghost use Rattle.trace_core.specs.Report as Report;
 
 use crate::decimal::Digits;
+use crate::journal_report::SenderRow;
 use csv::{QuoteStyle, Writer, WriterBuilder};
 use packet_core::{Ecn, Ip};
-use sched_core::{Answer, Cause, Event, Memory, MomentFault, Refusal, Sched, Totals, TupleRow};
+use sched_core::{
+    Answer, Cause, Engine, Event, Memory, MomentFault, Refusal, Sched, Totals, TupleRow,
+};
 use std::alloc::{AllocError, Global};
 
 /// The rows of a report, as they are written.
@@ -47,6 +50,24 @@ impl Rows {
         self.into_text()
     }
 
+    /// The text of an engine's journal: the rows so far, of which there are none, a row for each event, the row of the
+    /// totals, a row for each five-tuple, and a row for each sender. It fails for want of memory alone.
+    pub(crate) fn journal(
+        mut self,
+        engine: &Engine,
+        senders: &[SenderRow],
+    ) -> Result<Vec<u8>, Memory>
+        requires { Report.HasText self [] }
+        ensures { IfOk result (λ text. text.items ≡ Report.journal_text engine.now.sched.standing.events senders.now) }
+    {
+        self.events(engine.events())?;
+        self.totals(&engine.totals())?;
+        let tuple_rows = engine.tuple_rows()?;
+        self.tuples(&tuple_rows)?;
+        self.senders(senders)?;
+        self.into_text()
+    }
+
     /// The text of all rows.
     fn into_text(self) -> Result<Vec<u8>, Memory>
         ensures { IfOk result (λ text. (written : List ℕ)
@@ -72,10 +93,18 @@ impl Rows {
         ensures { OnOk result (Report.Adds self.old self.new
             (flat_map Report.event_line own_events.now ++ Report.answer_lines answer)) }
     {
-        for event in own_events {
+        self.events(own_events)?;
+        self.answer(answer)
+    }
+
+    /// The rows of events.
+    fn events(&mut self, events: &[Event]) -> Result<(), Memory>
+        ensures { OnOk result (Report.Adds self.old self.new (flat_map Report.event_line events.now)) }
+    {
+        for event in events {
             self.event(event)?;
         }
-        self.answer(answer)
+        Ok(())
     }
 
     /// The row of a step that made none, by its answer.
@@ -204,6 +233,33 @@ impl Rows {
             sent.as_bytes(),
             dropped.as_bytes(),
             queued.as_bytes(),
+        ])
+    }
+
+    /// The rows of senders.
+    fn senders(&mut self, senders: &[SenderRow]) -> Result<(), Memory>
+        ensures { OnOk result (Report.Adds self.old self.new (flat_map Report.sender_line senders.now)) }
+    {
+        for sender in senders {
+            self.sender(sender)?;
+        }
+        Ok(())
+    }
+
+    /// The row of a sender.
+    fn sender(&mut self, row: &SenderRow) -> Result<(), Memory>
+        ensures { OnOk result (Report.Adds self.old self.new (Report.sender_line row.now)) }
+    {
+        let sender = Digits::of(u64::from(row.sender));
+        let submitted = Digits::of(row.submitted);
+        let accepted = Digits::of(row.accepted);
+        let left = Digits::of(row.left);
+        self.row(&[
+            b"sender",
+            sender.as_bytes(),
+            submitted.as_bytes(),
+            accepted.as_bytes(),
+            left.as_bytes(),
         ])
     }
 

@@ -30,7 +30,7 @@ pub enum RunFault {
     /// A growth was refused, beside those of the reading of the trace. Nothing was written.
     #[error("memory")]
     Memory,
-    /// A write failed or took nothing. What was written is the front of the report.
+    /// A write failed or took nothing. What was written is a front of the report, or of the journal.
     #[error("write")]
     Write,
 }
@@ -166,7 +166,7 @@ fn run_step(sched: &mut Sched, step: &Step, report: &mut Rows) -> Result<(), Mem
 }
 
 /// Writes the whole of a text. Where the sink fails, the front of the text is written.
-fn write_text<S: Sink>(sink: &mut S, text: &[u8]) -> Result<(), RunFault>
+pub(crate) fn write_text<S: Sink>(sink: &mut S, text: &[u8]) -> Result<(), RunFault>
     ensures whole { OnOk result (S.Wrote sink.old text.now sink.new) }
     ensures front { OnErr result ((count : ℕ) × S.Wrote sink.old (take count text.now) sink.new) }
     ensures failed { OnErr result (S.HasFailed sink.new) }

@@ -1,0 +1,4 @@
+pub mod BookLemmas
+pub mod MetLemmas
+pub mod SeatLemmas
+pub mod SenderLemmas

@@ -1,0 +1,46 @@
+//! What holds a sender up before a call, and why it stopped.
+
+use sched_core::Refusal;
+use std::thread;
+
+/// A sender asks its gate so often for one call.
+const MAX_ASKINGS: u32 = 1_000_000;
+
+/// What lets a sender make its calls, in the order that a test or a trace wants.
+pub trait Gate {
+    /// Whether the call may be made; calls count from 1. Whoever is asked for a call knows that the one before it was
+    /// answered. The gate may wait a little before it answers false, and is asked again then.
+    fn pass(&self, call: u64) -> bool;
+}
+
+/// A gate that is always open.
+#[derive(Clone, Copy, Debug)]
+pub struct Open;
+
+impl Gate for Open {
+    fn pass(&self, _call: u64) -> bool {
+        true
+    }
+}
+
+/// Why a sender stopped.
+#[derive(Clone, Copy, Debug, PartialEq, Eq)]
+pub enum Stop {
+    /// It made a call for each packet.
+    Done,
+    /// Its gate stayed closed.
+    Stalled,
+    /// A call was refused, and not since the port is closed.
+    Refused(Refusal),
+}
+
+/// Asks the gate until it opens, but not too often.
+pub(crate) fn passes(gate: &impl Gate, call: u64) -> bool {
+    for _ in 0..MAX_ASKINGS {
+        if gate.pass(call) {
+            return true;
+        }
+        thread::yield_now();
+    }
+    false
+}

@@ -1,0 +1,69 @@
+//! The text of an engine's journal, with what each of its senders did.
+ghost use Rattle.std.specs.Prelude.{◌≡◌, ◌≢◌, ℕ, IfErr, OnOk, take};
+ghost use Rattle.std.specs.Io.KnownBytes.{Appends, Keeps};
+ghost use Rattle.trace_core.specs.Report.{journal_text};
+ghost use Rattle.trace_core.specs.declared.trace_run.RunFault.TheVariants as RunFault;
+
+use crate::report::Rows;
+use crate::streams::{Sink, Watched};
+use crate::trace_run::{RunFault, write_text};
+use sched_core::Engine;
+use std::alloc::Global;
+use std::io::Write;
+
+/// What became of the packets of one sender.
+#[derive(Clone, Copy, Debug, PartialEq, Eq)]
+pub struct SenderRow {
+    /// The sender's number.
+    pub sender: u32,
+    /// Packets that it submitted.
+    pub submitted: u64,
+    /// Packets of these that were accepted.
+    pub accepted: u64,
+    /// Packets of these that were left behind the close.
+    pub left: u64,
+}
+
+/// Writes the journal of an engine: a row for each event in its order, a row with the totals, a row for each
+/// five-tuple in order of first acceptance, and a row for each of the senders. The whole text is made before the first
+/// byte of it is written, and the writer isn't flushed. It fails for want of memory, with nothing written, and where a
+/// write fails or takes nothing, with a front of the text written.
+pub fn write_journal<W: Write>(
+    alloc: Global,
+    writer: &mut W,
+    engine: &Engine,
+    senders: &[SenderRow],
+) -> Result<(), RunFault>
+    ensures text { OnOk result (Appends (W.contents writer.old) (W.contents writer.new)
+        (journal_text engine.now.sched.standing.events senders.now)) }
+    ensures front { IfErr result (λ fault. fault ≡ RunFault.Write
+        → (count : ℕ) × Appends (W.contents writer.old) (W.contents writer.new)
+        (take count (journal_text engine.now.sched.standing.events senders.now))) }
+    ensures memory { IfErr result (λ fault. (fault ≢ RunFault.Write) → fault ≡ RunFault.Memory) }
+    ensures untouched { IfErr result (λ fault. (fault ≢ RunFault.Write)
+        → Keeps (W.contents writer.old) (W.contents writer.new)) }
+{
+    write_journal_to(alloc, &mut Watched::new(writer), engine, senders)
+}
+
+/// The same as `write_journal`, to a sink, which tells whether it has failed. For a caller whose writer can tell
+/// that: `Write` is answered only where the sink has failed.
+pub fn write_journal_to<K: Sink>(
+    alloc: Global,
+    sink: &mut K,
+    engine: &Engine,
+    senders: &[SenderRow],
+) -> Result<(), RunFault>
+    ensures text { OnOk result (K.Wrote sink.old
+        (journal_text engine.now.sched.standing.events senders.now) sink.new) }
+    ensures front { IfErr result (λ fault. fault ≡ RunFault.Write → (count : ℕ)
+        × K.Wrote sink.old (take count (journal_text engine.now.sched.standing.events senders.now)) sink.new) }
+    ensures memory { IfErr result (λ fault. (fault ≢ RunFault.Write) → fault ≡ RunFault.Memory) }
+    ensures untouched { IfErr result (λ fault. (fault ≢ RunFault.Write) → sink.new ≡ sink.old) }
+
+    // Write comes only where the sink has failed.
+    ensures write { IfErr result (λ fault. fault ≡ RunFault.Write → K.HasFailed sink.new) }
+{
+    let text = Rows::new(alloc).journal(engine, senders)?;
+    write_text(sink, &text)
+}
