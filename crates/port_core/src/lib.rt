@@ -14,6 +14,3 @@ pub use gate::{Gate, Open, Stop};
 pub use port::{LockedPort, Unsettled, Why};
 pub use seat::{MAX_SEATS, PortSeat};
 pub use sender::{LockedDone, send_locked};
-
-#[cfg(test)]
-mod tests;
