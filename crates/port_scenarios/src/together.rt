@@ -182,12 +182,7 @@ fn at_nine_seats<
     A: Ledger + Send + Sync,
     S: Ledger + Send + Sync,
     R: Threads + Wait + Abort + Sync,
->(
-    rt: &R,
-    alloc: Global,
-    accepted: Blank,
-    sent: Blank,
-) -> Result<(), Fail>
+>(rt: &R, alloc: Global, accepted: Blank, sent: Blank) -> Result<(), Fail>
     requires accepted { (accepted.name ≡ A.name) × (accepted.parts ≡ A.parts) × (A.parts ≡ 9) }
     requires sent { (sent.name ≡ S.name) × (sent.parts ≡ S.parts) × (S.parts ≡ 9) }
 {
@@ -220,11 +215,7 @@ fn senders_and_device<
 }
 
 /// Each seat's sender has a thread of its own.
-fn send_all<
-    A: Ledger + Send + Sync,
-    S: Ledger + Send + Sync,
-    R: Threads + Wait + Sync,
->(
+fn send_all<A: Ledger + Send + Sync, S: Ledger + Send + Sync, R: Threads + Wait + Sync>(
     rt: &R,
     port: &LockedPort<A, S>,
     seats: Vec<PortSeat<A, S>>,
