@@ -171,8 +171,8 @@ fn in_turn<A: Ledger, S: Ledger, R: Wait>(
     Ok((send(rt, port, zero), send(rt, port, one)))
 }
 
-/// Eight senders and a device, each in a thread: whatever the schedule, each sender is told of its packets in their order,
-/// and the engine has all of them.
+/// Eight senders and a device, each in a thread: whatever the schedule, each sender is told of its packets in their
+/// order, and the engine has all of them.
 #[test]
 fn eight_senders_lose_nothing(rt: HostRuntime) -> Result<(), Fail> {
     at_nine_seats::<Brand, Brand, _>(&rt, rt.alloc(), Blank::new(9), Blank::new(9))
