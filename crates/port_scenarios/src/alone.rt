@@ -43,7 +43,7 @@ fn moments_rise<A: Ledger, S: Ledger, R: Wait + Abort>(
 ) -> Result<(), Fail> {
     accepts(rt, port, seat, 5, (0, 5))?;
     accepts(rt, port, seat, 3, (1, 5))?;
-    gives(rt, port, seat, 4, (0, 5))?;
+    gives(rt, port, seat, 4, (0, 5, 53))?;
     assert_eq!(rt; (seat.accepted(), seat.sent()), (2, 1));
     assert_eq!(rt; counted(&port.totals(rt, seat)), (2, 1));
     Ok(())
@@ -166,8 +166,8 @@ fn is_closed<A: Ledger, S: Ledger, R: Wait + Abort>(
     let late = port.enqueue(rt, seat, 9, packet(53)?);
     assert_eq!(rt; late.err(), Some(Refusal::ClosedAlready));
     assert_eq!(rt; port.close(rt, 9), Err(Refusal::ClosedAlready));
-    gives(rt, port, seat, 10, (0, 10))?;
-    gives(rt, port, seat, 10, (1, 10))?;
+    gives(rt, port, seat, 10, (0, 10, 53))?;
+    gives(rt, port, seat, 10, (1, 10, 54))?;
     assert_eq!(rt; port.dequeue(rt, seat, 10), Ok(None));
     Ok(())
 }

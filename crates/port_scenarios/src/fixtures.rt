@@ -52,16 +52,18 @@ pub(crate) fn accepts<A: Ledger, S: Ledger, R: Wait + Abort>(
     Ok(())
 }
 
-/// The seat's dequeue at `now` gives a packet with that id and that moment.
+/// The seat's dequeue at `now` gives the packet to that destination port, with that id and that moment.
 pub(crate) fn gives<A: Ledger, S: Ledger, R: Wait + Abort>(
     rt: &R,
     port: &LockedPort<A, S>,
     seat: &mut PortSeat<A, S>,
     now: u64,
-    wanted: (u64, u64),
+    wanted: (u64, u64, u16),
 ) -> Result<(), Fail> {
+    let (id, moment, dport) = wanted;
     let sent = port.dequeue(rt, seat, now)?.ok_or("a packet")?;
-    assert_eq!(rt; (sent.id, sent.moment), wanted);
+    assert_eq!(rt; (sent.id, sent.moment), (id, moment));
+    assert_eq!(rt; sent.packet, packet(dport)?);
     Ok(())
 }
 
