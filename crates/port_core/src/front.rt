@@ -1,7 +1,8 @@
 //! What lies under a port's lock: the engine, and the books of both ledgers.
 
-ghost use Rattle.std.specs.Prelude.{◌≡◌, ◌≤◌, ◌<◌, ◌+◌, ◌^◌, length, sum_by, max, IfOk, IfSome, IfNone, OnErr};
+ghost use Rattle.std.specs.Prelude.{◌≡◌, ◌≤◌, ◌<◌, ◌+◌, ◌^◌, length, sum_by, max, IfOk, IfErr, IfSome, IfNone, OnErr};
 ghost use Rattle.journal_core.specs.Statistics.{statistics};
+ghost use Rattle.journal_core.specs.declared.step.Refusal.TheVariants as refusal;
 ghost use Rattle.port_core.specs.Ports.{Refuses, sent_also, told_also};
 
 use crate::seat::PortSeat;
@@ -70,6 +71,7 @@ impl<A: Ledger, S: Ledger> Front<A, S> {
             (λ s. (now ≤ s.moment) × (seat.new ≡ sent_also seat.old))) }
         ensures none { IfOk result (λ sent. IfNone sent (seat.new ≡ seat.old)) }
         ensures refused { Refuses now result }
+        ensures memory { now < 2 ^ 60 → IfErr result (λ why. why ≡ refusal.Memory) }
         ensures unchanged { OnErr result (seat.new ≡ seat.old) }
     {
         let moment = self.moment(now);

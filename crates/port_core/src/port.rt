@@ -1,7 +1,8 @@
 //! The locked port: an engine that several threads use, one call at a time.
 
-ghost use Rattle.std.specs.Prelude.{◌≡◌, ◌≤◌, ◌<◌, ◌+◌, All, IfOk, IfErr, IfSome, IfNone, OnErr, OnOk, IsTrue, length, sum_by};
+ghost use Rattle.std.specs.Prelude.{◌≡◌, ◌≤◌, ◌<◌, ◌+◌, ◌^◌, All, IfOk, IfErr, IfSome, IfNone, OnErr, OnOk, IsTrue, length, sum_by};
 ghost use Rattle.journal_core.specs.Statistics.{statistics};
+ghost use Rattle.journal_core.specs.declared.step.Refusal.TheVariants as refusal;
 ghost use Rattle.port_core.specs.Ports.{Refuses, new_seats, of_lane, sent_also, told_also};
 ghost use Rattle.port_core.specs.declared.seat.TheConstants.{MAX_SEATS};
 ghost use Rattle.port_core.specs.declared.port.Why.TheVariants as why;
@@ -146,6 +147,7 @@ impl<A: Ledger, S: Ledger> LockedPort<A, S> {
             (λ s. (now ≤ s.moment) × (seat.new ≡ sent_also seat.old))) }
         ensures none { IfOk result (λ sent. IfNone sent (seat.new ≡ seat.old)) }
         ensures refused { Refuses now result }
+        ensures memory { now < 2 ^ 60 → IfErr result (λ why. why ≡ refusal.Memory) }
         ensures unchanged { OnErr result (seat.new ≡ seat.old) }
     {
         self.front.lock(rt).dequeue(seat, now)
