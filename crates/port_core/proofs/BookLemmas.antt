@@ -21,8 +21,8 @@ pub close_adds : (old new : Running) (moment : ℕ) (r : Result Unit Refusal) �
 close_adds old new moment (Ok _) made same = adds_closed (discipline_of old.sched) old.sched.standing new.sched.standing moment made.advances
 close_adds old new moment (Err why) made same = adds_nothing old new same
 
-pub enqueue_adds : (old new : Running) (moment lane : ℕ) (packet : PacketParts) → IsAdvanced old.sched (Enqueue moment lane packet) answer.Accepted new.sched → EngineAdds 1 0 old new
-enqueue_adds old new moment lane packet made = adds_accepted (discipline_of old.sched) old.sched.standing new.sched.standing moment lane packet made.advances
+pub enqueue_adds : (old new : Running) {moment lane : ℕ} {packet : PacketParts} → IsAdvanced old.sched (Enqueue moment lane packet) answer.Accepted new.sched → EngineAdds 1 0 old new
+enqueue_adds old new {moment} {lane} {packet} made = adds_accepted (discipline_of old.sched) old.sched.standing new.sched.standing moment lane packet made.advances
 
 pub dequeue_adds : (old new : Running) (moment : ℕ) (sent : Option Sent) → IsServed old.sched moment sent new.sched → EngineAdds 0 (given_count sent) old new
 dequeue_adds old new moment sent made = adds_sent (discipline_of old.sched) old.sched.standing new.sched.standing moment sent made.gives

@@ -15,8 +15,8 @@ pub record Port : Type 0 where
   pub seed : Seed
   pub seats : ℕ
 
--- A seat as callers see it: its number, which is the lane of its packets, the acceptances that it was told of, in order, and how many
--- packets it was given.
+-- A seat as callers see it: its number, which is the lane of its packets, the acceptances that it was told of, in
+-- order, and how many packets it was given.
 pub record Seat : Type 0 where
   pub lane : ℕ
   pub told : List Event
@@ -54,12 +54,13 @@ is_of lane (Closed moment) = false
 abbrev pub of_lane : ℕ → List Event → List Event
 of_lane lane events = filter (is_of lane) events
 
--- Why a call at `now` is refused: a moment is too large exactly where `now` is 2^60 or more, and it is never before the last one, since a
--- step is made at the later of the two.
+-- Why a call at `now` is refused: a moment is too large exactly where `now` is 2^60 or more, and it is never before the
+-- last one, since a step is made at the later of the two.
 abbrev pub Refuses : {X : Type 0} → ℕ → Result X Refusal → Type 0
 Refuses now (Ok answer) = now < 2 ^ 60
 Refuses now (Err why) =
-    (2 ^ 60 ≤ now → why ≡ Moment TooLarge) × (why ≡ Moment TooLarge → 2 ^ 60 ≤ now) × ((last : ℕ) → why ≢ Moment (Backwards last))
+    (2 ^ 60 ≤ now → why ≡ Moment TooLarge) × (why ≡ Moment TooLarge → 2 ^ 60 ≤ now)
+    × ((last : ℕ) → why ≢ Moment (Backwards last))
 
 -- Each of these seats has its place in the table, by its lane.
 abbrev pub AreTheirPlaces : List Seat → List ℕ → Type 0

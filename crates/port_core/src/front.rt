@@ -1,6 +1,6 @@
 //! What lies under a port's lock: the engine, and the books of both ledgers.
 
-ghost use Rattle.std.specs.Prelude.{◌≡◌, ◌≢◌, ◌≤◌, ◌<◌, ◌+◌, ◌^◌, length, sum_by, max, None, IfOk, IfErr, IfSome, IfNone, OnErr, OnOk};
+ghost use Rattle.std.specs.Prelude.{◌≡◌, ◌≤◌, ◌<◌, ◌+◌, ◌^◌, length, sum_by, max, IfOk, IfErr, IfSome, IfNone, OnErr};
 ghost use Rattle.journal_core.specs.Statistics.{statistics};
 ghost use Rattle.journal_core.specs.declared.step.Refusal.TheVariants as refusal;
 ghost use Rattle.port_core.specs.Ports.{Refuses, sent_also, told_also};
@@ -67,9 +67,11 @@ impl<A: Ledger, S: Ledger> Front<A, S> {
         seat: &mut PortSeat<A, S>,
         now: u64,
     ) -> Result<Option<Sent>, Refusal>
-        ensures some { IfOk result (λ sent. IfSome sent (λ s. (now ≤ s.moment) × (seat.new ≡ sent_also seat.old))) }
+        ensures some { IfOk result (λ sent. IfSome sent
+            (λ s. (now ≤ s.moment) × (seat.new ≡ sent_also seat.old))) }
         ensures none { IfOk result (λ sent. IfNone sent (seat.new ≡ seat.old)) }
         ensures refused { Refuses now result }
+        ensures memory { now < 2 ^ 60 → IfErr result (λ why. why ≡ refusal.Memory) }
         ensures unchanged { OnErr result (seat.new ≡ seat.old) }
     {
         let moment = self.moment(now);
@@ -98,7 +100,8 @@ impl<A: Ledger, S: Ledger> Front<A, S> {
     pub(crate) fn totals(&mut self, seat: &mut PortSeat<A, S>) -> Totals
         ensures accepted { length seat.old.told ≤ result.accepted }
         ensures sent { seat.old.sent ≤ result.sent }
-        ensures balance { result.accepted ≡ result.sent + result.dropped_codel + result.dropped_overflow + result.queued }
+        ensures balance { result.accepted
+            ≡ result.sent + result.dropped_codel + result.dropped_overflow + result.queued }
         ensures seat { seat.new ≡ seat.old }
     {
         self.accepted.audit(&mut seat.accepted_share);
@@ -112,7 +115,8 @@ impl<A: Ledger, S: Ledger> Front<A, S> {
         requires some { 0 < A.parts }
         ensures same { result ≡ self.engine }
         ensures number { length seats.items ≡ A.parts }
-        ensures accepted { (statistics result.sched.standing.events).accepted ≡ sum_by (λ s. length s.told) seats.items }
+        ensures accepted { (statistics result.sched.standing.events).accepted
+            ≡ sum_by (λ s. length s.told) seats.items }
         ensures sent { (statistics result.sched.standing.events).sent ≡ sum_by (λ s. s.sent) seats.items }
     {
         let Front {

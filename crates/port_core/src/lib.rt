@@ -1,5 +1,5 @@
 //! A scheduler that several threads use at once. Behind a lock stands an engine; each thread has a seat, which is told
-//! of the packets that were accepted of it, and two ledgers keep the sums over all seats, so that nothing is lost: once
+//! of the packets that were accepted of it, and two ledgers keep the sums over all seats, so that nothing is lost. Once
 //! the threads are done, `LockedPort::settle` gives the engine back where it agrees with all that the seats were told.
 #![tactic(auto)]
 
@@ -14,6 +14,3 @@ pub use gate::{Gate, Open, Stop};
 pub use port::{LockedPort, Unsettled, Why};
 pub use seat::{MAX_SEATS, PortSeat};
 pub use sender::{LockedDone, send_locked};
-
-#[cfg(test)]
-mod tests;

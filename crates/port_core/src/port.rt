@@ -1,7 +1,8 @@
 //! The locked port: an engine that several threads use, one call at a time.
 
-ghost use Rattle.std.specs.Prelude.{◌≡◌, ◌≤◌, ◌<◌, ◌+◌, All, IfOk, IfErr, IfSome, IfNone, OnErr, OnOk, IsTrue, length, sum_by};
+ghost use Rattle.std.specs.Prelude.{◌≡◌, ◌≤◌, ◌<◌, ◌+◌, ◌^◌, All, IfOk, IfErr, IfSome, IfNone, OnErr, OnOk, IsTrue, length, sum_by};
 ghost use Rattle.journal_core.specs.Statistics.{statistics};
+ghost use Rattle.journal_core.specs.declared.step.Refusal.TheVariants as refusal;
 ghost use Rattle.port_core.specs.Ports.{Refuses, new_seats, of_lane, sent_also, told_also};
 ghost use Rattle.port_core.specs.declared.seat.TheConstants.{MAX_SEATS};
 ghost use Rattle.port_core.specs.declared.port.Why.TheVariants as why;
@@ -17,7 +18,7 @@ use std::sync::ledger::{Blank, Ledger};
 use std::sync::{Mutex, Wait};
 
 /// An engine behind a lock, with two ledgers: of the packets that were accepted, and of those that were given. Each
-/// thread that uses it has a seat. Every call takes the lock for one whole step, so each sees the engine between steps.
+/// thread that uses it has a seat. A call takes the lock for one whole step, so each sees the engine between steps.
 #[derive(Drop)]
 pub struct LockedPort<A: Ledger, S: Ledger> {
     front: Mutex<Front<A, S>>,
@@ -59,16 +60,18 @@ pub struct Unsettled<A: Ledger, S: Ledger> {
     pub seats: Vec<PortSeat<A, S>>,
 }
 
-/// The engine is one of these parameters and this seed, and has of each seat what it was told. What the books can't say
-/// is compared here.
+/// The engine is one of these parameters and this seed, and has of each seat what it was told. What the books can't
+/// say is compared here.
 fn agrees<A: Ledger, S: Ledger>(
     engine: &Engine,
     params: &Params,
     seed: &Seed,
     seats: &[PortSeat<A, S>],
 ) -> bool
-    ensures started { IsTrue result → (engine.now.sched.params ≡ params.now) × (engine.now.sched.seed ≡ seed.now) }
-    ensures told { IsTrue result → All (λ s. of_lane s.lane engine.now.sched.standing.events ≡ s.told) seats.now }
+    ensures started { IsTrue result
+        → (engine.now.sched.params ≡ params.now) × (engine.now.sched.seed ≡ seed.now) }
+    ensures told { IsTrue result
+        → All (λ s. of_lane s.lane engine.now.sched.standing.events ≡ s.told) seats.now }
 {
     if engine.params() != params {
         return false;
@@ -113,9 +116,9 @@ impl<A: Ledger, S: Ledger> LockedPort<A, S> {
         Ok((port, all))
     }
 
-    /// Accepts a packet of the seat's, as `Engine::enqueue` does, at `now` or at the last moment, whichever is later, and
-    /// tells the seat. It refuses a moment of 2^60 microseconds or more, then a packet after the close, then one after
-    /// 2^40 others, and last where a growth is refused.
+    /// Accepts a packet of the seat's, as `Engine::enqueue` does, at `now` or at the last moment, whichever is later,
+    /// and tells the seat. It refuses a moment of 2^60 microseconds or more, then a packet after the close, then one
+    /// after 2^40 others, and last where a growth is refused.
     pub fn enqueue<R: Wait>(
         &self,
         rt: &R,
@@ -131,26 +134,28 @@ impl<A: Ledger, S: Ledger> LockedPort<A, S> {
         self.front.lock(rt).enqueue(seat, now, packet)
     }
 
-    /// Gives the seat the packet that is next in turn, as `Engine::dequeue` does, or nothing where none waits, at `now` or
-    /// at the last moment, whichever is later. It refuses a moment of 2^60 microseconds or more, and last where a growth
-    /// is refused.
+    /// Gives the seat the packet that is next in turn, as `Engine::dequeue` does, or nothing where none waits, at `now`
+    /// or at the last moment, whichever is later. It refuses a moment of 2^60 microseconds or more, and last where a
+    /// growth is refused.
     pub fn dequeue<R: Wait>(
         &self,
         rt: &R,
         seat: &mut PortSeat<A, S>,
         now: u64,
     ) -> Result<Option<Sent>, Refusal>
-        ensures some { IfOk result (λ sent. IfSome sent (λ s. (now ≤ s.moment) × (seat.new ≡ sent_also seat.old))) }
+        ensures some { IfOk result (λ sent. IfSome sent
+            (λ s. (now ≤ s.moment) × (seat.new ≡ sent_also seat.old))) }
         ensures none { IfOk result (λ sent. IfNone sent (seat.new ≡ seat.old)) }
         ensures refused { Refuses now result }
+        ensures memory { now < 2 ^ 60 → IfErr result (λ why. why ≡ refusal.Memory) }
         ensures unchanged { OnErr result (seat.new ≡ seat.old) }
     {
         self.front.lock(rt).dequeue(seat, now)
     }
 
-    /// From here on nothing is accepted; dequeues go on. It answers the step's moment, which is `now` or the last moment,
-    /// whichever is later. It refuses a moment of 2^60 microseconds or more, then a second close, and last where a growth
-    /// is refused.
+    /// From here on nothing is accepted; dequeues go on. It answers the step's moment, which is `now` or the last
+    /// moment, whichever is later. It refuses a moment of 2^60 microseconds or more, then a second close, and last where
+    /// a growth is refused.
     pub fn close<R: Wait>(&self, rt: &R, now: u64) -> Result<u64, Refusal>
         ensures later { IfOk result (λ moment. now ≤ moment) }
         ensures refused { Refuses now result }
@@ -163,22 +168,27 @@ impl<A: Ledger, S: Ledger> LockedPort<A, S> {
     pub fn totals<R: Wait>(&self, rt: &R, seat: &mut PortSeat<A, S>) -> Totals
         ensures accepted { length seat.old.told ≤ result.accepted }
         ensures sent { seat.old.sent ≤ result.sent }
-        ensures balance { result.accepted ≡ result.sent + result.dropped_codel + result.dropped_overflow + result.queued }
+        ensures balance { result.accepted
+            ≡ result.sent + result.dropped_codel + result.dropped_overflow + result.queued }
         ensures seat { seat.new ≡ seat.old }
     {
         self.front.lock(rt).totals(seat)
     }
 
-    /// Ends the port, and gives its engine, where all its seats are there, in any order, and the engine agrees with them
-    /// and with what the port was started with. It goes once through the journal, and takes no memory. Else all is
+    /// Ends the port, and gives its engine, where all its seats are there, in any order, and the engine agrees with
+    /// them and with what the port was started with. It goes once through the journal, and takes no memory. Else all is
     /// given back.
     pub fn settle(self, seats: Vec<PortSeat<A, S>>) -> Result<Engine, Unsettled<A, S>>
         ensures params { IfOk result (λ e. (e.sched.params ≡ self.params) × (e.sched.seed ≡ self.seed)) }
-        ensures told { IfOk result (λ e. All (λ s. of_lane s.lane e.sched.standing.events ≡ s.told) seats.items) }
-        ensures accepted { IfOk result (λ e. (statistics e.sched.standing.events).accepted ≡ sum_by (λ s. length s.told) seats.items) }
-        ensures sent { IfOk result (λ e. (statistics e.sched.standing.events).sent ≡ sum_by (λ s. s.sent) seats.items) }
+        ensures told { IfOk result (λ e. All
+            (λ s. of_lane s.lane e.sched.standing.events ≡ s.told) seats.items) }
+        ensures accepted { IfOk result (λ e. (statistics e.sched.standing.events).accepted
+            ≡ sum_by (λ s. length s.told) seats.items) }
+        ensures sent { IfOk result (λ e. (statistics e.sched.standing.events).sent
+            ≡ sum_by (λ s. s.sent) seats.items) }
         ensures all { OnOk result (length seats.items ≡ self.seats) }
-        ensures not_all { IfErr result (λ u. (u.why ≡ why.NotAll → length seats.items < self.seats) × (length seats.items < self.seats → u.why ≡ why.NotAll)) }
+        ensures not_all { IfErr result (λ u. (u.why ≡ why.NotAll → length seats.items < self.seats)
+            × (length seats.items < self.seats → u.why ≡ why.NotAll)) }
         ensures back { IfErr result (λ u. (u.port ≡ self) × (u.seats ≡ seats)) }
     {
         let LockedPort {

@@ -78,7 +78,8 @@ fn meet<A: Ledger, S: Ledger>(
     event: &Event,
 ) -> bool
     requires { AreTheirPlaces seats.now places.now }
-    ensures { IsTrue result → (before : List EventShown) → AreMet seats.now met.old before → AreMet seats.now met.new (before ++ event.now ∷ []) }
+    ensures { IsTrue result → (before : List EventShown)
+        → AreMet seats.now met.old before → AreMet seats.now met.new (before ++ event.now ∷ []) }
 {
     let Event::Accepted { lane, .. } = *event else {
         return true;

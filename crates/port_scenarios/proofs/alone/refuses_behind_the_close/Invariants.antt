@@ -1,4 +1,4 @@
-use Rattle.port_core.proofs.tests.refuses_behind_the_close.Given as goal
+use Rattle.port_scenarios.proofs.alone.refuses_behind_the_close.Given as goal
 
 abbrev pub ghosts-at_a_close-A-Ledger : goal.ghosts-at_a_close-A-Ledger
 ghosts-at_a_close-A-Ledger g a = record { name = a.accepted.name; parts = a.accepted.parts }

@@ -1,4 +1,4 @@
-use Rattle.port_core.proofs.tests.settles_with_all_seats_alone.Given as goal
+use Rattle.port_scenarios.proofs.alone.settles_with_the_parameters_of_its_start.Given as goal
 
 abbrev pub ghosts-at_two_seats-A-Ledger : goal.ghosts-at_two_seats-A-Ledger
 ghosts-at_two_seats-A-Ledger g a = record { name = a.accepted.name; parts = a.accepted.parts }

@@ -1,0 +1,10 @@
+//! Tests of locked ports: by one thread, what each call answers and what a settling gives; by several, that senders run
+//! at once. What is expected was worked out by hand from the rules.
+#![tactic(auto)]
+
+#[cfg(test)]
+mod alone;
+#[cfg(test)]
+mod fixtures;
+#[cfg(test)]
+mod together;

@@ -1,0 +1,266 @@
+//! Locked ports by several threads: senders run at once, and nothing of what they were told is lost.
+
+ghost use Rattle.std.specs.Prelude.{◌≡◌};
+ghost use denote.Param.Send.{IsSend, IsSync};
+
+use crate::fixtures::{SEED, counted, one_flow, packet, settled};
+use packet_core::Packet;
+use port_core::{Gate, LockedDone, LockedPort, Open, PortSeat, Stop, send_locked};
+use sched_core::Event;
+use std::alloc::{AllocError, Global};
+use std::marker::Brand;
+use std::process::Abort;
+use std::sync::Wait;
+use std::sync::atomic::{AtomicU64, Ordering};
+use std::sync::ledger::{Blank, Ledger};
+use std::test::Fail;
+use std::thread::{self, Threads};
+
+/// A sender's gate: from one call on it waits for the other sender's first answer.
+#[derive(Drop)]
+struct Side<'a> {
+    from: u64,
+    mine: &'a AtomicU64,
+    other: &'a AtomicU64,
+}
+
+impl<'a> Gate for Side<'a> {
+    fn pass(&self, call: u64) -> bool {
+        self.mine.store(call.saturating_sub(1), Ordering::SeqCst);
+        call < self.from || self.other.load(Ordering::SeqCst) >= 1
+    }
+}
+
+/// What one sender is given.
+#[derive(Drop)]
+struct Job<'a, A: Ledger, S: Ledger> {
+    seat: PortSeat<A, S>,
+    packets: &'a [(u64, Packet)],
+    gate: Side<'a>,
+}
+
+/// Sender 0's first call waits for sender 1's first answer, and sender 1's second call for sender 0's first.
+fn jobs<'a, A: Ledger, S: Ledger>(
+    seats: (PortSeat<A, S>, PortSeat<A, S>),
+    packets: &'a [(u64, Packet)],
+    answered: &'a (AtomicU64, AtomicU64),
+) -> (Job<'a, A, S>, Job<'a, A, S>) {
+    let first = Side {
+        from: 1,
+        mine: &answered.0,
+        other: &answered.1,
+    };
+    let second = Side {
+        from: 2,
+        mine: &answered.1,
+        other: &answered.0,
+    };
+    let (zero, one) = seats;
+    (
+        Job {
+            seat: zero,
+            packets,
+            gate: first,
+        },
+        Job {
+            seat: one,
+            packets,
+            gate: second,
+        },
+    )
+}
+
+fn send<A: Ledger, S: Ledger, R: Wait>(
+    rt: &R,
+    port: &LockedPort<A, S>,
+    job: Job<'_, A, S>,
+) -> LockedDone<A, S> {
+    let Job {
+        seat,
+        packets,
+        gate,
+    } = job;
+    send_locked(rt, port, seat, packets, &gate)
+}
+
+/// The sender made so many calls, stopped so, and was told of all its packets.
+fn seat_of<A: Ledger, S: Ledger, R: Abort>(
+    rt: &R,
+    done: LockedDone<A, S>,
+    wanted: (u64, Stop),
+) -> PortSeat<A, S> {
+    assert_eq!(rt; (done.calls, done.stop), wanted);
+    assert_eq!(rt; done.seat.accepted(), wanted.0);
+    done.seat
+}
+
+/// Two senders that wait for one another's answers both come to their end.
+#[test]
+fn gate_locked(rt: HostRuntime) -> Result<(), Fail> {
+    at_a_gate::<Brand, Brand, _>(&rt, rt.alloc(), Blank::new(2), Blank::new(2))
+}
+
+fn at_a_gate<A: Ledger + Send + Sync, S: Ledger + Send + Sync, R: Threads + Wait + Abort + Sync>(
+    rt: &R,
+    alloc: Global,
+    accepted: Blank,
+    sent: Blank,
+) -> Result<(), Fail>
+    requires accepted { (accepted.name ≡ A.name) × (accepted.parts ≡ A.parts) × (A.parts ≡ 2) }
+    requires sent { (sent.name ≡ S.name) × (sent.parts ≡ S.parts) × (S.parts ≡ 2) }
+{
+    let (port, mut seats) = LockedPort::<A, S>::start(alloc, one_flow()?, SEED, 2, accepted, sent)?;
+    let one = seats.pop().ok_or("seat 1")?;
+    let zero = seats.pop().ok_or("seat 0")?;
+    let (zero, one) = at_once(rt, &port, (zero, one))?;
+    seats.push(seat_of(rt, zero, (2, Stop::Done)))?;
+    seats.push(seat_of(rt, one, (2, Stop::Done)))?;
+    assert_eq!(rt; counted(&settled(port, seats)?.totals()), (4, 0));
+    Ok(())
+}
+
+/// Each of the two senders has a thread of its own.
+fn at_once<A: Ledger + Send + Sync, S: Ledger + Send + Sync, R: Threads + Wait + Sync>(
+    rt: &R,
+    port: &LockedPort<A, S>,
+    seats: (PortSeat<A, S>, PortSeat<A, S>),
+) -> Result<(LockedDone<A, S>, LockedDone<A, S>), Fail> {
+    let packets = [(0, packet(53)?), (1, packet(54)?)];
+    let answered = (AtomicU64::new(0), AtomicU64::new(0));
+    let (zero, one) = jobs(seats, &packets, &answered);
+    Ok(thread::join(
+        rt,
+        move || send(rt, port, zero),
+        move || send(rt, port, one),
+    ))
+}
+
+/// The same senders one after the other: each would wait for the other's answer, and stops as stalled.
+#[test]
+fn senders_in_turn_stall(rt: HostRuntime) -> Result<(), Fail> {
+    at_a_closed_gate::<Brand, Brand, _>(&rt, rt.alloc(), Blank::new(2), Blank::new(2))
+}
+
+fn at_a_closed_gate<A: Ledger, S: Ledger, R: Wait + Abort>(
+    rt: &R,
+    alloc: Global,
+    accepted: Blank,
+    sent: Blank,
+) -> Result<(), Fail>
+    requires accepted { (accepted.name ≡ A.name) × (accepted.parts ≡ A.parts) × (A.parts ≡ 2) }
+    requires sent { (sent.name ≡ S.name) × (sent.parts ≡ S.parts) × (S.parts ≡ 2) }
+{
+    let (port, mut seats) = LockedPort::<A, S>::start(alloc, one_flow()?, SEED, 2, accepted, sent)?;
+    let one = seats.pop().ok_or("seat 1")?;
+    let zero = seats.pop().ok_or("seat 0")?;
+    let (zero, one) = in_turn(rt, &port, (zero, one))?;
+    seats.push(seat_of(rt, zero, (0, Stop::Stalled)))?;
+    seats.push(seat_of(rt, one, (1, Stop::Stalled)))?;
+    assert_eq!(rt; counted(&settled(port, seats)?.totals()), (1, 0));
+    Ok(())
+}
+
+fn in_turn<A: Ledger, S: Ledger, R: Wait>(
+    rt: &R,
+    port: &LockedPort<A, S>,
+    seats: (PortSeat<A, S>, PortSeat<A, S>),
+) -> Result<(LockedDone<A, S>, LockedDone<A, S>), Fail> {
+    let packets = [(0, packet(53)?), (1, packet(54)?)];
+    let answered = (AtomicU64::new(0), AtomicU64::new(0));
+    let (zero, one) = jobs(seats, &packets, &answered);
+    Ok((send(rt, port, zero), send(rt, port, one)))
+}
+
+/// Eight senders and a device, each in a thread: whatever the schedule, each sender is told of its packets in their
+/// order, and the engine has all of them.
+#[test]
+fn eight_senders_lose_nothing(rt: HostRuntime) -> Result<(), Fail> {
+    at_nine_seats::<Brand, Brand, _>(&rt, rt.alloc(), Blank::new(9), Blank::new(9))
+}
+
+fn at_nine_seats<
+    A: Ledger + Send + Sync,
+    S: Ledger + Send + Sync,
+    R: Threads + Wait + Abort + Sync,
+>(rt: &R, alloc: Global, accepted: Blank, sent: Blank) -> Result<(), Fail>
+    requires accepted { (accepted.name ≡ A.name) × (accepted.parts ≡ A.parts) × (A.parts ≡ 9) }
+    requires sent { (sent.name ≡ S.name) × (sent.parts ≡ S.parts) × (S.parts ≡ 9) }
+{
+    let (port, mut seats) = LockedPort::<A, S>::start(alloc, one_flow()?, SEED, 9, accepted, sent)?;
+    let device = seats.pop().ok_or("the device's seat")?;
+    let packets = [(0, packet(53)?), (5, packet(54)?), (2, packet(55)?)];
+    let (done, device) = senders_and_device(rt, &port, seats, &packets, device);
+    let given = device.sent();
+    let seats = seats_told(rt, alloc, done?, &packets, device)?;
+    assert_eq!(rt; counted(&settled(port, seats)?.totals()), (24, given));
+    Ok(())
+}
+
+/// The device dequeues while the senders send.
+fn senders_and_device<
+    A: Ledger + Send + Sync,
+    S: Ledger + Send + Sync,
+    R: Threads + Wait + Abort + Sync,
+>(
+    rt: &R,
+    port: &LockedPort<A, S>,
+    seats: Vec<PortSeat<A, S>>,
+    packets: &[(u64, Packet)],
+    device: PortSeat<A, S>,
+) -> (Result<Vec<LockedDone<A, S>>, AllocError>, PortSeat<A, S>) {
+    let senders = move || -> Result<Vec<LockedDone<A, S>>, AllocError>
+        requires { IsSync R.row × IsSend A.row × IsSend S.row × IsSync A.row × IsSync S.row }
+    { send_all(rt, port, seats, packets) };
+    thread::join(rt, senders, move || take_some(rt, port, device))
+}
+
+/// Each seat's sender has a thread of its own.
+fn send_all<A: Ledger + Send + Sync, S: Ledger + Send + Sync, R: Threads + Wait + Sync>(
+    rt: &R,
+    port: &LockedPort<A, S>,
+    seats: Vec<PortSeat<A, S>>,
+    packets: &[(u64, Packet)],
+) -> Result<Vec<LockedDone<A, S>>, AllocError> {
+    let send = move |seat: PortSeat<A, S>| send_locked(rt, port, seat, packets, &Open);
+    thread::map_vec(rt, seats, &send)
+}
+
+fn take_some<A: Ledger, S: Ledger, R: Wait + Abort>(
+    rt: &R,
+    port: &LockedPort<A, S>,
+    seat: PortSeat<A, S>,
+) -> PortSeat<A, S> {
+    let mut seat = seat;
+    for now in 0..20 {
+        assert!(rt; port.dequeue(rt, &mut seat, now).is_ok());
+        thread::yield_now();
+    }
+    seat
+}
+
+/// All seats, where each sender was told of its packets in their order.
+fn seats_told<A: Ledger, S: Ledger, R: Abort>(
+    rt: &R,
+    alloc: Global,
+    done: Vec<LockedDone<A, S>>,
+    packets: &[(u64, Packet)],
+    device: PortSeat<A, S>,
+) -> Result<Vec<PortSeat<A, S>>, Fail> {
+    let mut seats = Vec::new(alloc);
+    for one in done {
+        assert_eq!(rt; one.stop, Stop::Done);
+        assert!(rt; is_told(&one.seat, packets));
+        seats.push(one.seat)?;
+    }
+    seats.push(device)?;
+    Ok(seats)
+}
+
+/// The seat was told of those packets, in this order.
+fn is_told<A: Ledger, S: Ledger>(seat: &PortSeat<A, S>, packets: &[(u64, Packet)]) -> bool {
+    let told = seat.told();
+    told.len() == packets.len()
+        && told.iter().zip(packets).all(|(event, wanted)| {
+            matches!(event, Event::Accepted { packet, .. } if *packet == wanted.1)
+        })
+}
