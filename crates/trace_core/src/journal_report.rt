@@ -5,7 +5,7 @@ ghost use Rattle.trace_core.specs.Report.{journal_text};
 ghost use Rattle.trace_core.specs.declared.trace_run.RunFault.TheVariants as RunFault;
 
 use crate::report::Rows;
-use crate::streams::Watched;
+use crate::streams::{Sink, Watched};
 use crate::trace_run::{RunFault, write_text};
 use sched_core::Engine;
 use std::alloc::Global;
@@ -39,9 +39,31 @@ pub fn write_journal<W: Write>(
     ensures front { IfErr result (λ fault. fault ≡ RunFault.Write
         → (count : ℕ) × Appends (W.contents writer.old) (W.contents writer.new)
         (take count (journal_text engine.now.sched.standing.events senders.now))) }
+    ensures memory { IfErr result (λ fault. (fault ≢ RunFault.Write) → fault ≡ RunFault.Memory) }
     ensures untouched { IfErr result (λ fault. (fault ≢ RunFault.Write)
         → Keeps (W.contents writer.old) (W.contents writer.new)) }
 {
+    write_journal_to(alloc, &mut Watched::new(writer), engine, senders)
+}
+
+/// The same as `write_journal`, to a sink, which tells whether it has failed. For a caller whose writer can tell that:
+/// `Write` is answered only where the sink has failed.
+pub fn write_journal_to<K: Sink>(
+    alloc: Global,
+    sink: &mut K,
+    engine: &Engine,
+    senders: &[SenderRow],
+) -> Result<(), RunFault>
+    ensures text { OnOk result (K.Wrote sink.old
+        (journal_text engine.now.sched.standing.events senders.now) sink.new) }
+    ensures front { IfErr result (λ fault. fault ≡ RunFault.Write → (count : ℕ)
+        × K.Wrote sink.old (take count (journal_text engine.now.sched.standing.events senders.now)) sink.new) }
+    ensures memory { IfErr result (λ fault. (fault ≢ RunFault.Write) → fault ≡ RunFault.Memory) }
+    ensures untouched { IfErr result (λ fault. (fault ≢ RunFault.Write) → sink.new ≡ sink.old) }
+
+    // Write comes only where the sink has failed.
+    ensures write { IfErr result (λ fault. fault ≡ RunFault.Write → K.HasFailed sink.new) }
+{
     let text = Rows::new(alloc).journal(engine, senders)?;
-    write_text(&mut Watched::new(writer), &text)
+    write_text(sink, &text)
 }

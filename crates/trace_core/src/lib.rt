@@ -14,8 +14,8 @@ mod row;
 mod streams;
 mod trace_run;
 
-pub use journal_report::{SenderRow, write_journal};
 pub use faults::{MAX_BYTES, MAX_ROWS, TraceFault, TraceFaultKind};
+pub use journal_report::{SenderRow, write_journal, write_journal_to};
 pub use reader::{read_trace, read_trace_from};
 pub use streams::{Sink, Source};
 pub use trace_run::{RunFault, run, run_between};

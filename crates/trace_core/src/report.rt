@@ -10,7 +10,9 @@ use crate::decimal::Digits;
 use crate::journal_report::SenderRow;
 use csv::{QuoteStyle, Writer, WriterBuilder};
 use packet_core::{Ecn, Ip};
-use sched_core::{Answer, Cause, Engine, Event, Memory, MomentFault, Refusal, Sched, Totals, TupleRow};
+use sched_core::{
+    Answer, Cause, Engine, Event, Memory, MomentFault, Refusal, Sched, Totals, TupleRow,
+};
 use std::alloc::{AllocError, Global};
 
 /// The rows of a report, as they are written.
@@ -50,7 +52,11 @@ impl Rows {
 
     /// The text of an engine's journal: the rows so far, of which there are none, a row for each event, the row of the
     /// totals, a row for each five-tuple, and a row for each sender. It fails for want of memory alone.
-    pub(crate) fn journal(mut self, engine: &Engine, senders: &[SenderRow]) -> Result<Vec<u8>, Memory>
+    pub(crate) fn journal(
+        mut self,
+        engine: &Engine,
+        senders: &[SenderRow],
+    ) -> Result<Vec<u8>, Memory>
         requires { Report.HasText self [] }
         ensures { IfOk result (λ text. text.items ≡ Report.journal_text engine.now.sched.standing.events senders.now) }
     {
