@@ -69,6 +69,7 @@ fn run_locked<H: Threads + Wait + Sync>(
     run_lists::<Brand, Brand, _>(rt, alloc, params, seed, steps, &lists, accepted, sent)
 }
 
+#[tactic(auto, using(crate::proofs::JournalLemmas::new_seats_length))]
 /// Makes the packets of each list by a sender of its own, and the other steps by this thread, through a port with these
 /// ledgers.
 fn run_lists<A: Ledger + Send + Sync, S: Ledger + Send + Sync, H: Threads + Wait + Sync>(
@@ -97,7 +98,7 @@ fn run_lists<A: Ledger + Send + Sync, S: Ledger + Send + Sync, H: Threads + Wait
     let gates = vec![in alloc; Open; lists.len()]?;
     let shared = &port;
     let part = move || -> Result<PortSeat<A, S>, Refusal>
-        ensures { IfOk result (λ r. (r.lane ≡ seat.entry.lane) × (r.told ≡ seat.entry.told)) }
+        ensures { IfOk result (λ r. (r.lane ≡ seat.lane) × (r.told ≡ seat.told)) }
     { device_part(rt, shared, seat, steps) };
     let (done, part) = start_locked(rt, alloc, &port, seats, lists, &gates, part)?;
     let seat = emptied(rt, &port, part?, steps.len())?;
@@ -178,7 +179,8 @@ fn rows_of<A: Ledger, S: Ledger>(
 {
     let mut rows = Vec::new(alloc);
     let mut seats = Vec::new(alloc);
-    for LockedDone { calls, stop, seat } in done {
+    for sender in done {
+        let LockedDone { calls, stop, seat } = sender;
         // The gates are open, each moment is below 2^60 and ids go to 2^40, so memory alone stops a sender.
         if stop != Stop::Done {
             return Err(ProgramFault::Memory);

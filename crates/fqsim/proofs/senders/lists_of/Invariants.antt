@@ -3,8 +3,8 @@ use Rattle.packet_core.specs.Packets.{PacketParts}
 use Rattle.fqsim.specs.Journals.{AreCalls}
 use Rattle.fqsim.proofs.senders.lists_of.Given as goal
 
-abbrev pub invariant-loop-_sender : goal.invariant-loop-_sender
-invariant-loop-_sender l =
+abbrev pub invariant-loop-sender : goal.invariant-loop-sender
+invariant-loop-sender l =
     (length l.lists.items ≡ l._sender)
     × ((i : ℕ) (d : Vec (ℕ × PacketParts) Global) → i < l._sender → (slice_index_or l.lists.items i d).items ≡ [])
 
