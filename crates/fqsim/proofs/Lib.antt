@@ -1,2 +1,3 @@
 mod CommandLineLemmas
 mod JournalLemmas
+mod RunLemmas
