@@ -1,1 +1,3 @@
 mod CommandLineLemmas
+mod JournalLemmas
+mod RunLemmas

@@ -12,7 +12,8 @@ time of its own, and the same trace always gives the same report.";
 
 /// What stands below the program's help.
 pub const PROGRAM_NOTES: &str = "\
-'fqsim trace --help' describes the parameters, the trace and the report.
+'fqsim trace --help' describes the parameters, the trace and the report, and
+'fqsim locked --help' the run by several threads and its journal.
 
 Exit status:
   0  the report or the help was written
@@ -29,6 +30,62 @@ pub const TRACE_DESCRIPTION: &str = "\
 Read a trace from standard input, make its steps with a new scheduler, and write
 the report to standard output. The whole trace is read, and the whole run made,
 before the first byte of the report is written.";
+
+/// What the subcommand with senders does, in a line.
+pub const LOCKED_SUMMARY: &str = "Read a trace, run it by senders in threads, write the journal";
+
+/// What the subcommand with senders does.
+pub const LOCKED_DESCRIPTION: &str = "\
+Read a trace from standard input, make its steps with a new scheduler behind a
+lock, and write the journal to standard output. Each packet that comes in is
+submitted by one of N senders, each a thread of its own; the main thread asks
+for packets and closes meanwhile. The whole trace is read, and the whole run
+made, before the first byte of the journal is written.";
+
+/// What the number of senders is, in a line.
+pub const SENDERS_SUMMARY: &str = "Number of senders, 1 to 64 [default: 2]";
+
+/// What the number of senders is.
+pub const SENDERS_DESCRIPTION: &str = "\
+Number of senders, 1 to 64: the packets of flow F belong to sender F modulo N
+[default: 2]";
+
+/// How senders and the main thread share a trace, and the journal.
+pub const LOCKED_NOTES: &str = "\
+Parameters, seed and trace are those of 'fqsim trace --help'.
+
+Sender I submits the packets of its flows in the order of the trace, each at its
+row's moment. The main thread makes the 'deq' and 'close' rows in their order,
+while the senders run. A call that comes with a moment before the last step's is
+made at the last step's. Once all senders are done, the scheduler is closed
+where no row closed it, and packets are taken at the last moment until none
+waits.
+
+Journal, with the rows of each thing that happened, in order:
+
+  accepted,ID,FLOW         a packet was accepted; ids count from 0
+  dropped,ID,overflow      a packet was dropped, since more than limit waited
+  dropped,ID,codel         a packet was dropped by CoDel
+  sent,ID,ECN              a packet was sent, with this ECN field
+  closed                   the scheduler was closed
+
+then the rows 'totals' and 'tuple' of 'fqsim trace --help', and
+
+  sender,I,SUBMITTED,ACCEPTED,LEFT
+                           one row for each sender by rising number: the calls
+                           that it made, the packets of these that were
+                           accepted, and those that came after the close
+
+Which thread comes first is up to the machine, so two runs of one trace may
+write different journals: in the order of acceptance between senders, in the
+moments of the steps, and so in what is dropped, marked or left behind the
+close. Always the packets of one sender are accepted in their order, each packet
+that was accepted is sent or dropped, SUBMITTED is ACCEPTED and LEFT together,
+and the ACCEPTED of all senders are that of the totals.
+
+Exit status: as of 'fqsim trace', and 1 with 'fqsim: settle' on standard error
+where the journal isn't what the senders were told, which would be a fault of
+the program.";
 
 /// What the seed is, in a line.
 pub const SEED_SUMMARY: &str = "Seed of the flow hash [default: 32 zeros]";

@@ -11,10 +11,14 @@ ghost use Rattle.fqsim.specs.declared.program.ProgramFault.{ProgramFault};
 ghost use Rattle.fqsim.specs.declared.program.ProgramFault.TheVariants as program_fault;
 
 use crate::command_line::{CommandFault, Request, parse};
+use crate::locked::simulate_locked;
 use crate::seed::{ZERO_SEED, read_seed};
 use packet_core::{ParamFault, Seed, read_params};
+use sched_core::Refusal;
 use std::alloc::{AllocError, AllocFailed, Global};
 use std::io::{self, ErrorKind, Read, Write};
+use std::sync::Wait;
+use std::thread::Threads;
 use thiserror::Error;
 use trace_core::{RunFault, TraceFault, TraceFaultKind, run};
 
@@ -51,6 +55,9 @@ pub enum ProgramFault {
     /// A write failed or took nothing. What was written is the front of the report or of the help.
     #[error("write")]
     Write,
+    /// The journal isn't what the senders were told. It would show a fault of the locked port itself.
+    #[error("settle")]
+    Settle,
 }
 
 impl ProgramFault {
@@ -64,7 +71,7 @@ impl ProgramFault {
             | ProgramFault::Seed
             | ProgramFault::Params(_) => INPUT_FAULT,
             ProgramFault::Trace(fault) => trace_status(fault),
-            ProgramFault::Memory | ProgramFault::Write => MACHINE_FAULT,
+            ProgramFault::Memory | ProgramFault::Write | ProgramFault::Settle => MACHINE_FAULT,
         }
     }
 }
@@ -98,6 +105,14 @@ impl From<ParamFault> for ProgramFault {
     }
 }
 
+impl From<TraceFault> for ProgramFault {
+    ghost from_gives = { λ fault e. e ≡ program_fault.Trace fault };
+
+    fn from(fault: TraceFault) -> ProgramFault {
+        ProgramFault::Trace(fault)
+    }
+}
+
 impl From<RunFault> for ProgramFault {
     ghost from_gives = { λ fault e. e ≡ run_fault_told fault };
 
@@ -107,6 +122,16 @@ impl From<RunFault> for ProgramFault {
             RunFault::Memory => ProgramFault::Memory,
             RunFault::Write => ProgramFault::Write,
         }
+    }
+}
+
+/// Why a call of the locked port is refused, where it isn't for a second close: the moments of a trace are below 2^60 and
+/// it has less than 2^40 rows, so memory was wanting.
+impl From<Refusal> for ProgramFault {
+    ghost from_gives = { λ _ e. e ≡ program_fault.Memory };
+
+    fn from(_: Refusal) -> ProgramFault {
+        ProgramFault::Memory
     }
 }
 
@@ -144,7 +169,8 @@ impl From<io::Error> for ProgramFault {
 /// The whole program over the words behind its name. It reads a trace and writes the report of its run, or writes
 /// help where the words ask for that, and tells a fault on `faults`. It answers the status that the program ends
 /// with.
-pub fn program<R: Read, W: Write, F: Write>(
+pub fn program<H: Threads + Wait + Sync, R: Read, W: Write, F: Write>(
+    rt: &H,
     alloc: Global,
     words: &[&str],
     reader: &mut R,
@@ -170,14 +196,15 @@ pub fn program<R: Read, W: Write, F: Write>(
     ensures input_fault { result ≡ 2 → Keeps (W.contents writer.old) (W.contents writer.new) }
     ensures range { result ≤ 2 }
 {
-    match answer(alloc, words, reader, writer) {
+    match answer(rt, alloc, words, reader, writer) {
         Ok(()) => SUCCESS,
         Err(fault) => tell(faults, &fault),
     }
 }
 
 /// Does what the words ask for.
-fn answer<R: Read, W: Write>(
+fn answer<H: Threads + Wait + Sync, R: Read, W: Write>(
+    rt: &H,
     alloc: Global,
     words: &[&str],
     reader: &mut R,
@@ -192,6 +219,7 @@ fn answer<R: Read, W: Write>(
 {
     match parse(alloc, words)? {
         Request::Trace(trace) => simulate(alloc, trace.seed, &trace.parameters, reader, writer),
+        Request::Locked(locked) => simulate_locked(rt, alloc, &locked, reader, writer),
         Request::Help(text) => show(writer, text.as_str()),
     }
 }
@@ -247,7 +275,7 @@ fn simulate<R: Read, W: Write>(
 }
 
 /// The seed of a text, and the standard one where there is none.
-fn seed_given(text: Option<&str>) -> Result<Seed, ProgramFault>
+pub(crate) fn seed_given(text: Option<&str>) -> Result<Seed, ProgramFault>
     ensures ok { IfOk result (λ seed. seed_given (option_map (λ s. s.now) text.entry) ≡ Some seed.0) }
     ensures err { IsErr result → seed_given (option_map (λ s. s.now) text.entry) ≡ None }
     ensures fault { IsOkUnless result program_fault.Seed }

@@ -3,19 +3,21 @@
 use crate::program::program;
 use std::process::Abort;
 use std::str;
+use std::sync::Wait;
 use std::test::Fail;
+use std::thread::Threads;
 
 /// Runs the program with words that ask for help, on a trace that is wrong, and looks for these texts in what it
 /// writes. No line of it has more than 80 columns.
 fn expect_help(
-    rt: &(impl Abort + AllocGlobal),
+    rt: &(impl Abort + AllocGlobal + Threads + Wait + Sync),
     words: &[&str],
     texts: &[&str],
 ) -> Result<(), Fail> {
     let mut written = Vec::new(rt.alloc());
     let mut told = Vec::new(rt.alloc());
     let mut trace = "foo\n".as_bytes();
-    let ended = program(rt.alloc(), words, &mut trace, &mut written, &mut told);
+    let ended = program(rt, rt.alloc(), words, &mut trace, &mut written, &mut told);
     let help = str::from_utf8(&written)?;
     assert_eq!(rt; ended, 0);
     assert_eq!(rt; told.len(), 0);
@@ -118,7 +120,14 @@ fn failed_writes_of_help_refused(rt: HostRuntime) -> Result<(), Fail> {
     let mut told = Vec::new(rt.alloc());
     let mut trace = "deq,0\n".as_bytes();
     let mut room = &mut taken[..];
-    let ended = program(rt.alloc(), &["--help"], &mut trace, &mut room, &mut told);
+    let ended = program(
+        &rt,
+        rt.alloc(),
+        &["--help"],
+        &mut trace,
+        &mut room,
+        &mut told,
+    );
     assert_eq!(rt; str::from_utf8(&told)?, "fqsim: write\n");
     assert_eq!(rt; str::from_utf8(&taken)?, "Run a");
     assert_eq!(rt; ended, 1);

@@ -3,7 +3,9 @@
 use crate::program::program;
 use std::io::{ErrorKind, Read, Write};
 use std::process::Abort;
+use std::sync::Wait;
 use std::test::Fail;
+use std::thread::Threads;
 use std::{io, str};
 
 /// The words of a run with one flow and otherwise the standard parameters.
@@ -62,7 +64,7 @@ impl Write for NarrowWriter {
 
 /// Runs the program on a trace that comes from a reader, and compares what it writes and how it ends.
 fn expect_from<R: Read>(
-    rt: &(impl Abort + AllocGlobal),
+    rt: &(impl Abort + AllocGlobal + Threads + Wait + Sync),
     reader: &mut R,
     status: u8,
     report: &str,
@@ -70,7 +72,7 @@ fn expect_from<R: Read>(
 ) -> Result<(), Fail> {
     let mut written = Vec::new(rt.alloc());
     let mut told = Vec::new(rt.alloc());
-    let ended = program(rt.alloc(), &WORDS, reader, &mut written, &mut told);
+    let ended = program(rt, rt.alloc(), &WORDS, reader, &mut written, &mut told);
     assert_eq!(rt; str::from_utf8(&told)?, faults);
     assert_eq!(rt; str::from_utf8(&written)?, report);
     assert_eq!(rt; ended, status);
@@ -80,7 +82,7 @@ fn expect_from<R: Read>(
 /// Runs the program on a trace of one dequeue with a writer that takes so many bytes at once, and compares how it
 /// ends and what the writer took.
 fn expect_taken(
-    rt: &(impl Abort + AllocGlobal),
+    rt: &(impl Abort + AllocGlobal + Threads + Wait + Sync),
     at_once: usize,
     room: usize,
     status: u8,
@@ -94,7 +96,7 @@ fn expect_taken(
     };
     let mut told = Vec::new(rt.alloc());
     let mut trace = "deq,0\n".as_bytes();
-    let ended = program(rt.alloc(), &WORDS, &mut trace, &mut writer, &mut told);
+    let ended = program(rt, rt.alloc(), &WORDS, &mut trace, &mut writer, &mut told);
     assert_eq!(rt; str::from_utf8(&told)?, faults);
     assert_eq!(rt; str::from_utf8(&writer.taken)?, report);
     assert_eq!(rt; ended, status);
@@ -170,7 +172,7 @@ fn writes_that_take_nothing_refused(rt: HostRuntime) -> Result<(), Fail> {
     let mut told = Vec::new(rt.alloc());
     let mut trace = "deq,0\n".as_bytes();
     let mut room = &mut taken[..];
-    let ended = program(rt.alloc(), &WORDS, &mut trace, &mut room, &mut told);
+    let ended = program(&rt, rt.alloc(), &WORDS, &mut trace, &mut room, &mut told);
     assert_eq!(rt; str::from_utf8(&told)?, "fqsim: write\n");
     assert_eq!(rt; str::from_utf8(&taken)?, "idle\nto");
     assert_eq!(rt; ended, 1);
@@ -186,7 +188,14 @@ fn a_fault_that_cannot_be_told_keeps_its_status(rt: HostRuntime) -> Result<(), F
     };
     let mut report = Vec::new(rt.alloc());
     let mut trace = "foo\n".as_bytes();
-    let ended = program(rt.alloc(), &WORDS, &mut trace, &mut report, &mut faults);
+    let ended = program(
+        &rt,
+        rt.alloc(),
+        &WORDS,
+        &mut trace,
+        &mut report,
+        &mut faults,
+    );
     assert_eq!(rt; ended, 2);
     assert_eq!(rt; report.len(), 0);
     Ok(())

@@ -2,8 +2,8 @@ use Rattle.std.proofs.Common.{ap, codes, refl, unwrap_or, ◌≡◌, ◌∙◌, 
 use Rattle.clap.specs.Words.{all_of, first_of, found_of, rows_of}
 use Rattle.clap.proofs.WalkLemmas.{first_value-rows, raw_values-rows}
 use Rattle.fqsim.specs.CommandLine.{rows_behind}
-use Rattle.fqsim.proofs.command_line.trace_request.Goals.{In-Some, in-Some-get_strs+in_ok-extend_from_slice, in_default-get_strs}
-use Rattle.fqsim.proofs.command_line.trace_request.Goals as goal
+use Rattle.fqsim.proofs.command_line.run_request.Goals.{In-Some, in-Some-get_strs+in_ok-extend_from_slice, in_default-get_strs}
+use Rattle.fqsim.proofs.command_line.run_request.Goals as goal
 
 -- the rows of the subcommand that was entered
 entered : (c : In-Some) → rows_of (found_of c.in-Some.found.now) ≡ rows_behind c.args.matches.now

@@ -1,0 +1,90 @@
+-- The journals of runs by senders that are threads.
+use Rattle.std.specs.Prelude.{◌≡◌, ◌<◌, ℕ, ◌+◌, ◌-◌, ◌%◌, ◌==◌, List, [], ◌∷◌, Ok, Vec, if◌then◌else◌, length, map, slice_index_or, sum_by}
+use Rattle.std.specs.Global.{Global}
+use Rattle.std.specs.List.{flat_map}
+use Rattle.packet_core.specs.FlowNumber.{flow_number}
+use Rattle.packet_core.specs.Packets.{PacketParts}
+use Rattle.packet_core.specs.declared.flow.Seed.{Seed}
+use Rattle.packet_core.specs.declared.params.ParamFields.{ParamFields}
+use Rattle.journal_core.specs.Calls.{Standing}
+use Rattle.journal_core.specs.Runs.{IsRunOf}
+use Rattle.journal_core.specs.Statistics.{statistics}
+use Rattle.journal_core.specs.declared.event.Event.{Event}
+use Rattle.journal_core.specs.declared.step.Step.{Step}
+use Rattle.journal_core.specs.declared.step.Step.TheVariants.{Enqueue, Dequeue, Close}
+use Rattle.fair_core.specs.FairQueues.{FairQueues}
+use Rattle.fair_core.specs.FqCodel.{fq_codel}
+use Rattle.port_core.specs.Ports.{Seat, of_lane}
+use Rattle.port_core.specs.Senders.{IsSubsequence, SendsSome, packets_told}
+use Rattle.port_core.specs.declared.gate.Stop.{Stop}
+use Rattle.port_core.specs.declared.gate.Stop.TheVariants as stop
+use Rattle.trace_core.specs.Report.{journal_text}
+use Rattle.trace_core.specs.Traces.{trace_of}
+use Rattle.trace_core.specs.declared.journal_report.SenderRow.{SenderRow}
+
+-- the sender of a packet: its flow modulo the number of senders
+abbrev pub sender_of : ParamFields → Seed → ℕ → PacketParts → ℕ
+sender_of p seed senders packet = flow_number p.classify p.flows seed packet.tuple % senders
+
+-- the call that a step is for a sender: its packet, at its moment, where it has one of this sender's
+abbrev pub calls_of_step : ParamFields → Seed → ℕ → ℕ → Step → List (ℕ × PacketParts)
+calls_of_step p seed senders sender (Enqueue moment lane packet) =
+    if sender_of p seed senders packet == sender then (moment, packet) ∷ [] else []
+calls_of_step p seed senders sender (Dequeue moment) = []
+calls_of_step p seed senders sender (Close moment) = []
+
+-- the calls of a sender, in the order of the steps
+abbrev pub calls_of : ParamFields → Seed → ℕ → ℕ → List Step → List (ℕ × PacketParts)
+calls_of p seed senders sender steps = flat_map (calls_of_step p seed senders sender) steps
+
+-- These are the calls of the senders, in their order.
+pub record AreCalls (p : ParamFields) (seed : Seed) (senders : ℕ) (steps : List Step)
+    (lists : List (Vec (ℕ × PacketParts) Global)) : Type 0 where
+  pub number : length lists ≡ senders
+  pub each : (i : ℕ) (d : Vec (ℕ × PacketParts) Global) → i < senders
+      → (slice_index_or lists i d).items ≡ calls_of p seed senders i steps
+
+-- A sender with that seat and that list made so many calls and stopped so, and has this seat then.
+pub record IsDone (old : Seat) (list : List (ℕ × PacketParts)) (calls : ℕ) (why : Stop) (new : Seat) : Type 0 where
+  pub told : SendsSome old (map (λ p. p.1) list) calls new
+  pub done : why ≡ stop.Done → calls ≡ length list
+
+-- the row of a sender that made so many calls
+abbrev pub row_of : ℕ → Seat → SenderRow
+row_of calls seat = record {
+  sender = seat.lane;
+  submitted = calls;
+  accepted = length seat.told;
+  left = calls - length seat.told;
+}
+
+-- The row is that of a sender with these calls: each was made, some of the packets were accepted, in the order of the
+-- calls, and the others are left.
+pub record IsSenderRow (sender : ℕ) (calls : List (ℕ × PacketParts)) (events : List Event) (row : SenderRow) : Type 0 where
+  pub number : row.sender ≡ sender
+  pub submitted : row.submitted ≡ length calls
+  pub accepted : row.accepted ≡ length (of_lane sender events)
+  pub left : row.accepted + row.left ≡ row.submitted
+  pub in_order : IsSubsequence (packets_told (of_lane sender events)) (map (λ p. p.1) calls)
+
+-- The events are those of some run with that seed and those parameters, in which the packets of the steps were submitted
+-- by so many senders, and the rows are theirs. All that was accepted is some sender's.
+pub record AreJournalOf (p : ParamFields) (seed : Seed) (senders : ℕ) (steps : List Step) (events : List Event)
+    (rows : List SenderRow) : Type 0 where
+  pub made : List Step
+  pub standing : Standing FairQueues
+  pub run : IsRunOf (fq_codel p seed) made standing
+  pub journal : standing.events ≡ events
+  pub number : length rows ≡ senders
+  pub each : (i : ℕ) (d : SenderRow) → i < senders
+      → IsSenderRow i (calls_of p seed senders i steps) events (slice_index_or rows i d)
+  pub all : (statistics events).accepted ≡ sum_by (λ row. row.accepted) rows
+
+-- The text is the journal of a run of a trace with these bytes by so many senders.
+pub record IsJournalOf (p : ParamFields) (seed : Seed) (senders : ℕ) (bytes text : List ℕ) : Type 0 where
+  pub steps : List Step
+  pub events : List Event
+  pub rows : List SenderRow
+  pub read : trace_of bytes ≡ Ok steps
+  pub made : AreJournalOf p seed senders steps events rows
+  pub told : text ≡ journal_text events rows
