@@ -37,7 +37,8 @@ pub record EngineInvariant (sched : Scheduler) (steps : List Step) (keeper_room 
   pub in_keeper : reserved ≤ keeper_room
 
 -- A new engine of those parameters and that seed has made the first of these steps, with those outcomes.
-pub record HasRun (p : ParamFields) (seed : Seed) (steps first : List Step) (outcomes : List Outcome) (e : Running) : Type 0 where
+pub record HasRun (p : ParamFields) (seed : Seed) (steps first : List Step) (outcomes : List Outcome)
+    (e : Running) : Type 0 where
   pub run : IsRun (fq_codel p seed) first e.sched.standing outcomes
   pub params_kept : e.sched.params ≡ p
   pub seed_kept : e.sched.seed ≡ seed
