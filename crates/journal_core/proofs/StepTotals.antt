@@ -63,13 +63,13 @@ tells_sent moment dropped (Some g) old =
     let drops = map (drop_event moment cause.Codel) dropped in
     let told = sent_events moment (Some g) in
     adds_events old (drops ++ told) 0 1
-      (rw (filter_map-append acceptance_of drops told, no_acceptance moment cause.Codel dropped) refl)
-      (rw (filter_map-append sent_of drops told, none_sent moment cause.Codel dropped) refl)
+    (rw (filter_map-append acceptance_of drops told, no_acceptance moment cause.Codel dropped) refl)
+    (rw (filter_map-append sent_of drops told, none_sent moment cause.Codel dropped) refl)
 
 -- a dequeue sends the packet that it gives, and accepts none
 pub adds_sent : {Q : Type 0} (d : Discipline Q) (old new : Standing Q) (moment : ℕ) (sent : Option Sent)
     → Gives d old moment sent new → Adds 0 (given_count sent) old.events new.events
 adds_sent d old new moment sent g =
     subst (λ s. Adds 0 (given_count s) old.events new.events) (sym g.told)
-      (subst (Adds 0 (given_count (option_map (sent_at moment) g.given)) old.events) (sym (g.journal ∙ ap (λ es. old.events ++ es) g.serves.told))
-        (tells_sent moment g.serves.dropped g.given old.events))
+    (subst (Adds 0 (given_count (option_map (sent_at moment) g.given)) old.events) (sym (g.journal ∙ ap (λ es. old.events ++ es) g.serves.told))
+    (tells_sent moment g.serves.dropped g.given old.events))
