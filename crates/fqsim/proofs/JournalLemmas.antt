@@ -209,11 +209,10 @@ seats_popped n seats s are =
     let next : new_seats (n + 1) ≡ new_seats n ++ new_seat n ∷ [] = ap new_seats (add-one n) in
     let same : seats ++ s ∷ [] ≡ new_seats n ++ new_seat n ∷ [] = sym are ∙ next in
     let many : length seats ≡ n = omega (arith, ap length same, length-append seats (s ∷ []), length-append (new_seats n) (new_seat n ∷ []), new_seats_length n) in
-    let least : length (new_seats n) ≡ n = new_seats_length n in
-    (
+    let least : length (new_seats n) ≡ n = new_seats_length n in (
       sym (take_all n seats (omega (arith, many))) ∙ sym (take-append-le n seats (s ∷ []) (omega (arith, many))) ∙ ap (take n) same
-      ∙ take-append-le n (new_seats n) (new_seat n ∷ []) (omega (arith, least)) ∙ take_all n (new_seats n) (omega (arith, least)),
+          ∙ take-append-le n (new_seats n) (new_seat n ∷ []) (omega (arith, least)) ∙ take_all n (new_seats n) (omega (arith, least)),
       sym (get_or-append_right seats (s ∷ []) n n s many (omega arith) ∙ ap (λ k. get_or (s ∷ []) k s) (let none : n - n ≡ 0 = omega arith in none))
-      ∙ ap (λ xs. get_or xs n s) same
-      ∙ get_or-append_right (new_seats n) (new_seat n ∷ []) n n s least (omega arith) ∙ ap (λ k. get_or (new_seat n ∷ []) k s) (let none : n - n ≡ 0 = omega arith in none),
+          ∙ ap (λ xs. get_or xs n s) same
+          ∙ get_or-append_right (new_seats n) (new_seat n ∷ []) n n s least (omega arith) ∙ ap (λ k. get_or (new_seat n ∷ []) k s) (let none : n - n ≡ 0 = omega arith in none),
     )

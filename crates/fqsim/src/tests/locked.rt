@@ -1,9 +1,9 @@
 //! Senders in threads of their own.
-ghost use Rattle.std.specs.Prelude.{◌≡◌};
+ghost use Rattle.std.specs.Prelude.{◌≡◌, IfOk, length};
 
 use crate::senders::start_locked;
 use packet_core::{Ecn, FiveTuple, Ip, Packet, Seed, read_params};
-use port_core::{Gate, LockedPort, Stop};
+use port_core::{Gate, LockedDone, LockedPort, PortSeat, Stop};
 use std::alloc::Global;
 use std::marker::Brand;
 use std::process::Abort;
@@ -59,10 +59,37 @@ fn at_three_seats<
     let params = read_params(&["classify", "dport", "flows", "4"])?;
     let seed = Seed([0; 16]);
     let (port, mut seats) = LockedPort::<A, S>::start(alloc, params, seed, 3, accepted, sent)?;
-    let mut device = seats.pop().ok_or("the device's seat")?;
+    let device = seats.pop().ok_or("the device's seat")?;
+    let seats = send_by_gates(rt, alloc, &port, seats, device)?;
+    let engine = port.settle(seats).ok().ok_or("it settles")?;
+    assert_eq!(rt; engine.totals().accepted, 4);
+    Ok(())
+}
+
+/// Two packets for each of the two senders.
+fn lists(alloc: Global) -> Result<Vec<Vec<(u64, Packet)>>, Fail>
+    ensures { IfOk result (λ lists. length lists.items ≡ 2) }
+{
     let even = vec![in alloc; (0u64, packet(2)?), (1, packet(2)?)]?;
     let odd = vec![in alloc; (0u64, packet(1)?), (1, packet(1)?)]?;
-    let lists = vec![in alloc; even, odd]?;
+    Ok(vec![in alloc; even, odd]?)
+}
+
+/// Two senders that wait for one another's answers, while the device asks for a packet. Gives their seats and its own.
+fn send_by_gates<
+    A: Ledger + Send + Sync,
+    S: Ledger + Send + Sync,
+    R: Threads + Wait + Abort + Sync,
+>(
+    rt: &R,
+    alloc: Global,
+    port: &LockedPort<A, S>,
+    seats: Vec<PortSeat<A, S>>,
+    device: PortSeat<A, S>,
+) -> Result<Vec<PortSeat<A, S>>, Fail>
+    requires { length seats.items ≡ 2 }
+{
+    let lists = lists(alloc)?;
     let (zero, one) = (AtomicU64::new(0), AtomicU64::new(0));
     let gates = [
         Side {
@@ -76,17 +103,28 @@ fn at_three_seats<
             answered_there: &zero,
         },
     ];
-    let part = || port.dequeue(rt, &mut device, 0);
-    let (done, _) = start_locked(rt, alloc, &port, seats, &lists, &gates, part)?;
+    let part = move || {
+        let mut device = device;
+        let _ = port.dequeue(rt, &mut device, 0);
+        device
+    };
+    let (done, device) = start_locked(rt, alloc, port, seats, &lists, &gates, part)?;
+    seats_of(rt, alloc, done, device)
+}
+
+/// The seats of senders that made both their calls, and the device's behind them.
+fn seats_of<A: Ledger, S: Ledger, R: Abort>(
+    rt: &R,
+    alloc: Global,
+    done: Vec<LockedDone<A, S>>,
+    device: PortSeat<A, S>,
+) -> Result<Vec<PortSeat<A, S>>, Fail> {
     let mut seats = Vec::new(alloc);
     for sender in done {
-        assert_eq!(rt; sender.stop, Stop::Done);
-        assert_eq!(rt; sender.calls, 2);
+        assert_eq!(rt; (sender.calls, sender.stop), (2, Stop::Done));
         assert_eq!(rt; sender.seat.accepted(), 2);
         seats.push(sender.seat)?;
     }
     seats.push(device)?;
-    let engine = port.settle(seats).ok().ok_or("it settles")?;
-    assert_eq!(rt; engine.totals().accepted, 4);
-    Ok(())
+    Ok(seats)
 }

@@ -43,8 +43,8 @@ returns-in-Ok-clause-journal g c =
     let with_params : engine.sched.params ≡ c.args.params = c.in-Ok.ensures.params.0 ∙ ap (λ (p : Port). p.params) c.in_ok-port.ensures.port in
     let with_seed : engine.sched.seed ≡ c.args.seed = c.in-Ok.ensures.params.1 ∙ ap (λ (p : Port). p.seed) c.in_ok-port.ensures.port in
     let sender_rows =
-        rows_of_done c.args.params c.args.seed n c.args.steps.now c.args.lists.now (λ d. d.calls) (λ d. d.stop) (λ d. d.seat) done (device ∷ []) events
-        c.requires.lists number (λ i d s l less. each i d s l (omega (arith, less, new_seats_length n))) c.in_ok-rows.ensures.done told in
+    rows_of_done c.args.params c.args.seed n c.args.steps.now c.args.lists.now (λ d. d.calls) (λ d. d.stop) (λ d. d.seat) done (device ∷ []) events
+    c.requires.lists number (λ i d s l less. each i d s l (omega (arith, less, new_seats_length n))) c.in_ok-rows.ensures.done told in
     record {
       made = engine.steps;
       standing = engine.sched.standing;
