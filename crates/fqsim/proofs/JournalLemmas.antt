@@ -1,5 +1,5 @@
 -- What the senders' seats, lists and rows say of a journal.
-use Rattle.std.proofs.Common.{◌≡◌, ◌≢◌, ◌∙◌, ◌==◌, ℕ, zero, suc, ◌+◌, ◌-◌, ◌<◌, ◌≤◌, Bool, true, false, List, [], ◌∷◌, ◌++◌, All, Vec, Global, add-one, append-nil, append_assoc, ap, arith, filter, get_or, length, map, refl, set, slice_index_or, subst, sum_by, sym, take, length-append}
+use Rattle.std.proofs.Common.{◌≡◌, ◌≢◌, ◌∙◌, ◌==◌, ℕ, zero, suc, ◌+◌, ◌-◌, ◌<◌, ◌≤◌, Bool, true, false, List, [], ◌∷◌, ◌++◌, All, Vec, Global, add-one, append-nil, append_assoc, ap, arith, get_or, length, map, refl, set, slice_index_or, subst, sum_by, sym, take, length-append}
 use Rattle.std.proofs.lemmas.Bool.{eq-eqb, eqb-true, true≢false}
 use Rattle.std.proofs.lemmas.List.{get_or-append_right, get_or-map, get_or-set_other, get_or_append_left, length-map, length-set, take-append-le, take_all, take_more}
 use Rattle.std.proofs.lemmas.Grind.{flat_map-append, get_or-set_at}
@@ -8,13 +8,12 @@ use Rattle.std.specs.List.{flat_map}
 use Rattle.packet_core.specs.Packets.{PacketParts}
 use Rattle.packet_core.specs.declared.flow.Seed.{Seed}
 use Rattle.packet_core.specs.declared.params.ParamFields.{ParamFields}
-use Rattle.journal_core.specs.Happened.{acceptances}
 use Rattle.journal_core.specs.declared.event.Event.{Event}
 use Rattle.journal_core.specs.declared.event.Event.TheVariants.{Accepted, Sent, Dropped, Closed}
 use Rattle.journal_core.specs.declared.step.Step.{Step}
 use Rattle.journal_core.specs.declared.step.Step.TheVariants.{Enqueue, Dequeue, Close}
-use Rattle.port_core.specs.Ports.{Seat, is_of, new_seat, new_seats, of_lane}
-use Rattle.port_core.specs.Senders.{IsSubsequence, SendsSome, ends, takes, leaves, packets_told}
+use Rattle.port_core.specs.Ports.{Seat, new_seat, new_seats, of_lane}
+use Rattle.port_core.specs.Senders.{IsSubsequence, ends, takes, leaves, packets_told}
 use Rattle.port_core.specs.declared.gate.Stop.{Stop}
 use Rattle.port_core.specs.declared.gate.Stop.TheVariants as stop
 use Rattle.trace_core.specs.declared.journal_report.SenderRow.{SenderRow}
@@ -209,11 +208,10 @@ seats_popped n seats s are =
     let next : new_seats (n + 1) ≡ new_seats n ++ new_seat n ∷ [] = ap new_seats (add-one n) in
     let same : seats ++ s ∷ [] ≡ new_seats n ++ new_seat n ∷ [] = sym are ∙ next in
     let many : length seats ≡ n = omega (arith, ap length same, length-append seats (s ∷ []), length-append (new_seats n) (new_seat n ∷ []), new_seats_length n) in
-    let least : length (new_seats n) ≡ n = new_seats_length n in
-    (
+    let least : length (new_seats n) ≡ n = new_seats_length n in (
       sym (take_all n seats (omega (arith, many))) ∙ sym (take-append-le n seats (s ∷ []) (omega (arith, many))) ∙ ap (take n) same
-      ∙ take-append-le n (new_seats n) (new_seat n ∷ []) (omega (arith, least)) ∙ take_all n (new_seats n) (omega (arith, least)),
+          ∙ take-append-le n (new_seats n) (new_seat n ∷ []) (omega (arith, least)) ∙ take_all n (new_seats n) (omega (arith, least)),
       sym (get_or-append_right seats (s ∷ []) n n s many (omega arith) ∙ ap (λ k. get_or (s ∷ []) k s) (let none : n - n ≡ 0 = omega arith in none))
-      ∙ ap (λ xs. get_or xs n s) same
-      ∙ get_or-append_right (new_seats n) (new_seat n ∷ []) n n s least (omega arith) ∙ ap (λ k. get_or (new_seat n ∷ []) k s) (let none : n - n ≡ 0 = omega arith in none),
+          ∙ ap (λ xs. get_or xs n s) same
+          ∙ get_or-append_right (new_seats n) (new_seat n ∷ []) n n s least (omega arith) ∙ ap (λ k. get_or (new_seat n ∷ []) k s) (let none : n - n ≡ 0 = omega arith in none),
     )

@@ -57,6 +57,11 @@ pub answers_locked : {X E : Type 0} (words : List (List ℕ)) (input old new : O
     → IsSenderCount (senders_text words) n → OnOk r (IsLockedRunFor seed_words given n input (λ text. Appends old new text))
     → OnOk r (Answers words input old new)
 answers_locked words input old new (Ok x) seed_words given n asks seed_is given_is count made =
-    inr (inl (asks, n, count, subst (λ s. IsLockedRunFor s (parameter_words words) n input (λ text. Appends old new text)) seed_is
-    (subst (λ ps. IsLockedRunFor seed_words ps n input (λ text. Appends old new text)) given_is made)))
+    inr (inl (
+      asks,
+      n,
+      count,
+      subst (λ s. IsLockedRunFor s (parameter_words words) n input (λ text. Appends old new text)) seed_is
+          (subst (λ ps. IsLockedRunFor seed_words ps n input (λ text. Appends old new text)) given_is made),
+    ))
 answers_locked words input old new (Err e) seed_words given n asks seed_is given_is count made = tt

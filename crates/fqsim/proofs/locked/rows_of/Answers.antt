@@ -1,4 +1,4 @@
-use Rattle.std.proofs.Common.{◌≡◌, ◌∷◌, All, rules}
+use Rattle.std.proofs.Common.{◌≡◌, ◌∷◌, rules}
 use Rattle.std.specs.Vec.Iter.{into_iter_items}
 use Rattle.port_core.specs.declared.gate.Stop.TheVariants as stop
 use Rattle.fqsim.specs.Journals.{row_of}
@@ -11,8 +11,7 @@ loop-sender-preserved g c =
     let cut : into_iter_items c.loop-sender.sender-iterator ≡ c.in-Some.sender ∷ rest = search rules in
     let done : c.in-Some.sender.stop ≡ stop.Done = search rules in
     let pushed = map_more (λ d. row_of d.calls d.seat) c.loop-sender.rows.items c.in-Some.sender rest _ (rw cut at c.loop-sender.invariant.0) in
-    let seated = map_more (λ d. d.seat) c.loop-sender.seats.items c.in-Some.sender rest _ (rw cut at c.loop-sender.invariant.1) in
-    (
+    let seated = map_more (λ d. d.seat) c.loop-sender.seats.items c.in-Some.sender rest _ (rw cut at c.loop-sender.invariant.1) in (
       rw (c.in_ok-push.ensures.items, c.row_of.ensures) pushed,
       rw c.in_ok-push-2.ensures.items seated,
       (λ all. (rw cut at c.loop-sender.invariant.2) (all_more (λ d. d.stop ≡ stop.Done) c.in-Some.sender rest done all)),

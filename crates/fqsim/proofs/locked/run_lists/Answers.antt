@@ -1,12 +1,12 @@
-use Rattle.std.proofs.Common.{◌≡◌, ◌∙◌, ◌+◌, ◌++◌, ◌∷◌, [], All, List, ap, arith, length, map, refl, rules, subst, sum_by, sym}
+use Rattle.std.proofs.Common.{◌≡◌, ◌∙◌, ◌+◌, ◌++◌, ◌∷◌, [], List, ap, arith, length, map, refl, rules, subst, sum_by, sym}
 use Rattle.std.proofs.lemmas.List.{length-map}
 use Rattle.packet_core.specs.declared.flow.Seed.{Seed}
 use Rattle.packet_core.specs.declared.params.ParamFields.{ParamFields}
 use Rattle.journal_core.specs.Runs.{IsRunOf}
 use Rattle.fair_core.specs.FqCodel.{fq_codel}
-use Rattle.port_core.specs.Ports.{Port, Seat, new_seat, new_seats, of_lane}
+use Rattle.port_core.specs.Ports.{Port, Seat, new_seat, new_seats}
 use Rattle.trace_core.specs.declared.journal_report.SenderRow.{SenderRow}
-use Rattle.fqsim.specs.Journals.{IsSenderRow, calls_of, row_of}
+use Rattle.fqsim.specs.Journals.{row_of}
 use Rattle.fqsim.proofs.JournalLemmas.{accepted_of_rows, new_seats_length, rows_of_done, seats_popped}
 use Rattle.fqsim.proofs.locked.run_lists.Goals.{In-Some}
 use Rattle.fqsim.proofs.locked.run_lists.Given.{Over}
@@ -43,8 +43,8 @@ returns-in-Ok-clause-journal g c =
     let with_params : engine.sched.params ≡ c.args.params = c.in-Ok.ensures.params.0 ∙ ap (λ (p : Port). p.params) c.in_ok-port.ensures.port in
     let with_seed : engine.sched.seed ≡ c.args.seed = c.in-Ok.ensures.params.1 ∙ ap (λ (p : Port). p.seed) c.in_ok-port.ensures.port in
     let sender_rows =
-        rows_of_done c.args.params c.args.seed n c.args.steps.now c.args.lists.now (λ d. d.calls) (λ d. d.stop) (λ d. d.seat) done (device ∷ []) events
-        c.requires.lists number (λ i d s l less. each i d s l (omega (arith, less, new_seats_length n))) c.in_ok-rows.ensures.done told in
+    rows_of_done c.args.params c.args.seed n c.args.steps.now c.args.lists.now (λ d. d.calls) (λ d. d.stop) (λ d. d.seat) done (device ∷ []) events
+    c.requires.lists number (λ i d s l less. each i d s l (omega (arith, less, new_seats_length n))) c.in_ok-rows.ensures.done told in
     record {
       made = engine.steps;
       standing = engine.sched.standing;

@@ -14,8 +14,8 @@ returns-in_err-write_journal-clause-fault g c =
     (locked_fault (option_map (λ s. s.now) c.args.request.now.run.seed) (map (λ w. w.now) c.args.request.now.run.parameters.items)
     c.args.request.now.senders (g.R.Read.remaining c.args.reader.now) (g.W.Write.contents c.args.writer.now) (g.W.Write.contents c.write_journal.new.writer) fault
     (λ is.
-        locked_run (option_map (λ s. s.now) c.args.request.now.run.seed) _ _ _ _ c.in_ok-seed.seed c.in_ok-params.params c.in_ok-steps.steps.items c.in_ok-engine.engine.sched.standing.events c.deref-3.result.now
-        c.in_ok-seed.ensures.ok params_read c.in_ok-steps.ensures.steps made (c.in_err-write_journal.ensures.front is))
+    locked_run (option_map (λ s. s.now) c.args.request.now.run.seed) _ _ _ _ c.in_ok-seed.seed c.in_ok-params.params c.in_ok-steps.steps.items c.in_ok-engine.engine.sched.standing.events c.deref-3.result.now
+    c.in_ok-seed.ensures.ok params_read c.in_ok-steps.ensures.steps made (c.in_err-write_journal.ensures.front is))
     c.in_err-write_journal.ensures.memory c.in_err-write_journal.ensures.untouched)
 
 pub returns-clause-journal : goal.returns-clause-journal
