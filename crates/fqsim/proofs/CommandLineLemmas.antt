@@ -1,9 +1,9 @@
 -- What follows from the kinds of error that a command line has.
-use Rattle.std.proofs.Common.{◌≡◌, ◌≢◌, ◌∙◌, ◌^◌, ◌<◌, ◌≤◌, ℕ, true, List, inl, inr, Box, Option, Some, None, Result, Ok, Err, String, Global, ap, arith, ◌+◌, box_value, codes, option_map, refl, rules, subst, sym}
-use Rattle.std.specs.Str.Parse.{IsNumeral, ParsesUnsigned, digits_value, without_leading_plus}
+use Rattle.std.proofs.Common.{◌≡◌, ◌≢◌, ◌≤◌, ℕ, true, List, inl, inr, Box, Option, Some, None, Result, Ok, Err, String, Global, arith, ◌+◌, box_value, option_map, refl, rules, subst}
+use Rattle.std.specs.Str.Parse.{ParsesUnsigned, digits_value, without_leading_plus}
 use Rattle.clap.specs.Words.{App, HasKind, IsAmong, Kinds, Text, fault_of, is_simple, is_simple_and_free, kind_of}
 use Rattle.clap.specs.Matches.{ReadsOne}
-use Rattle.clap.specs.Simple.{built, subcommand_rows}
+use Rattle.clap.specs.Simple.{subcommand_rows}
 use Rattle.clap.specs.Values.{IsUnsignedIn}
 use Rattle.clap.proofs.OnLiterals.{clap_on_literals}
 use Rattle.clap.specs.declared.error.Error.{Error}

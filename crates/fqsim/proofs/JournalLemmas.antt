@@ -1,5 +1,5 @@
 -- What the senders' seats, lists and rows say of a journal.
-use Rattle.std.proofs.Common.{◌≡◌, ◌≢◌, ◌∙◌, ◌==◌, ℕ, zero, suc, ◌+◌, ◌-◌, ◌<◌, ◌≤◌, Bool, true, false, List, [], ◌∷◌, ◌++◌, All, Vec, Global, add-one, append-nil, append_assoc, ap, arith, filter, get_or, length, map, refl, set, slice_index_or, subst, sum_by, sym, take, length-append}
+use Rattle.std.proofs.Common.{◌≡◌, ◌≢◌, ◌∙◌, ◌==◌, ℕ, zero, suc, ◌+◌, ◌-◌, ◌<◌, ◌≤◌, Bool, true, false, List, [], ◌∷◌, ◌++◌, All, Vec, Global, add-one, append-nil, append_assoc, ap, arith, get_or, length, map, refl, set, slice_index_or, subst, sum_by, sym, take, length-append}
 use Rattle.std.proofs.lemmas.Bool.{eq-eqb, eqb-true, true≢false}
 use Rattle.std.proofs.lemmas.List.{get_or-append_right, get_or-map, get_or-set_other, get_or_append_left, length-map, length-set, take-append-le, take_all, take_more}
 use Rattle.std.proofs.lemmas.Grind.{flat_map-append, get_or-set_at}
@@ -8,13 +8,12 @@ use Rattle.std.specs.List.{flat_map}
 use Rattle.packet_core.specs.Packets.{PacketParts}
 use Rattle.packet_core.specs.declared.flow.Seed.{Seed}
 use Rattle.packet_core.specs.declared.params.ParamFields.{ParamFields}
-use Rattle.journal_core.specs.Happened.{acceptances}
 use Rattle.journal_core.specs.declared.event.Event.{Event}
 use Rattle.journal_core.specs.declared.event.Event.TheVariants.{Accepted, Sent, Dropped, Closed}
 use Rattle.journal_core.specs.declared.step.Step.{Step}
 use Rattle.journal_core.specs.declared.step.Step.TheVariants.{Enqueue, Dequeue, Close}
-use Rattle.port_core.specs.Ports.{Seat, is_of, new_seat, new_seats, of_lane}
-use Rattle.port_core.specs.Senders.{IsSubsequence, SendsSome, ends, takes, leaves, packets_told}
+use Rattle.port_core.specs.Ports.{Seat, new_seat, new_seats, of_lane}
+use Rattle.port_core.specs.Senders.{IsSubsequence, ends, takes, leaves, packets_told}
 use Rattle.port_core.specs.declared.gate.Stop.{Stop}
 use Rattle.port_core.specs.declared.gate.Stop.TheVariants as stop
 use Rattle.trace_core.specs.declared.journal_report.SenderRow.{SenderRow}

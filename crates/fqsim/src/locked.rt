@@ -69,7 +69,6 @@ fn run_locked<H: Threads + Wait + Sync>(
     run_lists::<Brand, Brand, _>(rt, alloc, params, seed, steps, &lists, accepted, sent)
 }
 
-#[tactic(auto, using(crate::proofs::JournalLemmas::new_seats_length))]
 /// Makes the packets of each list by a sender of its own, and the other steps by this thread, through a port with these
 /// ledgers.
 fn run_lists<A: Ledger + Send + Sync, S: Ledger + Send + Sync, H: Threads + Wait + Sync>(

@@ -47,8 +47,8 @@ pub const SENDERS_SUMMARY: &str = "Number of senders, 1 to 64 [default: 2]";
 
 /// What the number of senders is.
 pub const SENDERS_DESCRIPTION: &str = "\
-Number of senders, 1 to 64: the packets of flow F belong to sender F modulo N
-[default: 2]";
+Number of senders, 1 to 64: the packets of flow F belong to sender
+F modulo N [default: 2]";
 
 /// How senders and the main thread share a trace, and the journal.
 pub const LOCKED_NOTES: &str = "\

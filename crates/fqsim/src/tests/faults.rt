@@ -34,6 +34,11 @@ fn want_of_memory_is_told(rt: HostRuntime) -> Result<(), Fail> {
 }
 
 #[test]
+fn a_port_that_does_not_settle_is_told(rt: HostRuntime) -> Result<(), Fail> {
+    expect_line(&rt, ProgramFault::Settle, 1, "fqsim: settle\n")
+}
+
+#[test]
 fn unread_rows_are_told(rt: HostRuntime) -> Result<(), Fail> {
     let what = TraceFaultKind::Read;
     let fault = ProgramFault::Trace(TraceFault { row: 7, what });

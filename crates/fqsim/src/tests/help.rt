@@ -36,7 +36,9 @@ fn help_on_the_program(rt: HostRuntime) -> Result<(), Fail> {
         "RFC 8290",
         "Usage: fqsim <COMMAND>\n",
         "\n  trace  ",
+        "\n  locked  ",
         "'fqsim trace --help'",
+        "'fqsim locked --help'",
         "Exit status:\n  0  ",
         "\n  1  ",
         "\n  2  ",
@@ -65,6 +67,24 @@ fn help_on_the_parameters(rt: HostRuntime) -> Result<(), Fail> {
     expect_help(&rt, &["help", "trace"], &texts)?;
     expect_help(&rt, &["trace", "flows", "0", "--help"], &texts)?;
     expect_help(&rt, &["trace", "-h"], &texts[..2])
+}
+
+#[test]
+fn help_on_the_senders(rt: HostRuntime) -> Result<(), Fail> {
+    let texts = [
+        "Usage: fqsim locked [OPTIONS] [PARAM]...\n",
+        "--seed <HEX32>",
+        "--senders <N>",
+        "1 to 64",
+        "[default: 2]",
+        "\n  accepted,ID,FLOW ",
+        "\n  closed ",
+        "\n  sender,I,SUBMITTED,ACCEPTED,LEFT\n",
+        "'fqsim: settle'",
+    ];
+    expect_help(&rt, &["locked", "--help"], &texts)?;
+    expect_help(&rt, &["help", "locked"], &texts)?;
+    expect_help(&rt, &["locked", "--senders", "3", "--help"], &texts)
 }
 
 #[test]

@@ -1,7 +1,7 @@
-use Rattle.std.proofs.Common.{◌≡◌, ◌≢◌, ◌∙◌, ◌+◌, ◌≤◌, ℕ, Option, Some, None, ap, arith, codes, rules, sym, refl}
+use Rattle.std.proofs.Common.{◌∙◌, codes, rules, sym}
 use Rattle.std.specs.Str.Parse.{ExplainsUnsignedError, HasUnsignedDigitsIfOk, ParsesUnsigned}
 use Rattle.clap.proofs.WalkLemmas.{one_text-rows}
-use Rattle.clap.specs.Words.{found_of, one_of, rows_of}
+use Rattle.clap.specs.Words.{found_of}
 use Rattle.fqsim.proofs.CommandLineLemmas.{senders_read, senders_unread}
 use Rattle.fqsim.proofs.command_line.sender_count.Goals as goal
 

@@ -1,4 +1,4 @@
-use Rattle.std.proofs.Common.{◌≡◌, ◌∷◌, All, rules}
+use Rattle.std.proofs.Common.{◌≡◌, ◌∷◌, rules}
 use Rattle.std.specs.Vec.Iter.{into_iter_items}
 use Rattle.port_core.specs.declared.gate.Stop.TheVariants as stop
 use Rattle.fqsim.specs.Journals.{row_of}

@@ -1,12 +1,12 @@
-use Rattle.std.proofs.Common.{◌≡◌, ◌∙◌, ◌+◌, ◌++◌, ◌∷◌, [], All, List, ap, arith, length, map, refl, rules, subst, sum_by, sym}
+use Rattle.std.proofs.Common.{◌≡◌, ◌∙◌, ◌+◌, ◌++◌, ◌∷◌, [], List, ap, arith, length, map, refl, rules, subst, sum_by, sym}
 use Rattle.std.proofs.lemmas.List.{length-map}
 use Rattle.packet_core.specs.declared.flow.Seed.{Seed}
 use Rattle.packet_core.specs.declared.params.ParamFields.{ParamFields}
 use Rattle.journal_core.specs.Runs.{IsRunOf}
 use Rattle.fair_core.specs.FqCodel.{fq_codel}
-use Rattle.port_core.specs.Ports.{Port, Seat, new_seat, new_seats, of_lane}
+use Rattle.port_core.specs.Ports.{Port, Seat, new_seat, new_seats}
 use Rattle.trace_core.specs.declared.journal_report.SenderRow.{SenderRow}
-use Rattle.fqsim.specs.Journals.{IsSenderRow, calls_of, row_of}
+use Rattle.fqsim.specs.Journals.{row_of}
 use Rattle.fqsim.proofs.JournalLemmas.{accepted_of_rows, new_seats_length, rows_of_done, seats_popped}
 use Rattle.fqsim.proofs.locked.run_lists.Goals.{In-Some}
 use Rattle.fqsim.proofs.locked.run_lists.Given.{Over}

@@ -1,7 +1,6 @@
-use Rattle.std.proofs.Common.{◌≡◌, ◌∙◌, ◌++◌, ◌∷◌, [], ◌%◌, ◌+◌, ◌<◌, ℕ, Vec, Global, ap, arith, get_or, refl, rules, slice_index_or, subst, sym, take}
+use Rattle.std.proofs.Common.{◌≡◌, ◌++◌, ◌∷◌, [], ◌%◌, ◌+◌, ◌<◌, ℕ, Vec, Global, arith, get_or, rules, slice_index_or, subst, sym, take}
 use Rattle.packet_core.specs.Packets.{PacketParts}
 use Rattle.journal_core.specs.declared.step.Step.{Step}
-use Rattle.journal_core.specs.declared.step.Step.TheVariants.{Enqueue}
 use Rattle.fqsim.specs.Journals.{AreCalls, sender_of}
 use Rattle.fqsim.proofs.JournalLemmas.{calls_push, calls_skip, no_call}
 use Rattle.fqsim.proofs.senders.lists_of.Goals.{in-Enqueue+in_ok-push-2, in_default}
