@@ -125,8 +125,8 @@ impl From<RunFault> for ProgramFault {
     }
 }
 
-/// Why a call of the locked port is refused, where it isn't for a second close: the moments of a trace are below 2^60 and
-/// it has less than 2^40 rows, so memory was wanting.
+/// Why a call of the locked port is refused, where it isn't for a second close: the moments of a trace are below 2^60
+/// and it has less than 2^40 rows, so memory was wanting.
 impl From<Refusal> for ProgramFault {
     ghost from_gives = { λ _ e. e ≡ program_fault.Memory };
 
@@ -166,9 +166,9 @@ impl From<io::Error> for ProgramFault {
     }
 }
 
-/// The whole program over the words behind its name. It reads a trace and writes the report of its run, or writes
-/// help where the words ask for that, and tells a fault on `faults`. It answers the status that the program ends
-/// with.
+/// The whole program over the words behind its name. It reads a trace and writes the report of its run or the journal
+/// of its run by senders, or writes help where the words ask for that, and tells a fault on `faults`. It answers the
+/// status that the program ends with.
 pub fn program<H: Threads + Wait + Sync, R: Read, W: Write, F: Write>(
     rt: &H,
     alloc: Global,
@@ -178,7 +178,8 @@ pub fn program<H: Threads + Wait + Sync, R: Read, W: Write, F: Write>(
     faults: &mut F,
 ) -> u8
     // With the status 0 the writer holds what it held, and then the report of the input with the seed and the
-    // parameters of the words, where these are those of a run. Else they ask for help, and a text is written.
+    // parameters of the words, or a journal of its run by senders, where these are those of a run. Else they ask for
+    // help, and a text is written.
     ensures answer { result ≡ 0 → Answers (map (λ w. w.now) words.now) (R.remaining reader.old)
         (W.contents writer.old) (W.contents writer.new) }
 
@@ -186,7 +187,7 @@ pub fn program<H: Threads + Wait + Sync, R: Read, W: Write, F: Write>(
     ensures quiet { result ≡ 0 → Keeps (F.contents faults.old) (F.contents faults.new) }
 
     // Any other status is that of a fault that these words and this input have, by which the writer came from what it
-    // held to what it holds: a front of the report or of help where a write failed, and else what it held.
+    // held to what it holds: a front of the report, of a journal or of help where a write failed, else what it held.
     ensures fault { (result ≢ 0) → (fault : ProgramFault)
         × IsFaultOn (map (λ w. w.now) words.now) (R.remaining reader.old)
         (W.contents writer.old) (W.contents writer.new) fault

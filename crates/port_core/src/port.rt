@@ -154,8 +154,8 @@ impl<A: Ledger, S: Ledger> LockedPort<A, S> {
     }
 
     /// From here on nothing is accepted; dequeues go on. It answers the step's moment, which is `now` or the last
-    /// moment, whichever is later. It refuses a moment of 2^60 microseconds or more, then a second close, and last where
-    /// a growth is refused.
+    /// moment, whichever is later. It refuses a moment of 2^60 microseconds or more, then a second close, and last
+    /// where a growth is refused.
     pub fn close<R: Wait>(&self, rt: &R, now: u64) -> Result<u64, Refusal>
         ensures later { IfOk result (λ moment. now ≤ moment) }
         ensures refused { Refuses now result }
