@@ -60,15 +60,16 @@ row_of calls seat = record {
 
 -- The row is that of a sender with these calls: each was made, some of the packets were accepted, in the order of the
 -- calls, and the others are left.
-pub record IsSenderRow (sender : ℕ) (calls : List (ℕ × PacketParts)) (events : List Event) (row : SenderRow) : Type 0 where
+pub record IsSenderRow (sender : ℕ) (calls : List (ℕ × PacketParts)) (events : List Event)
+    (row : SenderRow) : Type 0 where
   pub number : row.sender ≡ sender
   pub submitted : row.submitted ≡ length calls
   pub accepted : row.accepted ≡ length (of_lane sender events)
   pub left : row.accepted + row.left ≡ row.submitted
   pub in_order : IsSubsequence (packets_told (of_lane sender events)) (map (λ p. p.1) calls)
 
--- The events are those of some run with that seed and those parameters, in which the packets of the steps were submitted
--- by so many senders, and the rows are theirs. All that was accepted is some sender's.
+-- The events are those of some run with that seed and those parameters, in which the packets of the steps were
+-- submitted by so many senders, and the rows are theirs. All that was accepted is some sender's.
 pub record AreJournalOf (p : ParamFields) (seed : Seed) (senders : ℕ) (steps : List Step) (events : List Event)
     (rows : List SenderRow) : Type 0 where
   pub made : List Step

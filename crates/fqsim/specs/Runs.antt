@@ -24,8 +24,8 @@ abbrev pub BeginsReport : Option (List ℕ) → List (List ℕ) → Option (List
 BeginsReport seed_text parameter_words input old new =
     IsRunFor seed_text parameter_words input (λ text. (count : ℕ) × Appends old new (take count text))
 
--- The text of the seed and the parameter words are good, and of a journal of the input by so many senders, with that seed
--- and those parameters, this holds.
+-- The text of the seed and the parameter words are good, and of a journal of the input by so many senders, with that
+-- seed and those parameters, this holds.
 pub record IsLockedRunFor (seed_text : Option (List ℕ)) (parameter_words : List (List ℕ)) (senders : ℕ)
     (input : Option (List ℕ)) (Wrote : List ℕ → Type 0) : Type 0 where
   pub seed : Seed
@@ -35,7 +35,8 @@ pub record IsLockedRunFor (seed_text : Option (List ℕ)) (parameter_words : Lis
   pub journal : IfSome input (λ bytes. (text : List ℕ) × IsJournalOf params seed senders bytes text × Wrote text)
 
 -- The text of the seed and the parameter words are good, and a front of a journal was written behind what was there.
-abbrev pub BeginsJournal : Option (List ℕ) → List (List ℕ) → ℕ → Option (List ℕ) → Option (List ℕ) → Option (List ℕ) → Type 0
+abbrev pub BeginsJournal : Option (List ℕ) → List (List ℕ) → ℕ → Option (List ℕ) → Option (List ℕ) → Option (List ℕ)
+    → Type 0
 BeginsJournal seed_text parameter_words senders input old new =
     IsLockedRunFor seed_text parameter_words senders input (λ text. (count : ℕ) × Appends old new (take count text))
 

@@ -22,8 +22,8 @@ use std::sync::ledger::{Blank, Ledger};
 use std::thread::Threads;
 use trace_core::{SenderRow, read_trace, write_journal};
 
-/// Reads a trace, makes its run by senders, with the seed and the parameters that were asked for, and writes the journal.
-/// The seed is read first, then the parameters, then the trace.
+/// Reads a trace, makes its run by senders, with the seed and the parameters that were asked for, and writes the
+/// journal. The seed is read first, then the parameters, then the trace.
 pub fn simulate_locked<H: Threads + Wait + Sync, R: Read, W: Write>(
     rt: &H,
     alloc: Global,
@@ -58,7 +58,8 @@ fn run_locked<H: Threads + Wait + Sync>(
     steps: &[Step],
 ) -> Result<(Engine, Vec<SenderRow>), ProgramFault>
     requires { (0 < senders) × (senders ≤ MAX_SENDERS) }
-    ensures journal { IfOk result (λ r. AreJournalOf params seed senders steps.now r.0.sched.standing.events r.1.items) }
+    ensures journal { IfOk result (λ r. AreJournalOf params seed senders steps.now
+        r.0.sched.standing.events r.1.items) }
     ensures fault { IfErr result IsRunsFault }
 {
     let lists = lists_of(alloc, &params, &seed, senders, steps)?;

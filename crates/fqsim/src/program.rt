@@ -125,8 +125,8 @@ impl From<RunFault> for ProgramFault {
     }
 }
 
-/// Why a call of the locked port is refused, where it isn't for a second close: the moments of a trace are below 2^60 and
-/// it has less than 2^40 rows, so memory was wanting.
+/// Why a call of the locked port is refused, where it isn't for a second close: the moments of a trace are below 2^60
+/// and it has less than 2^40 rows, so memory was wanting.
 impl From<Refusal> for ProgramFault {
     ghost from_gives = { λ _ e. e ≡ program_fault.Memory };
 

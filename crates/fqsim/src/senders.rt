@@ -98,9 +98,11 @@ pub fn start_locked<
     let jobs = jobs_of(alloc, seats, lists, gates)?;
     let senders = move || -> Result<Vec<LockedDone<A, S>>, AllocError>
         requires { IsSync H.row × IsSync G.row × IsSend A.row × IsSend S.row × IsSync A.row × IsSync S.row }
-        ensures { IfOk result (λ done. (length done.items ≡ length jobs.entry.items) × ((i : ℕ) (d : _) (j : _) → i < length jobs.entry.items
+        ensures { IfOk result (λ done. (length done.items ≡ length jobs.entry.items)
+            × ((i : ℕ) (d : _) (j : _) → i < length jobs.entry.items
             → IsDone (slice_index_or jobs.entry.items i j).seat (slice_index_or jobs.entry.items i j).packets.now
-            (slice_index_or done.items i d).calls (slice_index_or done.items i d).stop (slice_index_or done.items i d).seat)) }
+            (slice_index_or done.items i d).calls (slice_index_or done.items i d).stop
+            (slice_index_or done.items i d).seat)) }
     { send_all(rt, port, jobs) };
     let (done, answer) = thread::join(rt, senders, part);
     Ok((done?, answer))
@@ -120,7 +122,8 @@ fn send_all<
     ensures number { IfOk result (λ done. length done.items ≡ length jobs.entry.items) }
     ensures each { IfOk result (λ done. (i : ℕ) (d : _) (j : _) → i < length jobs.entry.items
         → IsDone (slice_index_or jobs.entry.items i j).seat (slice_index_or jobs.entry.items i j).packets.now
-        (slice_index_or done.items i d).calls (slice_index_or done.items i d).stop (slice_index_or done.items i d).seat) }
+        (slice_index_or done.items i d).calls (slice_index_or done.items i d).stop
+        (slice_index_or done.items i d).seat) }
 {
     let send = move |job: Job<A, S, G>| -> LockedDone<A, S>
         ensures { IsDone job.entry.seat job.entry.packets.now result.calls result.stop result.seat }

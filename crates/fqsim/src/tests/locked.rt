@@ -41,8 +41,8 @@ fn packet(dport: u16) -> Result<Packet, Fail> {
     Ok(Packet::try_new(tuple, 100, Ecn::NotEct)?)
 }
 
-/// Sender 0's first call waits for the answer of sender 1's first, and sender 1's second for that of sender 0's first. So
-/// neither list can be sent behind the other: on one thread a gate would stay closed.
+/// Sender 0's first call waits for the answer of sender 1's first, and sender 1's second for that of sender 0's first.
+/// So neither list can be sent behind the other: on one thread a gate would stay closed.
 #[test]
 fn gate_locked(rt: HostRuntime) -> Result<(), Fail> {
     at_three_seats::<Brand, Brand, _>(&rt, rt.alloc(), Blank::new(3), Blank::new(3))
