@@ -1,13 +1,16 @@
 //! Times the scheduler: how long a round of enqueues and dequeues takes under a workload.
 #![tactic(auto)]
 
+mod device;
 mod timing;
 mod workload;
 
 use crate::timing::{Fault, least_nanoseconds};
 use crate::workload::{ROUNDS, WORKLOADS, Workload};
-use std::env;
+use std::env::{self, Env};
 use std::process::ExitCode;
+use std::rt::Clock;
+use std::sync::Wait;
 
 fn main(rt: HostRuntime) -> ExitCode {
     match bench(&rt) {
@@ -20,7 +23,7 @@ fn main(rt: HostRuntime) -> ExitCode {
 }
 
 /// Without a word it says what it measures; else it measures the workload that each word names.
-fn bench(rt: &HostRuntime) -> Result<(), Fault> {
+fn bench<R: AllocGlobal + Clock + Env + Print + Wait + Clone + Drop>(rt: &R) -> Result<(), Fault> {
     let names: Vec<String> = env::args(rt)?.skip(1).collect(rt.alloc())?;
     if names.is_empty() {
         return tell_workloads(rt);
@@ -39,7 +42,7 @@ fn named(name: &str) -> Option<Workload> {
 }
 
 /// Says what each workload does.
-fn tell_workloads(rt: &HostRuntime) -> Result<(), Fault> {
+fn tell_workloads(rt: &impl Print) -> Result<(), Fault> {
     println!(rt;
         "bench NAME... prints name,rounds,nanoseconds per round: the least of some repetitions"
     )?;
