@@ -2,15 +2,20 @@
 #![tactic(auto)]
 
 mod device;
+mod settling;
 mod timing;
 mod workload;
 
+use crate::settling::{SETTLED, least_settling};
 use crate::timing::{Fault, least_nanoseconds};
 use crate::workload::{ROUNDS, WORKLOADS, Workload};
 use std::env::{self, Env};
 use std::process::ExitCode;
 use std::rt::Clock;
 use std::sync::Wait;
+
+/// The word for the settling of a locked port.
+const SETTLE: &str = "settle";
 
 fn main(rt: HostRuntime) -> ExitCode {
     match bench(&rt) {
@@ -22,17 +27,31 @@ fn main(rt: HostRuntime) -> ExitCode {
     }
 }
 
-/// Without a word it says what it measures; else it measures the workload that each word names.
+/// Without a word it says what it measures; else it measures what each word names.
 fn bench<R: AllocGlobal + Clock + Env + Print + Wait + Clone + Drop>(rt: &R) -> Result<(), Fault> {
     let names: Vec<String> = env::args(rt)?.skip(1).collect(rt.alloc())?;
     if names.is_empty() {
         return tell_workloads(rt);
     }
     for name in &names {
-        let workload = named(name).ok_or(Fault::UnknownWorkload)?;
-        let tenths = least_nanoseconds(rt, &workload)?.saturating_mul(10) / u128::from(ROUNDS);
-        println!(rt; "{name},{ROUNDS},{}.{}", tenths / 10, tenths % 10)?;
+        measure(rt, name)?;
     }
+    Ok(())
+}
+
+/// Measures what that word names.
+fn measure<R: AllocGlobal + Clock + Print + Wait + Clone + Drop>(
+    rt: &R,
+    name: &str,
+) -> Result<(), Fault> {
+    if name == SETTLE {
+        let tenths = least_settling(rt)? / 100_000;
+        println!(rt; "{name},{SETTLED},{}.{}", tenths / 10, tenths % 10)?;
+        return Ok(());
+    }
+    let workload = named(name).ok_or(Fault::UnknownWorkload)?;
+    let tenths = least_nanoseconds(rt, &workload)?.saturating_mul(10) / u128::from(ROUNDS);
+    println!(rt; "{name},{ROUNDS},{}.{}", tenths / 10, tenths % 10)?;
     Ok(())
 }
 
@@ -49,5 +68,8 @@ fn tell_workloads(rt: &impl Print) -> Result<(), Fault> {
     for workload in WORKLOADS {
         println!(rt; "{}: {}", workload.name, workload.about)?;
     }
+    println!(rt;
+        "{SETTLE}: the settling of a locked port of 64 seats; it prints name,packets,milliseconds in all"
+    )?;
     Ok(())
 }

@@ -21,13 +21,13 @@ use std::time::Instant;
 use thiserror::Error;
 
 /// How often a workload is run, each time with a new scheduler.
-const REPETITIONS: u32 = 15;
+pub const REPETITIONS: u32 = 15;
 
 /// The moment of the first round, in nanoseconds: ten seconds.
-const START: u64 = 10_000_000_000;
+pub const START: u64 = 10_000_000_000;
 
 /// The seed of every scheduler.
-const SEED: Seed = Seed([0; 16]);
+pub const SEED: Seed = Seed([0; 16]);
 
 /// The length of each packet, in bytes.
 const PACKET_BYTES: u32 = 1_000;
@@ -120,7 +120,7 @@ impl Traffic {
 }
 
 /// A packet to a flow.
-fn packet_to(flow: u16, ecn: Ecn) -> Result<Packet, LengthOutOfRange>
+pub fn packet_to(flow: u16, ecn: Ecn) -> Result<Packet, LengthOutOfRange>
     ensures { IfOk result (λ p. GoesTo flow ecn p) }
 {
     let tuple = FiveTuple {
