@@ -1,13 +1,26 @@
 //! Times the scheduler: how long a round of enqueues and dequeues takes under a workload.
 #![tactic(auto)]
 
+ghost use Rattle.std.specs.Prelude.{◌<◌, ◌≤◌, IfSome};
+
+mod device;
+mod sending;
+mod settling;
 mod timing;
 mod workload;
 
+use crate::sending::least_sending;
+use crate::settling::{SETTLED, least_settling};
 use crate::timing::{Fault, least_nanoseconds};
 use crate::workload::{ROUNDS, WORKLOADS, Workload};
-use std::env;
+use std::env::{self, Env};
 use std::process::ExitCode;
+use std::rt::Clock;
+use std::sync::Wait;
+use std::thread::Threads;
+
+/// The word for the settling of a locked port.
+const SETTLE: &str = "settle";
 
 fn main(rt: HostRuntime) -> ExitCode {
     match bench(&rt) {
@@ -19,18 +32,52 @@ fn main(rt: HostRuntime) -> ExitCode {
     }
 }
 
-/// Without a word it says what it measures; else it measures the workload that each word names.
-fn bench(rt: &HostRuntime) -> Result<(), Fault> {
+/// Without a word it says what it measures; else it measures what each word names.
+fn bench<R: AllocGlobal + Clock + Env + Print + Threads + Wait + Sync + Clone + Drop>(
+    rt: &R,
+) -> Result<(), Fault> {
     let names: Vec<String> = env::args(rt)?.skip(1).collect(rt.alloc())?;
     if names.is_empty() {
         return tell_workloads(rt);
     }
     for name in &names {
-        let workload = named(name).ok_or(Fault::UnknownWorkload)?;
-        let tenths = least_nanoseconds(rt, &workload)?.saturating_mul(10) / u128::from(ROUNDS);
-        println!(rt; "{name},{ROUNDS},{}.{}", tenths / 10, tenths % 10)?;
+        measure(rt, name)?;
     }
     Ok(())
+}
+
+/// Measures what that word names.
+fn measure<R: AllocGlobal + Clock + Print + Threads + Wait + Sync + Clone + Drop>(
+    rt: &R,
+    name: &str,
+) -> Result<(), Fault> {
+    if name == SETTLE {
+        let tenths = least_settling(rt)? / 100_000;
+        println!(rt; "{name},{SETTLED},{}.{}", tenths / 10, tenths % 10)?;
+        return Ok(());
+    }
+    if let Some(senders) = senders_of(name) {
+        let nanoseconds = least_sending(rt, senders)?.max(1);
+        let packets = u128::from(ROUNDS) * 1_000_000_000 / nanoseconds;
+        println!(rt; "{name},{ROUNDS},{packets}")?;
+        return Ok(());
+    }
+    let workload = named(name).ok_or(Fault::UnknownWorkload)?;
+    let tenths = least_nanoseconds(rt, &workload)?.saturating_mul(10) / u128::from(ROUNDS);
+    println!(rt; "{name},{ROUNDS},{}.{}", tenths / 10, tenths % 10)?;
+    Ok(())
+}
+
+/// The number of senders that the word asks for.
+fn senders_of(name: &str) -> Option<u32>
+    ensures { IfSome result (λ n. (0 < n) × (n ≤ 4)) }
+{
+    match name {
+        "senders_1" => Some(1),
+        "senders_2" => Some(2),
+        "senders_4" => Some(4),
+        _ => None,
+    }
 }
 
 /// The workload of that name.
@@ -39,12 +86,18 @@ fn named(name: &str) -> Option<Workload> {
 }
 
 /// Says what each workload does.
-fn tell_workloads(rt: &HostRuntime) -> Result<(), Fault> {
+fn tell_workloads(rt: &impl Print) -> Result<(), Fault> {
     println!(rt;
         "bench NAME... prints name,rounds,nanoseconds per round: the least of some repetitions"
     )?;
     for workload in WORKLOADS {
         println!(rt; "{}: {}", workload.name, workload.about)?;
     }
+    println!(rt;
+        "{SETTLE}: the settling of a locked port of 64 seats; it prints name,packets,milliseconds in all"
+    )?;
+    println!(rt;
+        "senders_1, senders_2, senders_4: so many threads send through a locked port, and one takes; it prints name,packets,packets a second"
+    )?;
     Ok(())
 }

@@ -4,21 +4,30 @@ ghost use Rattle.std.specs.Prelude.{◌≡◌, ◌+◌, [], IfOk, IfSome, nat_lt
 ghost use Rattle.bench.specs.Traffic.{GoesTo, GoInTurn};
 ghost use Rattle.packet_core.specs.Params.{standard_fields};
 
-use crate::workload::{Keeper, ROUNDS, Round, Workload};
+use crate::device::{Device, OnPort, Refused};
+use crate::workload::{Keeper, ROUNDS, Round, Through, Workload};
 use packet_core::{
     Ecn, FiveTuple, Ip, LengthOutOfRange, Packet, ParamFields, ParamName, Params, Seed,
 };
-use sched_core::{Event, Keeps, Sched, Stored, Unstored};
+use port_core::LockedPort;
+use sched_core::{Engine, Event, Keeps, Sched, Stored, Unstored};
 use std::alloc::{AllocError, Global};
 use std::io;
+use std::marker::Brand;
+use std::rt::Clock;
+use std::sync::Wait;
+use std::sync::ledger::{Blank, Ledger};
 use std::time::Instant;
 use thiserror::Error;
 
 /// How often a workload is run, each time with a new scheduler.
-const REPETITIONS: u32 = 15;
+pub const REPETITIONS: u32 = 15;
 
 /// The moment of the first round, in nanoseconds: ten seconds.
-const START: u64 = 10_000_000_000;
+pub const START: u64 = 10_000_000_000;
+
+/// The seed of every scheduler.
+pub const SEED: Seed = Seed([0; 16]);
 
 /// The length of each packet, in bytes.
 const PACKET_BYTES: u32 = 1_000;
@@ -42,10 +51,6 @@ pub enum Fault {
     #[error("a number of the workload is out of range")]
     OutOfRange,
 }
-
-/// A step was refused. It is empty, so that the timed rounds carry no larger answer along.
-#[derive(Clone, Copy, Debug)]
-struct Refused;
 
 impl From<io::Error> for Fault {
     fn from(error: io::Error) -> Fault {
@@ -115,7 +120,7 @@ impl Traffic {
 }
 
 /// A packet to a flow.
-fn packet_to(flow: u16, ecn: Ecn) -> Result<Packet, LengthOutOfRange>
+pub fn packet_to(flow: u16, ecn: Ecn) -> Result<Packet, LengthOutOfRange>
     ensures { IfOk result (λ p. GoesTo flow ecn p) }
 {
     let tuple = FiveTuple {
@@ -130,15 +135,15 @@ fn packet_to(flow: u16, ecn: Ecn) -> Result<Packet, LengthOutOfRange>
 
 /// The moments of the rounds.
 #[derive(Clone, Copy, Debug)]
-struct Clock {
+struct Moments {
     nanoseconds: u64,
     step: u64,
 }
 
-impl Clock {
-    /// A clock that stands at the start of a workload's rounds.
-    fn of(workload: &Workload) -> Clock {
-        Clock {
+impl Moments {
+    /// The moments that begin at the start of a workload's rounds.
+    fn of(workload: &Workload) -> Moments {
+        Moments {
             nanoseconds: START,
             step: u64::from(workload.step),
         }
@@ -152,7 +157,10 @@ impl Clock {
 }
 
 /// The least time that the rounds took in a repetition, in nanoseconds.
-pub fn least_nanoseconds(rt: &HostRuntime, workload: &Workload) -> Result<u128, Fault> {
+pub fn least_nanoseconds<R: AllocGlobal + Clock + Wait + Clone + Drop>(
+    rt: &R,
+    workload: &Workload,
+) -> Result<u128, Fault> {
     let mut least = u128::MAX;
     for _ in 0..REPETITIONS {
         least = least.min(nanoseconds(rt, workload)?);
@@ -161,40 +169,79 @@ pub fn least_nanoseconds(rt: &HostRuntime, workload: &Workload) -> Result<u128, 
 }
 
 /// The time that the rounds took once, in nanoseconds.
-fn nanoseconds(rt: &HostRuntime, workload: &Workload) -> Result<u128, Fault> {
-    match workload.keeper {
-        Keeper::Stored => nanoseconds_over(rt, workload, Stored::new(rt.alloc())),
-        Keeper::Unstored => nanoseconds_over(rt, workload, Unstored::new()),
+fn nanoseconds<R: AllocGlobal + Clock + Wait + Clone + Drop>(
+    rt: &R,
+    workload: &Workload,
+) -> Result<u128, Fault> {
+    match workload.through {
+        Through::Sched(Keeper::Stored) => {
+            nanoseconds_over(rt, workload, Stored::new(rt.alloc()))
+        }
+        Through::Sched(Keeper::Unstored) => nanoseconds_over(rt, workload, Unstored::new()),
+        Through::Engine => {
+            let mut engine = Engine::try_new(rt.alloc(), params_of(workload)?, SEED)?;
+            nanoseconds_of(rt, workload, &mut engine)
+        }
+        Through::LockedPort => {
+            nanoseconds_locked::<Brand, Brand, _>(rt, workload, Blank::new(1), Blank::new(1))
+        }
     }
 }
 
-/// The same with a journal that tells its events to that keeper. What makes the packets and fills the queues before
-/// isn't counted.
-fn nanoseconds_over<K: Keeps<Event>>(
-    rt: &HostRuntime,
+/// The same with a journal that tells its events to that keeper.
+fn nanoseconds_over<R: AllocGlobal + Clock, K: Keeps<Event>>(
+    rt: &R,
     workload: &Workload,
     keeper: K,
 ) -> Result<u128, Fault>
     requires { K.told keeper ≡ [] }
 {
+    let mut sched = Sched::try_with_keeper(rt.alloc(), params_of(workload)?, SEED, keeper)?;
+    nanoseconds_of(rt, workload, &mut sched)
+}
+
+/// The same through a port of one seat with these ledgers.
+fn nanoseconds_locked<A: Ledger, S: Ledger, R: AllocGlobal + Clock + Wait + Clone + Drop>(
+    rt: &R,
+    workload: &Workload,
+    accepted: Blank,
+    sent: Blank,
+) -> Result<u128, Fault>
+    requires accepted { (accepted.name ≡ A.name) × (accepted.parts ≡ A.parts) × (A.parts ≡ 1) }
+    requires sent { (sent.name ≡ S.name) × (sent.parts ≡ S.parts) × (S.parts ≡ 1) }
+{
+    let params = params_of(workload)?;
+    let (port, mut seats) = LockedPort::<A, S>::start(rt.alloc(), params, SEED, 1, accepted, sent)?;
+    let seat = seats.pop().ok_or(Fault::Refused)?;
+    nanoseconds_of(
+        rt,
+        workload,
+        &mut OnPort {
+            rt: rt.clone()?,
+            port,
+            seat,
+        },
+    )
+}
+
+/// The same through a device that has made no step. What makes the packets and fills the queues before isn't counted.
+fn nanoseconds_of<R: AllocGlobal + Clock, D: Device>(
+    rt: &R,
+    workload: &Workload,
+    device: &mut D,
+) -> Result<u128, Fault> {
     let mut traffic = Traffic::try_new(rt.alloc(), workload)?;
-    let mut sched = Sched::try_with_keeper(
-        rt.alloc(),
-        params_of(workload)?,
-        Seed([0; 16]),
-        keeper,
-    )?;
     let waiting = workload.waiting_in_all();
-    fill(&mut sched, &mut traffic, waiting)?;
+    fill(device, &mut traffic, waiting)?;
     if matches!(workload.round, Round::Enqueue | Round::TwoEnqueuesDequeue) {
         fill(
-            &mut sched,
+            device,
             &mut traffic,
             u64::from(workload.limit).saturating_sub(waiting),
         )?;
     }
     let begun = Instant::now(rt)?;
-    rounds(&mut sched, &mut traffic, workload)?;
+    rounds(device, &mut traffic, workload)?;
     Ok(begun.elapsed(rt)?.as_nanos())
 }
 
@@ -215,54 +262,50 @@ fn params_of(workload: &Workload) -> Result<Params, ParamName>
 }
 
 /// That many packets come before the first round.
-fn fill<K: Keeps<Event>>(
-    sched: &mut Sched<K>,
-    traffic: &mut Traffic,
-    packets: u64,
-) -> Result<(), Refused> {
+fn fill<D: Device>(device: &mut D, traffic: &mut Traffic, packets: u64) -> Result<(), Refused> {
     for _ in 0..packets {
-        enqueue(sched, traffic, START / 1_000)?;
+        enqueue(device, traffic, START / 1_000)?;
     }
     Ok(())
 }
 
 /// All rounds of a workload.
-fn rounds<K: Keeps<Event>>(
-    sched: &mut Sched<K>,
+fn rounds<D: Device>(
+    device: &mut D,
     traffic: &mut Traffic,
     workload: &Workload,
 ) -> Result<(), Refused> {
-    let mut clock = Clock::of(workload);
+    let mut moments = Moments::of(workload);
     // A loop for each kind of round, so that the kind isn't asked in the time that is measured.
     match workload.round {
         Round::EnqueueDequeue => {
             for _ in 0..ROUNDS {
-                let moment = clock.tick();
-                enqueue(sched, traffic, moment)?;
-                dequeue(sched, moment)?;
+                let moment = moments.tick();
+                enqueue(device, traffic, moment)?;
+                device.dequeue(moment)?;
             }
         }
         Round::RefillDequeue => {
             let waiting = workload.waiting_in_all();
             for _ in 0..ROUNDS {
-                let moment = clock.tick();
-                for _ in sched.queued()..=waiting {
-                    enqueue(sched, traffic, moment)?;
+                let moment = moments.tick();
+                for _ in device.queued()..=waiting {
+                    enqueue(device, traffic, moment)?;
                 }
-                dequeue(sched, moment)?;
+                device.dequeue(moment)?;
             }
         }
         Round::Enqueue => {
             for _ in 0..ROUNDS {
-                enqueue(sched, traffic, clock.tick())?;
+                enqueue(device, traffic, moments.tick())?;
             }
         }
         Round::TwoEnqueuesDequeue => {
             for _ in 0..ROUNDS {
-                let moment = clock.tick();
-                enqueue(sched, traffic, moment)?;
-                enqueue(sched, traffic, moment)?;
-                dequeue(sched, moment)?;
+                let moment = moments.tick();
+                enqueue(device, traffic, moment)?;
+                enqueue(device, traffic, moment)?;
+                device.dequeue(moment)?;
             }
         }
     }
@@ -270,22 +313,6 @@ fn rounds<K: Keeps<Event>>(
 }
 
 /// The next packet comes, at a moment in microseconds.
-fn enqueue<K: Keeps<Event>>(
-    sched: &mut Sched<K>,
-    traffic: &mut Traffic,
-    moment: u64,
-) -> Result<(), Refused> {
-    let packet = traffic.packet().ok_or(Refused)?;
-    if sched.enqueue(moment, 0, packet).is_err() {
-        return Err(Refused);
-    }
-    Ok(())
-}
-
-/// The device takes a packet, at a moment in microseconds.
-fn dequeue<K: Keeps<Event>>(sched: &mut Sched<K>, moment: u64) -> Result<(), Refused> {
-    if sched.dequeue(moment).is_err() {
-        return Err(Refused);
-    }
-    Ok(())
+fn enqueue<D: Device>(device: &mut D, traffic: &mut Traffic, moment: u64) -> Result<(), Refused> {
+    device.enqueue(moment, traffic.packet().ok_or(Refused)?)
 }

@@ -29,6 +29,17 @@ pub enum Keeper {
     Unstored,
 }
 
+/// What the steps go through.
+#[derive(Clone, Copy, Debug, PartialEq, Eq)]
+pub enum Through {
+    /// A scheduler, whose journal tells its events to that keeper.
+    Sched(Keeper),
+    /// An engine, which stores its events and its steps.
+    Engine,
+    /// A locked port with such an engine, by its one seat.
+    LockedPort,
+}
+
 /// A workload: packets of 1,000 bytes that come to some flows in turn. Before its rounds as many packets wait in
 /// each flow, and in an overload as many as the limit allows.
 #[derive(Clone, Copy, Debug, PartialEq, Eq)]
@@ -53,8 +64,8 @@ pub struct Workload {
     pub ecn_use: EcnUse,
     /// How a packet's flow is found.
     pub classify: Classify,
-    /// What the journal tells its events to.
-    pub keeper: Keeper,
+    /// What the steps go through.
+    pub through: Through,
 }
 
 impl Workload {
@@ -78,7 +89,7 @@ const OVERLOAD: Workload = Workload {
     ecn: Ecn::NotEct,
     ecn_use: EcnUse::Drop,
     classify: Classify::Dport,
-    keeper: Keeper::Stored,
+    through: Through::Sched(Keeper::Stored),
 };
 
 /// One flow in which ten packets wait.
@@ -120,7 +131,7 @@ const CODEL: Workload = Workload {
 };
 
 /// All workloads.
-pub const WORKLOADS: [Workload; 15] = [
+pub const WORKLOADS: [Workload; 17] = [
     ONE,
     FEW,
     MANY,
@@ -165,25 +176,37 @@ pub const WORKLOADS: [Workload; 15] = [
     Workload {
         name: "one_unstored",
         about: "as one, with a journal that stores no event",
-        keeper: Keeper::Unstored,
+        through: Through::Sched(Keeper::Unstored),
         ..ONE
     },
     Workload {
         name: "few_unstored",
         about: "as few, with a journal that stores no event",
-        keeper: Keeper::Unstored,
+        through: Through::Sched(Keeper::Unstored),
         ..FEW
     },
     Workload {
         name: "many_unstored",
         about: "as many, with a journal that stores no event",
-        keeper: Keeper::Unstored,
+        through: Through::Sched(Keeper::Unstored),
         ..MANY
     },
     Workload {
         name: "codel_unstored",
         about: "as codel, with a journal that stores no event",
-        keeper: Keeper::Unstored,
+        through: Through::Sched(Keeper::Unstored),
         ..CODEL
+    },
+    Workload {
+        name: "unlocked",
+        about: "as few, through an engine, which stores its steps too",
+        through: Through::Engine,
+        ..FEW
+    },
+    Workload {
+        name: "locked",
+        about: "as unlocked, with the engine behind a lock: one thread, with the one seat of a locked port",
+        through: Through::LockedPort,
+        ..FEW
     },
 ];

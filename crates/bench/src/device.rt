@@ -1,0 +1,98 @@
+//! What the steps of a workload go through: a scheduler, an engine, or an engine behind a lock.
+
+use packet_core::Packet;
+use port_core::{LockedPort, PortSeat};
+use sched_core::{Engine, Event, Keeps, Sched};
+use std::sync::Wait;
+use std::sync::ledger::Ledger;
+
+/// A step was refused. It is empty, so that the timed rounds carry no larger answer along.
+#[derive(Clone, Copy, Debug)]
+pub struct Refused;
+
+/// What takes packets and gives them, each at a moment in microseconds.
+pub trait Device {
+    /// A packet comes.
+    fn enqueue(&mut self, moment: u64, packet: Packet) -> Result<(), Refused>;
+
+    /// A packet goes, where one waits.
+    fn dequeue(&mut self, moment: u64) -> Result<(), Refused>;
+
+    /// How many packets wait.
+    fn queued(&mut self) -> u64;
+}
+
+impl<K: Keeps<Event>> Device for Sched<K> {
+    fn enqueue(&mut self, moment: u64, packet: Packet) -> Result<(), Refused> {
+        if self.enqueue(moment, 0, packet).is_err() {
+            return Err(Refused);
+        }
+        Ok(())
+    }
+
+    fn dequeue(&mut self, moment: u64) -> Result<(), Refused> {
+        if self.dequeue(moment).is_err() {
+            return Err(Refused);
+        }
+        Ok(())
+    }
+
+    fn queued(&mut self) -> u64 {
+        Sched::queued(self)
+    }
+}
+
+impl Device for Engine {
+    fn enqueue(&mut self, moment: u64, packet: Packet) -> Result<(), Refused> {
+        if self.enqueue(moment, 0, packet).is_err() {
+            return Err(Refused);
+        }
+        Ok(())
+    }
+
+    fn dequeue(&mut self, moment: u64) -> Result<(), Refused> {
+        if self.dequeue(moment).is_err() {
+            return Err(Refused);
+        }
+        Ok(())
+    }
+
+    fn queued(&mut self) -> u64 {
+        Engine::queued(self)
+    }
+}
+
+/// A locked port by its one seat.
+#[derive(Drop)]
+pub struct OnPort<A: Ledger, S: Ledger, R: Wait + Drop> {
+    /// The runtime, which waits for the lock.
+    pub rt: R,
+    /// The port.
+    pub port: LockedPort<A, S>,
+    /// The seat.
+    pub seat: PortSeat<A, S>,
+}
+
+impl<A: Ledger, S: Ledger, R: Wait + Drop> Device for OnPort<A, S, R> {
+    fn enqueue(&mut self, moment: u64, packet: Packet) -> Result<(), Refused> {
+        if self
+            .port
+            .enqueue(&self.rt, &mut self.seat, moment, packet)
+            .is_err()
+        {
+            return Err(Refused);
+        }
+        Ok(())
+    }
+
+    fn dequeue(&mut self, moment: u64) -> Result<(), Refused> {
+        if self.port.dequeue(&self.rt, &mut self.seat, moment).is_err() {
+            return Err(Refused);
+        }
+        Ok(())
+    }
+
+    fn queued(&mut self) -> u64 {
+        self.port.totals(&self.rt, &mut self.seat).queued
+    }
+}

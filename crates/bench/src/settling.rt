@@ -1,0 +1,87 @@
+//! How long the settling of a locked port takes.
+
+ghost use Rattle.std.specs.Prelude.{◌≡◌};
+
+use crate::device::Refused;
+use crate::timing::{Fault, REPETITIONS, SEED, START, packet_to};
+use packet_core::{Ecn, Packet, ParamFields, Params};
+use port_core::{LockedPort, PortSeat};
+use std::marker::Brand;
+use std::rt::Clock;
+use std::sync::Wait;
+use std::sync::ledger::{Blank, Ledger};
+use std::time::Instant;
+
+/// How many packets a port accepted before it is settled.
+pub const SETTLED: u32 = 1_000_000;
+
+/// How many seats it has.
+const SEATS: u32 = 64;
+
+/// The least time in which a port was settled in a repetition, in nanoseconds.
+pub fn least_settling<R: AllocGlobal + Clock + Wait>(rt: &R) -> Result<u128, Fault> {
+    let mut least = u128::MAX;
+    for _ in 0..REPETITIONS {
+        least = least.min(settling::<Brand, Brand, _>(rt, Blank::new(64), Blank::new(64))?);
+    }
+    Ok(least)
+}
+
+/// The time in which a port with these ledgers was settled, in nanoseconds. What its seats did before isn't counted.
+fn settling<A: Ledger, S: Ledger, R: AllocGlobal + Clock + Wait>(
+    rt: &R,
+    accepted: Blank,
+    sent: Blank,
+) -> Result<u128, Fault>
+    requires accepted { (accepted.name ≡ A.name) × (accepted.parts ≡ A.parts) × (A.parts ≡ 64) }
+    requires sent { (sent.name ≡ S.name) × (sent.parts ≡ S.parts) × (S.parts ≡ 64) }
+{
+    let params = Params::try_new(ParamFields::standard())?;
+    let (port, mut seats) = LockedPort::<A, S>::start(
+        rt.alloc(),
+        params,
+        SEED,
+        SEATS,
+        accepted,
+        sent,
+    )?;
+    use_in_turn(rt, &port, &mut seats)?;
+    let begun = Instant::now(rt)?;
+    let settled = port.settle(seats);
+    let elapsed = begun.elapsed(rt)?;
+    if settled.is_err() {
+        return Err(Fault::Refused);
+    }
+    Ok(elapsed.as_nanos())
+}
+
+/// The seats send the packets in turn, and each takes one behind its own.
+fn use_in_turn<A: Ledger, S: Ledger, R: Wait>(
+    rt: &R,
+    port: &LockedPort<A, S>,
+    seats: &mut Vec<PortSeat<A, S>>,
+) -> Result<(), Fault> {
+    let packet = packet_to(0, Ecn::NotEct)?;
+    for _ in 0..SETTLED / SEATS {
+        for place in 0..seats.len() {
+            send_and_take(rt, port, &mut seats[place], packet)?;
+        }
+    }
+    Ok(())
+}
+
+/// The seat sends a packet, and takes one.
+fn send_and_take<A: Ledger, S: Ledger, R: Wait>(
+    rt: &R,
+    port: &LockedPort<A, S>,
+    seat: &mut PortSeat<A, S>,
+    packet: Packet,
+) -> Result<(), Refused> {
+    if port.enqueue(rt, seat, START / 1_000, packet).is_err() {
+        return Err(Refused);
+    }
+    if port.dequeue(rt, seat, START / 1_000).is_err() {
+        return Err(Refused);
+    }
+    Ok(())
+}
