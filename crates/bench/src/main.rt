@@ -1,4 +1,4 @@
-//! Times the scheduler: how long a round of enqueues and dequeues takes under a workload.
+//! Times the scheduler: how long a round of enqueues and dequeues takes under a workload, and what a locked port takes.
 #![tactic(auto)]
 
 ghost use Rattle.std.specs.Prelude.{◌<◌, ◌≤◌, IfSome};
@@ -97,7 +97,7 @@ fn tell_workloads(rt: &impl Print) -> Result<(), Fault> {
         "{SETTLE}: the settling of a locked port of 64 seats; it prints name,packets,milliseconds in all"
     )?;
     println!(rt;
-        "senders_1, senders_2, senders_4: so many threads send through a locked port, and one takes; it prints name,packets,packets a second"
+        "senders_1, senders_2, senders_4: so many threads send and one takes; it prints name,packets,packets a second"
     )?;
     Ok(())
 }
