@@ -171,11 +171,24 @@ fn in_turn<A: Ledger, S: Ledger, R: Wait>(
     Ok((send(rt, port, zero), send(rt, port, one)))
 }
 
-/// Eight senders and a device, each in a thread: whatever the schedule, each sender is told of its packets in their
-/// order, and the engine has all of them.
+/// Eight senders with a thousand packets each and a device that takes packets and reads the statistics meanwhile, each
+/// in a thread, ten times: whatever the schedule, each sender is told of its packets in their order, and the engine has
+/// all of them.
 #[test]
 fn eight_senders_lose_nothing(rt: HostRuntime) -> Result<(), Fail> {
-    at_nine_seats::<Brand, Brand, _>(&rt, rt.alloc(), Blank::new(9), Blank::new(9))
+    for _time in 0..10 {
+        at_nine_seats::<Brand, Brand, _>(&rt, rt.alloc(), Blank::new(9), Blank::new(9))?;
+    }
+    Ok(())
+}
+
+/// A thousand packets, each to a port of its own.
+fn thousand(alloc: Global) -> Result<Vec<(u64, Packet)>, Fail> {
+    let mut packets = Vec::new(alloc);
+    for dport in 0..1_000u16 {
+        packets.push((u64::from(dport), packet(dport)?))?;
+    }
+    Ok(packets)
 }
 
 fn at_nine_seats<
@@ -188,11 +201,11 @@ fn at_nine_seats<
 {
     let (port, mut seats) = LockedPort::<A, S>::start(alloc, one_flow()?, SEED, 9, accepted, sent)?;
     let device = seats.pop().ok_or("the device's seat")?;
-    let packets = [(0, packet(53)?), (5, packet(54)?), (2, packet(55)?)];
+    let packets = thousand(alloc)?;
     let (done, device) = senders_and_device(rt, &port, seats, &packets, device);
     let given = device.sent();
     let seats = seats_told(rt, alloc, done?, &packets, device)?;
-    assert_eq!(rt; counted(&settled(port, seats)?.totals()), (24, given));
+    assert_eq!(rt; counted(&settled(port, seats)?.totals()), (8_000, given));
     Ok(())
 }
 
@@ -231,11 +244,24 @@ fn take_some<A: Ledger, S: Ledger, R: Wait + Abort>(
     seat: PortSeat<A, S>,
 ) -> PortSeat<A, S> {
     let mut seat = seat;
-    for now in 0..20 {
+    for now in 0..1_000 {
         assert!(rt; port.dequeue(rt, &mut seat, now).is_ok());
+        balances(rt, port, &mut seat);
         thread::yield_now();
     }
     seat
+}
+
+/// The statistics are those of one point: what was accepted was sent, dropped or waits.
+fn balances<A: Ledger, S: Ledger, R: Wait + Abort>(
+    rt: &R,
+    port: &LockedPort<A, S>,
+    seat: &mut PortSeat<A, S>,
+) {
+    let totals = port.totals(rt, seat);
+    let left = totals.sent + totals.dropped_codel + totals.dropped_overflow + totals.queued;
+    assert_eq!(rt; totals.accepted, left);
+    assert!(rt; totals.sent >= seat.sent());
 }
 
 /// All seats, where each sender was told of its packets in their order.
