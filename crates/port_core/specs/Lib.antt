@@ -1,2 +1,4 @@
 pub mod Ports
 pub mod Senders
+pub mod Lanes
+pub mod Devices

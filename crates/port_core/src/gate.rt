@@ -30,6 +30,8 @@ pub enum Stop {
     Done,
     /// Its gate stayed closed.
     Stalled,
+    /// Its lane was full.
+    Full,
     /// A call was refused, and not since the port is closed.
     Refused(Refusal),
 }

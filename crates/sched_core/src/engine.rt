@@ -170,6 +170,13 @@ impl<K: Keeps<Event>, S: Keeps<Step>> Engine<K, S> {
         self.sched.test(step)
     }
 
+    /// How many packets more may be accepted: 2^40 in all.
+    pub fn ids_left(&self) -> u64
+        ensures { result + self.now.sched.standing.state.next_id ≡ MAX_ACCEPTED }
+    {
+        self.sched.ids_left()
+    }
+
     /// Makes a step of any kind as the call for its kind does, and answers as a run does: where the step is refused the
     /// answer says why, and it isn't kept. It fails for want of memory alone, for a step that isn't refused, and not
     /// where room is reserved. Nothing has changed after either.

@@ -375,6 +375,13 @@ impl<K: Keeps<Event>> Sched<K> {
         self.last_moment
     }
 
+    /// How many packets more may be accepted: 2^40 in all.
+    pub fn ids_left(&self) -> u64
+        ensures { result + self.now.standing.state.next_id ≡ MAX_ACCEPTED }
+    {
+        MAX_ACCEPTED - self.backlog.arrived()
+    }
+
     /// Why a step of any kind is refused, if it is, apart from want of memory.
     pub(crate) fn test(&self, step: &Step) -> Result<(), Refusal>
         ensures { Tests (refusal_of self.now.standing.state step.now) result }

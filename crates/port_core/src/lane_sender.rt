@@ -1,0 +1,150 @@
+//! The sender's end of a lane, and a sender that submits its packets there.
+
+ghost use Rattle.std.specs.Prelude.{◌≡◌, ◌⊎◌, ◌≤◌, ◌++◌, ◌∷◌, [], IfSome, MatchResult, length, take};
+ghost use Rattle.port_core.specs.declared.gate.Stop.TheVariants as stop;
+
+use crate::gate::{Gate, Stop, passes};
+use packet_core::Packet;
+use rtrb::{Finished, Producer, PushError};
+use std::marker::Model;
+
+/// A packet that comes back, since its lane is full. Once the device has taken a packet there is room again.
+#[derive(Clone, Copy, Debug, PartialEq, Eq)]
+pub struct LaneFull(pub Packet);
+
+/// The sender's end of a lane. It never waits for another thread. Contracts see the lane's number, its ring and the
+/// packets that were submitted, in order.
+#[derive(Drop)]
+pub struct LaneSender {
+    lane: u32,
+    producer: Producer<Packet>,
+}
+
+impl Model for LaneSender {
+    ghost use Rattle.port_core.specs.Lanes.{Sending, ring_of};
+    ghost use Rattle.rtrb.specs.Ring.{sent};
+
+    ghost Value = { Sending };
+
+    ghost view = { λ s. record { lane = s.lane; ring = ring_of s.producer.end; submitted = sent s.producer } };
+}
+
+/// What is left of a sender that has finished: nothing can be submitted to its lane any more. The device settles the
+/// lane by it. Contracts see what they saw of the sender.
+#[derive(Drop)]
+pub struct LaneEnd {
+    lane: u32,
+    finished: Finished<Packet>,
+}
+
+impl Model for LaneEnd {
+    ghost use Rattle.port_core.specs.Lanes.{Sending, ring_of};
+    ghost use Rattle.rtrb.specs.Ring.{all_sent};
+
+    ghost Value = { Sending };
+
+    ghost view = { λ e. record { lane = e.lane; ring = ring_of e.finished.end; submitted = all_sent e.finished } };
+}
+
+impl LaneSender {
+    ghost use Rattle.port_core.specs.Lanes.{Sending, ring_of};
+    ghost use Rattle.rtrb.specs.Ring.{sent};
+
+    /// The sender of a lane, over the end of its ring.
+    pub(crate) fn new(lane: u32, producer: Producer<Packet>) -> LaneSender
+        ensures { result ≡ record { lane = lane; ring = ring_of producer.end; submitted = sent producer } }
+    {
+        LaneSender { lane, producer }
+    }
+
+    /// The number of its lane.
+    pub fn lane(&self) -> u32
+        ensures { result ≡ self.now.lane }
+    {
+        self.lane
+    }
+
+    /// Puts a packet at the lane's end, or gives it back where the lane is full. It takes no memory and doesn't wait.
+    pub fn submit(&mut self, packet: Packet) -> Result<(), LaneFull>
+        ensures { MatchResult result
+            (λ _. self.new ≡ record self.old { submitted = self.old.submitted ++ packet ∷ [] })
+            (λ full. (full.0 ≡ packet) × (self.new ≡ self.old)) }
+    {
+        match self.producer.push(packet) {
+            Ok(()) => Ok(()),
+            Err(PushError::Full(packet)) => Err(LaneFull(packet)),
+        }
+    }
+
+    /// Ends the lane: from here on nothing is submitted to it. Nothing comes back where the device was dropped before.
+    pub fn finish(self) -> Option<LaneEnd>
+        ensures { IfSome result (λ end. end ≡ self) }
+    {
+        let LaneSender { lane, producer } = self;
+        let finished = producer.finish()?;
+        Some(LaneEnd { lane, finished })
+    }
+}
+
+impl LaneEnd {
+    ghost use Rattle.port_core.specs.Lanes.{ring_of};
+    ghost use Rattle.rtrb.specs.Ring.{all_sent};
+
+    /// The number of its lane.
+    pub fn lane(&self) -> u32
+        ensures { result ≡ self.now.lane }
+    {
+        self.lane
+    }
+
+    /// The end of its ring.
+    pub(crate) fn into_finished(self) -> Finished<Packet>
+        ensures { (ring_of result.end ≡ self.ring) × (all_sent result ≡ self.submitted) }
+    {
+        let LaneEnd { lane: _, finished } = self;
+        finished
+    }
+}
+
+/// What a sender did with its lane.
+#[derive(Drop)]
+pub struct LaneDone {
+    /// How many packets it submitted.
+    pub submitted: u64,
+    /// Why it stopped.
+    pub stop: Stop,
+    /// Its lane's end, unless the device was dropped before.
+    pub end: Option<LaneEnd>,
+}
+
+/// Submits packets in order, and asks the gate before each, at most 1,000,000 times; then it ends the lane. It stops as
+/// `Stop::Done` behind the last packet, as `Stop::Stalled` where the gate stays closed, and as `Stop::Full` where the
+/// lane is full.
+pub fn send_lane<G: Gate>(sender: LaneSender, packets: &[Packet], gate: &G) -> LaneDone
+    ensures submitted { result.submitted ≤ length packets.now }
+    ensures done { result.stop ≡ stop.Done → result.submitted ≡ length packets.now }
+    ensures stop { (result.stop ≡ stop.Done) ⊎ (result.stop ≡ stop.Stalled) ⊎ (result.stop ≡ stop.Full) }
+    ensures end { IfSome result.end (λ end. end ≡ record sender {
+      submitted = sender.submitted ++ take result.submitted packets.now;
+    }) }
+{
+    let mut sender = sender;
+    let mut submitted = 0u64;
+    let mut stop = Stop::Done;
+    for packet in packets {
+        if !passes(gate, submitted + 1) {
+            stop = Stop::Stalled;
+            break;
+        }
+        if sender.submit(*packet).is_err() {
+            stop = Stop::Full;
+            break;
+        }
+        submitted += 1;
+    }
+    LaneDone {
+        submitted,
+        stop,
+        end: sender.finish(),
+    }
+}
