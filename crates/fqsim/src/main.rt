@@ -2,16 +2,7 @@
 //! standard output. Where it is asked to, it runs the trace by senders that are threads.
 #![tactic(auto)]
 
-mod command_line;
-mod locked;
-mod manual;
-mod program;
-mod seed;
-mod senders;
-#[cfg(test)]
-mod tests;
-
-use crate::program::{ProgramFault, program, tell};
+use program_core::{ProgramFault, program, tell};
 use std::env::{self, Env};
 use std::io::{Read, Write};
 use std::process::ExitCode;

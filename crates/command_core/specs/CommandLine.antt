@@ -1,0 +1,107 @@
+-- The command line of the program, in the words of `clap`.
+use Rattle.std.specs.Prelude.{◌≡◌, ◌≢◌, ◌≤◌, ℕ, true, List, [], Option, Some, None, codes, map, option_map, pos, unwrap_or}
+use Rattle.std.specs.Str.Parse.{digits_value, without_leading_plus}
+use Rattle.clap.specs.Faults.{fault_of}
+use Rattle.clap.specs.Kinds.{IsAmong}
+use Rattle.clap.specs.Simple.{App, new_app, new_rule, on_top, subcommand_of, subcommand_rows_of, with_rule, with_subcommand}
+use Rattle.clap.specs.Values.{IsUnsignedIn}
+use Rattle.clap.specs.Walk.{Row, Rule, Text, all_of, first_of, one_of}
+use Rattle.clap.specs.declared.builder.action.ArgAction.TheVariants.{Append}
+use Rattle.clap.specs.declared.builder.value_parser.ValueParser.TheVariants as value_parser
+use Rattle.clap.specs.declared.error.kind.ErrorKind.{ErrorKind}
+use Rattle.clap.specs.declared.parser.matches.ArgMatches.{ArgMatches}
+use Rattle.clap.specs.declared.error.kind.ErrorKind.TheVariants.{DisplayHelp}
+use Rattle.command_core.specs.declared.command_line.RunRequest.{RunRequest}
+
+-- `--seed HEX32`
+abbrev pub seed_option : Rule
+seed_option = record (new_rule (codes "seed")) { long = Some (codes "seed"); value_names = 1 }
+
+-- `--senders N`, a number from 1 to 64
+abbrev pub senders_option : Rule
+senders_option = record (new_rule (codes "senders")) {
+  long = Some (codes "senders");
+  value_names = 1;
+  parser = Some (value_parser.Signed (pos 1) (pos 64));
+}
+
+-- `[PARAM]...`
+abbrev pub parameter_argument : Rule
+parameter_argument = record (new_rule (codes "PARAM")) { action = Some Append }
+
+-- `trace [--seed HEX32] [PARAM]...`
+abbrev pub trace_line : App
+trace_line = with_rule (with_rule (new_app (codes "trace")) seed_option) parameter_argument
+
+-- `locked [--seed HEX32] [--senders N] [PARAM]...`
+abbrev pub locked_line : App
+locked_line = with_rule (with_rule (with_rule (new_app (codes "locked")) seed_option) senders_option) parameter_argument
+
+-- the words behind the program's name: one of two subcommands, which has to be there
+abbrev pub program_line : App
+program_line =
+    with_subcommand
+    (with_subcommand
+    (on_top (λ top. record top { no_binary_name = true; subcommand_required = true; arg_required_else_help = true })
+    (new_app (codes "fqsim")))
+    trace_line.top)
+    locked_line.top
+
+-- what stands behind a subcommand, by its matches and by the words
+abbrev pub rows_of_entered : Option (Text × List Row) → List Row
+rows_of_entered entered = unwrap_or (option_map (λ found. found.1) entered) []
+
+abbrev pub rows_behind : ArgMatches → List Row
+rows_behind matches = rows_of_entered (subcommand_rows_of matches)
+
+abbrev pub run_rows : List Text → List Row
+run_rows words = rows_of_entered (subcommand_of program_line words)
+
+-- the name of the subcommand
+abbrev pub run_name : List Text → Option Text
+run_name words = option_map (λ found. found.0) (subcommand_of program_line words)
+
+-- the text behind `--seed`, where there is one
+abbrev pub seed_text : List Text → Option Text
+seed_text words = first_of (codes "seed") (run_rows words)
+
+-- the parameter words
+abbrev pub parameter_words : List Text → List Text
+parameter_words words = unwrap_or (all_of (codes "PARAM") (run_rows words)) []
+
+-- what was asked for behind a subcommand, by what stands there
+pub record IsRunRequest (rows : List Row) (run : RunRequest) : Type 0 where
+  pub seed : option_map (λ s. s.now) run.seed ≡ first_of (codes "seed") rows
+  pub parameters : map (λ w. w.now) run.parameters.items ≡ unwrap_or (all_of (codes "PARAM") rows) []
+
+-- the text behind `--senders`, where there is one
+abbrev pub senders_text : List Text → Option Text
+senders_text words = one_of (codes "senders") (run_rows words)
+
+-- The number of senders that a text says, if it is one from 1 to 64, and 2 where there is none. The command line takes
+-- no other text.
+pub record IsSenderCount (text : Option Text) (senders : ℕ) : Type 0 where
+  pub said : (digits : Text) → text ≡ Some digits → IsUnsignedIn 1 64 digits
+      → senders ≡ digits_value 10 (without_leading_plus digits)
+  pub standard : text ≡ None → senders ≡ 2
+  pub range : (1 ≤ senders) × (senders ≤ 64)
+
+-- the words are those of a run
+abbrev pub AsksForRun : List Text → Type 0
+AsksForRun words = fault_of program_line words ≡ []
+
+-- they are those of a run by senders that are threads
+abbrev pub AsksForLocked : List Text → Type 0
+AsksForLocked words = AsksForRun words × (run_name words ≡ Some (codes "locked"))
+
+-- they are those of a run of the trace alone
+abbrev pub AsksForTrace : List Text → Type 0
+AsksForTrace words = AsksForRun words × (run_name words ≢ Some (codes "locked"))
+
+-- the words ask for help
+abbrev pub AsksForHelp : List Text → Type 0
+AsksForHelp words = IsAmong DisplayHelp (fault_of program_line words)
+
+-- the words aren't those of a command line
+abbrev pub IsMistake : List Text → Type 0
+IsMistake words = (kind : ErrorKind) × IsAmong kind (fault_of program_line words) × (kind ≢ DisplayHelp)

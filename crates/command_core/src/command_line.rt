@@ -1,0 +1,244 @@
+//! The words behind the program's name, read by `clap`.
+ghost use Rattle.std.specs.Prelude.{◌≡◌, ◌≢◌, [], IfErr, IfOk, Some, codes, false, map, option_map, true, unwrap_or};
+ghost use Rattle.clap.specs.Words.{all_of, app_of, first_of, found_of, kind_of, one_of, rows_of, rule_of, subcommand_name_of};
+ghost use Rattle.clap.specs.declared.builder.command.Command.TheViews.{out-Command as fields_of};
+ghost use Rattle.command_core.specs.CommandLine.{AsksForHelp, AsksForLocked, AsksForTrace, IsMistake, IsRunRequest, IsSenderCount, locked_line, parameter_argument, parameter_words, program_line, rows_behind, seed_option, seed_text, senders_option, senders_text, trace_line};
+
+use crate::manual;
+use clap::error::ErrorKind;
+use clap::{Arg, ArgAction, ArgMatches, Command, Error};
+use std::alloc::{AllocError, Global};
+
+/// At most so many senders.
+pub const MAX_SENDERS: u32 = 64;
+
+/// So many senders where the words don't say.
+pub const STANDARD_SENDERS: u32 = 2;
+
+/// The run of a trace, as it was asked for.
+#[derive(Debug, Drop)]
+pub struct RunRequest<'a> {
+    /// The text behind `--seed`, where there is one.
+    pub seed: Option<&'a str>,
+    /// The parameter words.
+    pub parameters: Vec<&'a str>,
+}
+
+/// The run of a trace by senders, as it was asked for.
+#[derive(Debug, Drop)]
+pub struct LockedRequest<'a> {
+    /// The run.
+    pub run: RunRequest<'a>,
+    /// How many senders there are, 1 to 64.
+    pub senders: u32,
+}
+
+/// What the words ask for.
+#[derive(Debug, Drop)]
+pub enum Request<'a> {
+    /// The run of a trace.
+    Trace(RunRequest<'a>),
+    /// The run of a trace by senders that are threads.
+    Locked(LockedRequest<'a>),
+    /// Help, with its text.
+    Help(String),
+}
+
+/// Why the words ask for nothing.
+#[derive(Debug, Drop)]
+pub enum CommandFault {
+    /// They aren't those of a command line. The text says what is wrong, in whole lines.
+    Mistake(String),
+    /// A growth was refused.
+    Memory,
+}
+
+impl From<AllocError> for CommandFault {
+    ghost use Rattle.command_core.specs.declared.command_line.CommandFault.TheVariants.{Memory};
+
+    ghost from_gives = { λ _ fault. fault ≡ Memory };
+
+    fn from(_: AllocError) -> CommandFault {
+        CommandFault::Memory
+    }
+}
+
+/// Reads the words behind the program's name.
+pub fn parse<'a>(alloc: Global, words: &'a [&'a str]) -> Result<Request<'a>, CommandFault>
+    ensures trace { IfOk result (λ r. (trace : _) → r ≡ Request.Trace trace
+        → AsksForTrace (map (λ w. w.now) words.entry.now)) }
+    ensures seed { IfOk result (λ r. (trace : _) → r ≡ Request.Trace trace
+        → option_map (λ s. s.now) trace.seed ≡ seed_text (map (λ w. w.now) words.entry.now)) }
+    ensures parameters { IfOk result (λ r. (trace : _) → r ≡ Request.Trace trace
+        → map (λ w. w.now) trace.parameters.items ≡ parameter_words (map (λ w. w.now) words.entry.now)) }
+    ensures locked { IfOk result (λ r. (locked : _) → r ≡ Request.Locked locked
+        → AsksForLocked (map (λ w. w.now) words.entry.now)) }
+    ensures locked_seed { IfOk result (λ r. (locked : _) → r ≡ Request.Locked locked
+        → option_map (λ s. s.now) locked.run.seed ≡ seed_text (map (λ w. w.now) words.entry.now)) }
+    ensures locked_parameters { IfOk result (λ r. (locked : _) → r ≡ Request.Locked locked
+        → map (λ w. w.now) locked.run.parameters.items ≡ parameter_words (map (λ w. w.now) words.entry.now)) }
+    ensures senders { IfOk result (λ r. (locked : _) → r ≡ Request.Locked locked
+        → IsSenderCount (senders_text (map (λ w. w.now) words.entry.now)) locked.senders) }
+    ensures help { IfOk result (λ r. (text : _) → r ≡ Request.Help text
+        → AsksForHelp (map (λ w. w.now) words.entry.now)) }
+    ensures mistake { IfErr result (λ fault. (text : _) → fault ≡ CommandFault.Mistake text
+        → IsMistake (map (λ w. w.now) words.entry.now)) }
+{
+    let command = program_command(alloc)?;
+    match command.try_get_matches_from(words) {
+        Ok(matches) => Ok(request_of(alloc, &matches)?),
+        Err(error) => without_matches(alloc, error),
+    }
+}
+
+/// What is answered where there are no matches: help, or a fault.
+fn without_matches<'a>(alloc: Global, error: Error) -> Result<Request<'a>, CommandFault>
+    ensures trace { IfOk result (λ r. (trace : _) → r ≡ Request.Trace trace → ⊥) }
+    ensures locked { IfOk result (λ r. (locked : _) → r ≡ Request.Locked locked → ⊥) }
+    ensures help { IfOk result (λ r. (text : _) → r ≡ Request.Help text
+        → kind_of error ≡ ErrorKind.DisplayHelp) }
+    ensures mistake { IfErr result (λ fault. (text : _) → fault ≡ CommandFault.Mistake text
+        → (kind_of error ≢ ErrorKind.DisplayHelp) × (kind_of error ≢ ErrorKind.OutOfMemory)) }
+{
+    match error.kind() {
+        ErrorKind::OutOfMemory => Err(CommandFault::Memory),
+        ErrorKind::DisplayHelp => Ok(Request::Help(format!(in alloc; "{error}")?)),
+        _ => Err(CommandFault::Mistake(format!(in alloc; "{error}")?)),
+    }
+}
+
+/// What the matches ask for.
+fn request_of<'a>(alloc: Global, matches: &ArgMatches<'a>) -> Result<Request<'a>, AllocError>
+    ensures trace { IfOk result (λ r. (trace : _) → r ≡ Request.Trace trace
+        → (subcommand_name_of matches.now ≢ Some (codes "locked")) × IsRunRequest (rows_behind matches.now) trace) }
+    ensures locked { IfOk result (λ r. (locked : _) → r ≡ Request.Locked locked
+        → (subcommand_name_of matches.now ≡ Some (codes "locked")) × IsRunRequest (rows_behind matches.now) locked.run
+        × IsSenderCount (one_of (codes "senders") (rows_behind matches.now)) locked.senders) }
+    ensures help { IfOk result (λ r. (text : _) → r ≡ Request.Help text → ⊥) }
+{
+    let run = run_request(alloc, matches)?;
+    match matches.subcommand_matches("locked") {
+        Some(found) => Ok(Request::Locked(LockedRequest {
+            run,
+            senders: sender_count(found),
+        })),
+        None => Ok(Request::Trace(run)),
+    }
+}
+
+/// The run that the matches ask for, whichever subcommand it is.
+fn run_request<'a>(alloc: Global, matches: &ArgMatches<'a>) -> Result<RunRequest<'a>, AllocError>
+    ensures seed { IfOk result (λ r. option_map (λ s. s.now) r.seed
+        ≡ first_of (codes "seed") (rows_behind matches.now)) }
+    ensures parameters { IfOk result (λ r. map (λ w. w.now) r.parameters.items
+        ≡ unwrap_or (all_of (codes "PARAM") (rows_behind matches.now)) []) }
+{
+    let mut parameters = Vec::new(alloc);
+    let Some((_, found)) = matches.subcommand() else {
+        // Words without the subcommand have no matches: `clap` refuses them.
+        return Ok(RunRequest {
+            seed: None,
+            parameters,
+        });
+    };
+    if let Some(words) = found.get_strs("PARAM") {
+        parameters.extend_from_slice(words)?;
+    }
+    Ok(RunRequest {
+        seed: found.get_str("seed"),
+        parameters,
+    })
+}
+
+/// How many senders the matches of a subcommand ask for.
+fn sender_count(matches: &ArgMatches<'_>) -> u32
+    ensures { IsSenderCount (one_of (codes "senders") (rows_of (found_of matches.now))) result }
+{
+    match matches.get_one::<u32>("senders") {
+        Some(senders) if (1..=MAX_SENDERS).contains(&senders) => senders,
+        // `clap` refuses what is no number from 1 to 64, so here none was given.
+        _ => STANDARD_SENDERS,
+    }
+}
+
+/// The command line: one subcommand, which has to be there.
+fn program_command<'a>(alloc: Global) -> Result<Command<'a>, AllocError>
+    ensures { IfOk result (λ r. app_of r ≡ program_line) }
+{
+    let trace = trace_command(alloc)?;
+    let locked = locked_command(alloc)?;
+    let named = Command::new(alloc, "fqsim").bin_name("fqsim")?;
+    let command = named
+        .no_binary_name(true)
+        .subcommand_required(true)
+        .arg_required_else_help(true)
+        .about(manual::PROGRAM_SUMMARY)
+        .long_about(manual::PROGRAM_DESCRIPTION)
+        .after_help(manual::PROGRAM_NOTES);
+    command.subcommand(trace)?.subcommand(locked)
+}
+
+/// `--seed HEX32`
+fn seed_argument<'a>(alloc: Global) -> Arg<'a>
+    ensures rule { rule_of result ≡ seed_option }
+    ensures local { result.global ≡ false }
+{
+    Arg::new(alloc, "seed")
+        .long("seed")
+        .value_name("HEX32")
+        .help(manual::SEED_SUMMARY)
+        .long_help(manual::SEED_DESCRIPTION)
+}
+
+/// `--senders N`
+fn senders_argument<'a>(alloc: Global) -> Arg<'a>
+    ensures rule { rule_of result ≡ senders_option }
+    ensures local { result.global ≡ false }
+{
+    Arg::new(alloc, "senders")
+        .long("senders")
+        .value_name("N")
+        .value_parser(clap::value_parser!(u32).range(1..=64))
+        .help(manual::SENDERS_SUMMARY)
+        .long_help(manual::SENDERS_DESCRIPTION)
+}
+
+/// `[PARAM]...`
+fn parameter_argument<'a>(alloc: Global) -> Arg<'a>
+    ensures rule { rule_of result ≡ parameter_argument }
+    ensures local { result.global ≡ false }
+{
+    Arg::new(alloc, "PARAM")
+        .action(ArgAction::Append)
+        .help(manual::PARAMETERS_SUMMARY)
+        .long_help(manual::PARAMETERS_DESCRIPTION)
+}
+
+/// The subcommand that runs a trace.
+fn trace_command<'a>(alloc: Global) -> Result<Command<'a>, AllocError>
+    ensures line { IfOk result (λ r. app_of r ≡ trace_line) }
+    ensures local { IfOk result (λ r. (fields_of r).has_globals ≡ false) }
+{
+    let command = Command::new(alloc, "trace")
+        .about(manual::TRACE_SUMMARY)
+        .long_about(manual::TRACE_DESCRIPTION)
+        .after_long_help(manual::TRACE_NOTES);
+    command
+        .arg(seed_argument(alloc))?
+        .arg(parameter_argument(alloc))
+}
+
+/// The subcommand that runs a trace by senders that are threads.
+fn locked_command<'a>(alloc: Global) -> Result<Command<'a>, AllocError>
+    ensures line { IfOk result (λ r. app_of r ≡ locked_line) }
+    ensures local { IfOk result (λ r. (fields_of r).has_globals ≡ false) }
+{
+    let command = Command::new(alloc, "locked")
+        .about(manual::LOCKED_SUMMARY)
+        .long_about(manual::LOCKED_DESCRIPTION)
+        .after_long_help(manual::LOCKED_NOTES);
+    command
+        .arg(seed_argument(alloc))?
+        .arg(senders_argument(alloc))?
+        .arg(parameter_argument(alloc))
+}

@@ -1,0 +1,10 @@
+//! What the words behind the program's name ask for: a run of a trace, a run of it by senders, or help, whose texts
+//! stand here too. Nothing of the scheduler is known here but the type of a seed.
+#![tactic(auto)]
+
+mod command_line;
+mod manual;
+mod seed;
+
+pub use command_line::{CommandFault, LockedRequest, MAX_SENDERS, Request, RunRequest, parse};
+pub use seed::{ZERO_SEED, read_seed};

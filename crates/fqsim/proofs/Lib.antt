@@ -1,3 +1,0 @@
-mod CommandLineLemmas
-mod JournalLemmas
-mod RunLemmas

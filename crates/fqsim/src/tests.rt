@@ -1,9 +1,0 @@
-//! Tests of the program where a run of it from outside shows nothing: readers and writers that fail, faults that no
-//! trace brings about, seeds as bytes, the texts of help, and senders that are
-//! held up. `.ci/runs` and `examples/` have the other runs.
-
-mod faults;
-mod help;
-mod locked;
-mod seeds;
-mod streams;

@@ -1,0 +1,2 @@
+mod JournalLemmas
+mod RunLemmas

@@ -1,0 +1,89 @@
+-- Why the program fails, and what status it ends with then.
+use Rattle.std.specs.Prelude.{◌≡◌, ◌≢◌, ◌⊎◌, ℕ, List, IfSome, IsOk, Option, None, Err}
+use Rattle.std.specs.Io.KnownBytes.{Keeps}
+use Rattle.packet_core.specs.Words.{params_of_words}
+use Rattle.trace_core.specs.Traces.{IsFaultOf}
+use Rattle.trace_core.specs.declared.faults.TraceFaultKind.{TraceFaultKind}
+use Rattle.trace_core.specs.declared.faults.TraceFaultKind.TheVariants as trace_fault
+use Rattle.trace_core.specs.declared.trace_run.RunFault.{RunFault}
+use Rattle.trace_core.specs.declared.trace_run.RunFault.TheVariants as run_fault
+use Rattle.command_core.specs.CommandLine.{AsksForLocked, AsksForRun, IsMistake, parameter_words, seed_text}
+use Rattle.program_core.specs.Runs.{Begins, BeginsJournal, BeginsReport}
+use Rattle.command_core.specs.Seeds.{seed_given}
+use Rattle.command_core.specs.declared.command_line.CommandFault.{CommandFault}
+use Rattle.command_core.specs.declared.command_line.CommandFault.TheVariants as command_fault
+use Rattle.program_core.specs.declared.program_run.ProgramFault.{ProgramFault}
+use Rattle.program_core.specs.declared.program_run.ProgramFault.TheVariants as program_fault
+
+-- the status for a fault of the trace: 1 where the machine failed, and 2 where the trace is wrong
+abbrev pub trace_status : TraceFaultKind → ℕ
+trace_status trace_fault.Read = 1
+trace_status trace_fault.Memory = 1
+trace_status _ = 2
+
+-- the status for a fault: 1 where the machine failed, and 2 where something that was given is wrong
+abbrev pub status_of : ProgramFault → ℕ
+status_of (program_fault.CommandLine text) = 2
+status_of program_fault.NotUtf8 = 2
+status_of program_fault.Seed = 2
+status_of (program_fault.Params fault) = 2
+status_of (program_fault.Trace fault) = trace_status fault.what
+status_of program_fault.Memory = 1
+status_of program_fault.Write = 1
+status_of program_fault.Settle = 1
+
+-- The fault is one of a run of the input, with the seed of that text and the parameters of those words, by which the
+-- writer came from what it held to what it holds. The seed is looked at first, then the parameters, then the input.
+-- With a failed write it holds a front of the report more, and with any other fault what it held. That memory was
+-- wanting can't be said.
+abbrev pub IsRunFault : Option (List ℕ) → List (List ℕ) → Option (List ℕ) → Option (List ℕ) → Option (List ℕ)
+    → ProgramFault → Type 0
+IsRunFault seed words input old new program_fault.Seed = (seed_given seed ≡ None) × Keeps old new
+IsRunFault seed words input old new (program_fault.Params fault) =
+    (seed_given seed ≢ None) × (params_of_words words ≡ Err fault) × Keeps old new
+IsRunFault seed words input old new (program_fault.Trace fault) =
+    (seed_given seed ≢ None) × IsOk (params_of_words words) × IfSome input (λ bytes. IsFaultOf bytes fault)
+    × Keeps old new
+IsRunFault seed words input old new program_fault.Memory = Keeps old new
+IsRunFault seed words input old new program_fault.Write = BeginsReport seed words input old new
+IsRunFault seed words input old new (program_fault.CommandLine text) = ⊥
+IsRunFault seed words input old new program_fault.NotUtf8 = ⊥
+IsRunFault seed words input old new program_fault.Settle = ⊥
+
+-- A run by senders, of a trace that was read, fails so: memory was wanting, or the port didn't settle.
+abbrev pub IsRunsFault : ProgramFault → Type 0
+IsRunsFault fault = (fault ≡ program_fault.Memory) ⊎ (fault ≡ program_fault.Settle)
+
+-- The same of a run by so many senders, with a front of its journal. What the engine has may differ from what the seats
+-- were told.
+abbrev pub IsLockedFault : Option (List ℕ) → List (List ℕ) → ℕ → Option (List ℕ) → Option (List ℕ) → Option (List ℕ)
+    → ProgramFault → Type 0
+IsLockedFault seed words senders input old new program_fault.Write = BeginsJournal seed words senders input old new
+IsLockedFault seed words senders input old new program_fault.Settle = Keeps old new
+IsLockedFault seed words senders input old new fault = IsRunFault seed words input old new fault
+
+-- The fault is one of these words and this input, by which the writer came from what it held to what it holds. Of
+-- the words nothing is said at want of memory, since `clap` may want it whatever they are.
+abbrev pub IsFaultOn : List (List ℕ) → Option (List ℕ) → Option (List ℕ) → Option (List ℕ) → ProgramFault → Type 0
+IsFaultOn words input old new (program_fault.CommandLine text) = IsMistake words × Keeps old new
+IsFaultOn words input old new program_fault.NotUtf8 = ⊥
+IsFaultOn words input old new program_fault.Seed =
+    AsksForRun words × IsRunFault (seed_text words) (parameter_words words) input old new program_fault.Seed
+IsFaultOn words input old new (program_fault.Params fault) =
+    AsksForRun words × IsRunFault (seed_text words) (parameter_words words) input old new (program_fault.Params fault)
+IsFaultOn words input old new (program_fault.Trace fault) =
+    AsksForRun words × IsRunFault (seed_text words) (parameter_words words) input old new (program_fault.Trace fault)
+IsFaultOn words input old new program_fault.Memory = Keeps old new
+IsFaultOn words input old new program_fault.Write = Begins words input old new
+IsFaultOn words input old new program_fault.Settle = AsksForLocked words × Keeps old new
+
+-- the fault of the program for one of the command line
+abbrev pub command_fault_told : CommandFault → ProgramFault
+command_fault_told (command_fault.Mistake text) = program_fault.CommandLine text
+command_fault_told command_fault.Memory = program_fault.Memory
+
+-- the fault of the program for one of the run
+abbrev pub run_fault_told : RunFault → ProgramFault
+run_fault_told (run_fault.Trace fault) = program_fault.Trace fault
+run_fault_told run_fault.Memory = program_fault.Memory
+run_fault_told run_fault.Write = program_fault.Write

@@ -1,0 +1,11 @@
+//! The whole program over words and streams, as a library: it reads a trace and writes the report of its run, or the
+//! journal of its run by senders that are threads, or help.
+#![tactic(auto)]
+
+mod locked;
+mod program_run;
+mod senders;
+
+pub use locked::simulate_locked;
+pub use program_run::{ProgramFault, program, tell};
+pub use senders::{lists_of, start_locked};

@@ -1,0 +1,155 @@
+//! The texts of help.
+
+use program_core::program;
+use std::process::Abort;
+use std::str;
+use std::sync::Wait;
+use std::test::Fail;
+use std::thread::Threads;
+
+/// Runs the program with words that ask for help, on a trace that is wrong, and looks for these texts in what it
+/// writes. No line of it has more than 80 columns.
+fn expect_help(
+    rt: &(impl Abort + AllocGlobal + Threads + Wait + Sync),
+    words: &[&str],
+    texts: &[&str],
+) -> Result<(), Fail> {
+    let mut written = Vec::new(rt.alloc());
+    let mut told = Vec::new(rt.alloc());
+    let mut trace = "foo\n".as_bytes();
+    let ended = program(rt, rt.alloc(), words, &mut trace, &mut written, &mut told);
+    let help = str::from_utf8(&written)?;
+    assert_eq!(rt; ended, 0);
+    assert_eq!(rt; told.len(), 0);
+    for text in texts {
+        assert!(rt; help.contains(text), "{text} isn't in {help}");
+    }
+    for line in help.lines() {
+        assert!(rt; line.chars().count() <= 80, "{line}");
+    }
+    Ok(())
+}
+
+#[test]
+fn help_on_the_program(rt: HostRuntime) -> Result<(), Fail> {
+    let texts = [
+        "RFC 8290",
+        "Usage: fqsim <COMMAND>\n",
+        "\n  trace  ",
+        "\n  locked  ",
+        "'fqsim trace --help'",
+        "'fqsim locked --help'",
+        "Exit status:\n  0  ",
+        "\n  1  ",
+        "\n  2  ",
+    ];
+    expect_help(&rt, &["--help"], &texts)?;
+    expect_help(&rt, &["help"], &texts)?;
+    expect_help(&rt, &["-h"], &texts[1..])
+}
+
+#[test]
+fn help_on_the_parameters(rt: HostRuntime) -> Result<(), Fail> {
+    let texts = [
+        "Usage: fqsim trace [OPTIONS] [PARAM]...\n",
+        "--seed <HEX32>",
+        "  limit PACKETS         1 to 1048576 packets   10240 packets\n",
+        "  flows NUMBER          1 to 65536             1024\n",
+        "  quantum BYTES         1 to 1000000 bytes     1514 bytes\n",
+        "  mtu BYTES             0 to 65535 bytes       1514 bytes\n",
+        "  target TIME           0 to 1000000000us      5ms\n",
+        "  interval TIME         1us to 1000000000us    100ms\n",
+        "  ecn | noecn                                  ecn\n",
+        "  classify hash|dport                          hash\n",
+        " us, usec, usecs, ms, msec, msecs, s, sec\nor secs",
+    ];
+    expect_help(&rt, &["trace", "--help"], &texts)?;
+    expect_help(&rt, &["help", "trace"], &texts)?;
+    expect_help(&rt, &["trace", "flows", "0", "--help"], &texts)?;
+    expect_help(&rt, &["trace", "-h"], &texts[..2])
+}
+
+#[test]
+fn help_on_the_senders(rt: HostRuntime) -> Result<(), Fail> {
+    let texts = [
+        "Usage: fqsim locked [OPTIONS] [PARAM]...\n",
+        "--seed <HEX32>",
+        "--senders <N>",
+        "1 to 64",
+        "[default: 2]",
+        "\n  accepted,ID,FLOW ",
+        "\n  closed ",
+        "\n  sender,I,SUBMITTED,ACCEPTED,LEFT\n",
+        "'fqsim: settle'",
+    ];
+    expect_help(&rt, &["locked", "--help"], &texts)?;
+    expect_help(&rt, &["help", "locked"], &texts)?;
+    expect_help(&rt, &["locked", "--senders", "3", "--help"], &texts)
+}
+
+#[test]
+fn help_on_the_formats(rt: HostRuntime) -> Result<(), Fail> {
+    let texts = [
+        "\n  enq,MOMENT,PROTO,SRC,DST,SPORT,DPORT,LEN,ECN ",
+        "\n  deq,MOMENT ",
+        "\n  close,MOMENT ",
+        "\n  accepted,ID,FLOW ",
+        "\n  dropped,ID,overflow ",
+        "\n  dropped,ID,codel ",
+        "\n  sent,ID,ECN ",
+        "\n  idle ",
+        "\n  closed ",
+        "\n  refused,closed ",
+        "\n  refused,backwards,LAST ",
+        "\n  totals,ACCEPTED,ACCEPTED_BYTES,SENT,SENT_BYTES,DROPPED_CODEL,\n      DROPPED_OVERFLOW,DROPPED_BYTES,MARKED,QUEUED,QUEUED_BYTES,STATE\n",
+        "\n  tuple,PROTO,SRC,DST,SPORT,DPORT,FLOW,ACCEPTED,SENT,DROPPED,QUEUED\n",
+        "\nExample:\n",
+        "'fqsim: a word isn't UTF-8'",
+        "'fqsim: seed'",
+        "'fqsim: parameter word PLACE: NAME'",
+        "'fqsim: row ROW: NAME'",
+    ];
+    expect_help(&rt, &["trace", "--help"], &texts)
+}
+
+#[test]
+fn help_on_the_faults(rt: HostRuntime) -> Result<(), Fail> {
+    let texts = [
+        "\nFaults of a parameter word, ",
+        "\n  UnknownWord   ",
+        "\n  MissingValue   ",
+        "\n  NotANumber   ",
+        "\n  OutOfRange   ",
+        "\nFaults of the trace, ",
+        "\n  BadKind   ",
+        "\n  BadFieldCount   ",
+        "\n  BadNumber   ",
+        "\n  BadAddress   ",
+        "\n  LengthOutOfRange   ",
+        "\n  BadEcn   ",
+        "\n  TooLarge   ",
+        "\n  Read   ",
+        "\n  Memory   ",
+    ];
+    expect_help(&rt, &["trace", "--help"], &texts)
+}
+
+#[test]
+fn failed_writes_of_help_refused(rt: HostRuntime) -> Result<(), Fail> {
+    let mut taken = [0; 5];
+    let mut told = Vec::new(rt.alloc());
+    let mut trace = "deq,0\n".as_bytes();
+    let mut room = &mut taken[..];
+    let ended = program(
+        &rt,
+        rt.alloc(),
+        &["--help"],
+        &mut trace,
+        &mut room,
+        &mut told,
+    );
+    assert_eq!(rt; str::from_utf8(&told)?, "fqsim: write\n");
+    assert_eq!(rt; str::from_utf8(&taken)?, "Run a");
+    assert_eq!(rt; ended, 1);
+    Ok(())
+}

@@ -1,0 +1,202 @@
+//! Readers and writers that are slow, and that fail.
+
+use program_core::program;
+use std::io::{ErrorKind, Read, Write};
+use std::process::Abort;
+use std::sync::Wait;
+use std::test::Fail;
+use std::thread::Threads;
+use std::{io, str};
+
+/// The words of a run with one flow and otherwise the standard parameters.
+const WORDS: [&str; 5] = ["trace", "classify", "dport", "flows", "1"];
+
+/// A reader that gives its text, and then fails.
+#[derive(Drop)]
+struct CutReader<'a> {
+    text: &'a [u8],
+    failure: ErrorKind,
+}
+
+impl Read for CutReader<'_> {
+    fn read(&mut self, buf: &mut [u8]) -> io::Result<usize> {
+        if self.text.is_empty() {
+            return Err(io::Error::from(self.failure));
+        }
+        self.text.read(buf)
+    }
+}
+
+/// A reader that gives its text a byte at a time.
+#[derive(Drop)]
+struct SlowReader<'a>(&'a [u8]);
+
+impl Read for SlowReader<'_> {
+    fn read(&mut self, buf: &mut [u8]) -> io::Result<usize> {
+        let room = buf.len().min(1);
+        self.0.read(&mut buf[..room])
+    }
+}
+
+/// A writer that takes so many bytes at once, as long as there is room, and then fails.
+#[derive(Drop)]
+struct NarrowWriter {
+    taken: Vec<u8>,
+    at_once: usize,
+    room: usize,
+}
+
+impl Write for NarrowWriter {
+    fn write(&mut self, buf: &[u8]) -> io::Result<usize> {
+        let room = self.room.saturating_sub(self.taken.len());
+        if room == 0 {
+            return Err(io::Error::from(ErrorKind::BrokenPipe));
+        }
+        let count = buf.len().min(self.at_once).min(room);
+        self.taken.extend_from_slice(&buf[..count])?;
+        Ok(count)
+    }
+
+    fn flush(&mut self) -> io::Result<()> {
+        Ok(())
+    }
+}
+
+/// Runs the program on a trace that comes from a reader, and compares what it writes and how it ends.
+fn expect_from<R: Read>(
+    rt: &(impl Abort + AllocGlobal + Threads + Wait + Sync),
+    reader: &mut R,
+    status: u8,
+    report: &str,
+    faults: &str,
+) -> Result<(), Fail> {
+    let mut written = Vec::new(rt.alloc());
+    let mut told = Vec::new(rt.alloc());
+    let ended = program(rt, rt.alloc(), &WORDS, reader, &mut written, &mut told);
+    assert_eq!(rt; str::from_utf8(&told)?, faults);
+    assert_eq!(rt; str::from_utf8(&written)?, report);
+    assert_eq!(rt; ended, status);
+    Ok(())
+}
+
+/// Runs the program on a trace of one dequeue with a writer that takes so many bytes at once, and compares how it
+/// ends and what the writer took.
+fn expect_taken(
+    rt: &(impl Abort + AllocGlobal + Threads + Wait + Sync),
+    at_once: usize,
+    room: usize,
+    status: u8,
+    report: &str,
+    faults: &str,
+) -> Result<(), Fail> {
+    let mut writer = NarrowWriter {
+        taken: Vec::new(rt.alloc()),
+        at_once,
+        room,
+    };
+    let mut told = Vec::new(rt.alloc());
+    let mut trace = "deq,0\n".as_bytes();
+    let ended = program(rt, rt.alloc(), &WORDS, &mut trace, &mut writer, &mut told);
+    assert_eq!(rt; str::from_utf8(&told)?, faults);
+    assert_eq!(rt; str::from_utf8(&writer.taken)?, report);
+    assert_eq!(rt; ended, status);
+    Ok(())
+}
+
+#[test]
+fn failed_reads_refused(rt: HostRuntime) -> Result<(), Fail> {
+    let faults = "fqsim: row 0: Read\n";
+    let trace = b"deq,0\nfoo\n";
+    for count in 0..=trace.len() {
+        let mut reader = CutReader {
+            text: &trace[..count],
+            failure: ErrorKind::BrokenPipe,
+        };
+        expect_from(&rt, &mut reader, 1, "", faults)?;
+    }
+    Ok(())
+}
+
+#[test]
+fn interrupted_reads_refused(rt: HostRuntime) -> Result<(), Fail> {
+    let mut reader = CutReader {
+        text: b"deq,0\n",
+        failure: ErrorKind::Interrupted,
+    };
+    expect_from(&rt, &mut reader, 1, "", "fqsim: row 0: Read\n")
+}
+
+#[test]
+fn slow_readers_are_read(rt: HostRuntime) -> Result<(), Fail> {
+    let report = "idle\nclosed\ntotals,0,0,0,0,0,0,0,0,0,0,closed\n";
+    let mut reader = SlowReader(b"deq,0\nclose,1\n");
+    expect_from(&rt, &mut reader, 0, report, "")
+}
+
+#[test]
+fn slow_writers_are_written(rt: HostRuntime) -> Result<(), Fail> {
+    let report = "idle\ntotals,0,0,0,0,0,0,0,0,0,0,open\n";
+    expect_taken(&rt, 1, 1_000, 0, report, "")?;
+    expect_taken(&rt, 3, 1_000, 0, report, "")
+}
+
+#[test]
+fn failed_writes_refused(rt: HostRuntime) -> Result<(), Fail> {
+    let faults = "fqsim: write\n";
+    expect_taken(&rt, 1_000, 0, 1, "", faults)?;
+    expect_taken(&rt, 1_000, 7, 1, "idle\nto", faults)?;
+    expect_taken(&rt, 1, 7, 1, "idle\nto", faults)?;
+
+    // The second write fails, then the third, up to the last.
+    let fronts = [
+        "idle\n",
+        "idle\ntotal",
+        "idle\ntotals,0,0",
+        "idle\ntotals,0,0,0,0,",
+        "idle\ntotals,0,0,0,0,0,0,0",
+        "idle\ntotals,0,0,0,0,0,0,0,0,0,",
+        "idle\ntotals,0,0,0,0,0,0,0,0,0,0,ope",
+    ];
+    for front in fronts {
+        expect_taken(&rt, 5, front.len(), 1, front, faults)?;
+    }
+    Ok(())
+}
+
+#[test]
+fn writes_that_take_nothing_refused(rt: HostRuntime) -> Result<(), Fail> {
+    expect_taken(&rt, 0, 1_000, 1, "", "fqsim: write\n")?;
+
+    // A slice takes what it has room for, and then nothing.
+    let mut taken = [0; 7];
+    let mut told = Vec::new(rt.alloc());
+    let mut trace = "deq,0\n".as_bytes();
+    let mut room = &mut taken[..];
+    let ended = program(&rt, rt.alloc(), &WORDS, &mut trace, &mut room, &mut told);
+    assert_eq!(rt; str::from_utf8(&told)?, "fqsim: write\n");
+    assert_eq!(rt; str::from_utf8(&taken)?, "idle\nto");
+    assert_eq!(rt; ended, 1);
+    Ok(())
+}
+
+#[test]
+fn a_fault_that_cannot_be_told_keeps_its_status(rt: HostRuntime) -> Result<(), Fail> {
+    let mut faults = NarrowWriter {
+        taken: Vec::new(rt.alloc()),
+        at_once: 1_000,
+        room: 0,
+    };
+    let mut report = Vec::new(rt.alloc());
+    let mut trace = "foo\n".as_bytes();
+    let ended = program(
+        &rt,
+        rt.alloc(),
+        &WORDS,
+        &mut trace,
+        &mut report,
+        &mut faults,
+    );
+    assert_eq!(rt; ended, 2);
+    assert_eq!(rt; report.len(), 0);
+    Ok(())
+}
