@@ -20,6 +20,6 @@ pub use ghost_list::GhostList;
 pub use journal::{Counts, Journal, MAX_EVENTS};
 pub use keeper::{Keeps, Stored, Unstored};
 pub use outcome::{Answer, Outcome};
-pub use step::{Admitted, CloseFault, Memory, MomentFault, Refusal, Sent, Step};
+pub use step::{Admitted, CloseFault, MAX_MOMENT, Memory, MomentFault, Refusal, Sent, Step};
 pub use totals::Totals;
 pub use tuple_rows::{TupleRow, gather_rows};

@@ -10,6 +10,9 @@ use packet_core::Packet;
 use std::alloc::{AllocError, AllocFailed};
 use thiserror::Error;
 
+/// A moment is below this many microseconds.
+pub const MAX_MOMENT: u64 = 1 << 60;
+
 /// Want of memory: a growth was refused.
 pub type Memory = AllocError;
 

@@ -8,7 +8,7 @@ use Rattle.packet_core.specs.declared.params.ParamFields.{ParamFields}
 use Rattle.journal_core.specs.declared.event.Event.{Event}
 use Rattle.journal_core.specs.declared.step.Step.{Step}
 use Rattle.trace_core.specs.Report.{journal_text}
-use Rattle.trace_core.specs.Traces.{trace_of}
+use Rattle.row_core.specs.Traces.{trace_of}
 use Rattle.trace_core.specs.declared.journal_report.SenderRow.{SenderRow}
 use Rattle.trace_core.specs.declared.trace_run.RunFault.{RunFault}
 use Rattle.trace_core.specs.declared.trace_run.RunFault.TheVariants as run_fault

@@ -2,9 +2,9 @@
 use Rattle.std.specs.Prelude.{◌≡◌, ◌≢◌, ◌⊎◌, ℕ, List, IfSome, IsOk, Option, None, Err}
 use Rattle.std.specs.Io.KnownBytes.{Keeps}
 use Rattle.packet_core.specs.Words.{params_of_words}
-use Rattle.trace_core.specs.Traces.{IsFaultOf}
-use Rattle.trace_core.specs.declared.faults.TraceFaultKind.{TraceFaultKind}
-use Rattle.trace_core.specs.declared.faults.TraceFaultKind.TheVariants as trace_fault
+use Rattle.row_core.specs.Traces.{IsFaultOf}
+use Rattle.row_core.specs.declared.faults.TraceFaultKind.{TraceFaultKind}
+use Rattle.row_core.specs.declared.faults.TraceFaultKind.TheVariants as trace_fault
 use Rattle.trace_core.specs.declared.trace_run.RunFault.{RunFault}
 use Rattle.trace_core.specs.declared.trace_run.RunFault.TheVariants as run_fault
 use Rattle.command_core.specs.CommandLine.{AsksForLocked, AsksForRun, IsMistake, parameter_words, seed_text}

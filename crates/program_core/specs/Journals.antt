@@ -19,7 +19,7 @@ use Rattle.port_core.specs.Senders.{IsSubsequence, SendsSome, packets_told}
 use Rattle.port_core.specs.declared.gate.Stop.{Stop}
 use Rattle.port_core.specs.declared.gate.Stop.TheVariants as stop
 use Rattle.trace_core.specs.Report.{journal_text}
-use Rattle.trace_core.specs.Traces.{trace_of}
+use Rattle.row_core.specs.Traces.{trace_of}
 use Rattle.trace_core.specs.declared.journal_report.SenderRow.{SenderRow}
 
 -- the sender of a packet: its flow modulo the number of senders

@@ -2,10 +2,11 @@
 
 ghost use Rattle.std.specs.Prelude.{◌≡◌, ◌≢◌, ◌+◌, ◌-◌, ◌<◌, ◌≤◌, ◌++◌, ◌∷◌, [], All, max, None, IfOk, IfErr, OnOk, OnErr};
 
-use crate::sched::{MAX_ACCEPTED, MAX_MOMENT, Sched};
+use crate::sched::{MAX_ACCEPTED, Sched};
 use fair_core::FlowView;
 use journal_core::{
-    Admitted, Answer, Event, Keeps, Memory, Refusal, Sent, Step, Stored, Totals, TupleRow,
+    Admitted, Answer, Event, Keeps, MAX_MOMENT, Memory, Refusal, Sent, Step, Stored, Totals,
+    TupleRow,
 };
 use packet_core::{Packet, Params, Seed};
 use std::alloc::Global;

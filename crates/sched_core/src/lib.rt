@@ -11,8 +11,8 @@ pub use codel_core::Mark;
 pub use engine::Engine;
 pub use fair_core::FlowView;
 pub use journal_core::{
-    Admitted, Answer, Cause, CloseFault, Event, GhostList, Keeps, MAX_EVENTS, Memory, MomentFault,
-    Outcome, Refusal, Sent, Step, Stored, Totals, TupleRow, Unstored,
+    Admitted, Answer, Cause, CloseFault, Event, GhostList, Keeps, MAX_EVENTS, MAX_MOMENT, Memory,
+    MomentFault, Outcome, Refusal, Sent, Step, Stored, Totals, TupleRow, Unstored,
 };
 pub use run::{Ran, run_steps};
-pub use sched::{MAX_ACCEPTED, MAX_MOMENT, Sched};
+pub use sched::{MAX_ACCEPTED, Sched};

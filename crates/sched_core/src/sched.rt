@@ -8,15 +8,12 @@ ghost use Rattle.journal_core.specs.declared.step.Refusal.TheVariants as refusal
 use codel_core::Served;
 use fair_core::{Backlog, FlowView};
 use journal_core::{
-    Admitted, Answer, CloseFault, Event, Journal, Keeps, Memory, MomentFault, Refusal, Sent, Step,
-    Stored, Totals, TupleRow, gather_rows,
+    Admitted, Answer, CloseFault, Event, Journal, Keeps, MAX_MOMENT, Memory, MomentFault, Refusal,
+    Sent, Step, Stored, Totals, TupleRow, gather_rows,
 };
 use packet_core::{Packet, Params, Seed, Waiting, flow_of};
 use std::alloc::{AllocError, Global};
 use std::marker::Model;
-
-/// A moment is below this many microseconds.
-pub const MAX_MOMENT: u64 = 1 << 60;
 
 /// At most this many packets are accepted.
 pub const MAX_ACCEPTED: u64 = 1 << 40;

@@ -1,4 +1,2 @@
-pub mod RecordLemmas
 pub mod ReportLemmas
-pub mod RowLemmas
 pub mod TraceRunLemmas

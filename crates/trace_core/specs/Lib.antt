@@ -1,3 +1,1 @@
 pub mod Report
-pub mod Rows
-pub mod Traces

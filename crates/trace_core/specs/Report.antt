@@ -32,7 +32,7 @@ use Rattle.journal_core.specs.State.{State, opening_state}
 use Rattle.journal_core.specs.declared.step.Step.{Step}
 use Rattle.sched_core.specs.Schedulers.{Scheduler, discipline_of}
 use Rattle.journal_core.specs.Steps.{Steps}
-use Rattle.trace_core.specs.Traces.{steps_of, trace_of}
+use Rattle.row_core.specs.Traces.{steps_of, trace_of}
 use Rattle.trace_core.specs.declared.journal_report.SenderRow.{SenderRow}
 use Rattle.trace_core.specs.declared.report.Rows.{Rows}
 

@@ -5,8 +5,9 @@ ghost use Rattle.trace_core.specs.Report.{journal_text};
 ghost use Rattle.trace_core.specs.declared.trace_run.RunFault.TheVariants as RunFault;
 
 use crate::report::Rows;
-use crate::streams::{Sink, Watched};
+use crate::streams::Sink;
 use crate::trace_run::{RunFault, write_text};
+use row_core::Watched;
 use sched_core::Engine;
 use std::alloc::Global;
 use std::io::Write;

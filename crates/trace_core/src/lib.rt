@@ -1,4 +1,4 @@
-//! The trace of a run, as text that is read into steps, and the report of a run, as text that is written.
+//! The run of a trace, from its text to the text of its report.
 //!
 //! A trace is comma-separated: one row for a packet that comes in, for a device that asks for one, and for the
 //! close. A report has one row for each thing that became of a packet and for each step that made nothing
@@ -6,16 +6,14 @@
 #![tactic(auto)]
 
 mod decimal;
-mod faults;
 mod journal_report;
-mod reader;
 mod report;
-mod row;
 mod streams;
 mod trace_run;
 
-pub use faults::{MAX_BYTES, MAX_ROWS, TraceFault, TraceFaultKind};
 pub use journal_report::{SenderRow, write_journal, write_journal_to};
-pub use reader::{read_trace, read_trace_from};
-pub use streams::{Sink, Source};
+pub use row_core::{
+    MAX_BYTES, MAX_ROWS, Source, TraceFault, TraceFaultKind, read_trace, read_trace_from,
+};
+pub use streams::Sink;
 pub use trace_run::{RunFault, run, run_between};

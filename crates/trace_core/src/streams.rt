@@ -1,29 +1,10 @@
-//! What gives a trace and what takes a report: streams that tell whether they have failed.
-ghost use Rattle.std.specs.Prelude.{◌≡◌, ◌<◌, ℕ, ◌++◌, [], List, IfOk, OnErr, Option, false, length, take, true};
-ghost use Rattle.std.specs.Io.{ReadsAtMost, WritesAtMost};
-ghost use Rattle.std.specs.Io.KnownBytes.{Appends, ReadConsumes};
+//! What takes a report: streams that tell whether they have failed.
+ghost use Rattle.std.specs.Prelude.{◌≡◌, ◌<◌, ℕ, ◌++◌, [], List, IfOk, OnErr, length, take, true};
+ghost use Rattle.std.specs.Io.{WritesAtMost};
+ghost use Rattle.std.specs.Io.KnownBytes.{Appends};
 
-use std::io::{self, ErrorKind, Read, Write};
-
-/// What gives the bytes of a trace, and tells whether it has failed.
-///
-/// std's `Read` has no word for a failed read, so no contract over it can say that a read has failed. This one is
-/// for an embedder whose reader can tell: a buffer that a device fills, say, with a flag for an overrun. Of such a
-/// reader `run_between` and `read_trace_from` promise more than `run` and `read_trace` do of a `Read`: a fault
-/// `Read` at row 0 comes only where it has failed.
-pub trait Source {
-    /// The bytes that it gives from here on, where they are known.
-    ghost remaining: { Self → Option (List ℕ) };
-
-    /// A read of it has failed.
-    ghost HasFailed: { Self → Type 0 };
-
-    /// Fills the front of a buffer, and says how many bytes of it. It gives none at the end alone.
-    fn read(&mut self, buffer: &mut [u8]) -> io::Result<usize>
-        ensures bound { ReadsAtMost result buffer.new }
-        ensures bytes { ReadConsumes (remaining self.old) (remaining self.new) result buffer.new }
-        ensures failed { OnErr result (HasFailed self.new) };
-}
+use row_core::Watched;
+use std::io::{self, ErrorKind, Write};
 
 /// What takes the bytes of a report, and tells whether it has failed.
 ///
@@ -51,41 +32,6 @@ pub trait Sink {
     /// What is written behind what was written.
     ghost wrote_more: { (a b c : Self) (first second : List ℕ)
         → Wrote a first b → Wrote b second c → Wrote a (first ++ second) c };
-}
-
-/// A stream, and whether it has failed.
-#[derive(Drop)]
-pub(crate) struct Watched<'a, T> {
-    stream: &'a mut T,
-    has_failed: bool,
-}
-
-impl<'a, T> Watched<'a, T> {
-    /// The stream, of which no failure is known.
-    pub(crate) fn new(stream: &'a mut T) -> Watched<'a, T>
-        ensures same_reference { result.stream.ghost_name ≡ stream.entry.ghost_name }
-        ensures value { result.stream.now ≡ stream.old }
-        ensures fresh { result.has_failed ≡ false }
-    {
-        Watched {
-            stream,
-            has_failed: false,
-        }
-    }
-}
-
-impl<R: Read> Source for Watched<'_, R> {
-    ghost remaining = { λ w. R.remaining w.stream.now };
-
-    ghost HasFailed = { λ w. w.has_failed ≡ true };
-
-    fn read(&mut self, buffer: &mut [u8]) -> io::Result<usize> {
-        let answer = self.stream.read(buffer);
-        if answer.is_err() {
-            self.has_failed = true;
-        }
-        answer
-    }
 }
 
 impl<W: Write> Sink for Watched<'_, W> {

@@ -6,16 +6,17 @@ ghost use Rattle.packet_core.specs.declared.flow.Seed.{Seed};
 ghost use Rattle.packet_core.specs.declared.params.ParamFields.{ParamFields};
 ghost use Rattle.sched_core.specs.Schedulers.{new_scheduler};
 ghost use Rattle.trace_core.specs.Report.{IsReportOf, RunsStep, RunsText};
-ghost use Rattle.trace_core.specs.Traces.{HasTaken, IsFaultOf, IsRowsFault, ReadFails, TextReader};
-ghost use Rattle.trace_core.specs.declared.faults.TraceFault.{TraceFault};
-ghost use Rattle.trace_core.specs.declared.faults.TraceFaultKind.TheVariants as kind;
+ghost use Rattle.row_core.specs.Traces.{HasTaken, IsFaultOf, IsRowsFault, ReadFails, TextReader, reader_of};
+ghost use Rattle.row_core.specs.declared.faults.TraceFault.{TraceFault};
+ghost use Rattle.row_core.specs.declared.faults.TraceFaultKind.TheVariants as kind;
 ghost use Rattle.trace_core.specs.declared.trace_run.RunFault.TheVariants.{Memory, Trace};
 
-use crate::faults::{MAX_BYTES, TraceFault, TraceFaultKind};
-use crate::reader::{Next, TraceRows, read_text};
 use crate::report::Rows;
-use crate::streams::{Sink, Source, Watched};
+use crate::streams::Sink;
 use packet_core::{Params, Seed};
+use row_core::{
+    MAX_BYTES, Next, Source, TraceFault, TraceFaultKind, TraceRows, Watched, read_text,
+};
 use sched_core::{Memory, Sched, Step};
 use std::alloc::{AllocError, Global};
 use std::io::{Read, Write};
@@ -139,7 +140,7 @@ fn run_rows(sched: &mut Sched, rows: &mut TraceRows<'_>, report: &mut Rows) -> R
     ensures run { OnOk result ((text : List ℕ) → HasTaken text rows.old 0 []
         → RunsText text sched.old sched.new report.old report.new) }
     ensures trace { IfErr result (λ fault. (why : TraceFault) → fault ≡ RunFault.Trace why
-        → (text : List ℕ) → HasTaken text rows.old 0 [] → IsRowsFault text rows.new.records why) }
+        → (text : List ℕ) → HasTaken text rows.old 0 [] → IsRowsFault text (reader_of rows.new) why) }
     ensures write { IfErr result (λ fault. fault ≢ RunFault.Write) }
 {
     // A record takes a byte or more, so the text ends before the turns do.

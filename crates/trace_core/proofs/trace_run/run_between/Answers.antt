@@ -1,5 +1,5 @@
 use Rattle.std.proofs.Common.{◌≡◌, ◌≤◌, Err, length, rules}
-use Rattle.trace_core.proofs.RecordLemmas.{rows_fault, rows_read}
+use Rattle.row_core.proofs.RecordLemmas.{rows_fault, rows_read}
 use Rattle.trace_core.proofs.trace_run.run_between.Goals as goal
 
 pub returns-in_err-report-clause-trace : goal.returns-in_err-report-clause-trace

@@ -1,6 +1,6 @@
 use Rattle.std.proofs.Common.{◌≡◌, [], Err, arith, rules}
 use Rattle.trace_core.specs.declared.trace_run.RunFault.TheVariants.{Trace}
-use Rattle.trace_core.proofs.RecordLemmas.{few_turns}
+use Rattle.row_core.proofs.RecordLemmas.{few_turns}
 use Rattle.trace_core.proofs.TraceRunLemmas.{runs_more, runs_none}
 use Rattle.trace_core.proofs.trace_run.run_rows.Goals as goal
 use Rattle.trace_core.proofs.trace_run.run_rows.Goals.{in-Blank, in-Row+in_ok-run_step-in-Row}

@@ -1,7 +1,7 @@
 use Rattle.std.proofs.Common.{ℕ, List, []}
 use Rattle.journal_core.specs.declared.step.Step.{Step}
 use Rattle.trace_core.specs.Report.{RunsSteps}
-use Rattle.trace_core.specs.Traces.{HasTaken}
+use Rattle.row_core.specs.Traces.{HasTaken}
 use Rattle.trace_core.proofs.trace_run.run_rows.Given as goal
 
 -- the steps that were taken so far are made, and their rows are written

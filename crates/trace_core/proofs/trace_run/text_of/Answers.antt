@@ -1,6 +1,7 @@
 use Rattle.std.proofs.Common.{◌≡◌, Err, length, rules}
 use Rattle.std.proofs.lemmas.Bool.{le-ltb}
 use Rattle.journal_core.specs.Runs.{journal_of}
+use Rattle.row_core.specs.Traces.{reader_of}
 use Rattle.trace_core.specs.Report.{Adds}
 use Rattle.trace_core.proofs.trace_run.text_of.Goals as goal
 
@@ -22,4 +23,4 @@ returns-clause-report c = λ params seed made.
 pub returns-in_err-run_rows-clause-trace : goal.returns-in_err-run_rows-clause-trace
 returns-in_err-run_rows-clause-trace c =
     let err : c.from_residual.result ≡ Err c.in_err-run_rows.field-0.0 = search rules in
-    rw err (λ why is. (c.run_rows.new.rows.records, c.in_err-run_rows.ensures.trace why is c.args.text.now c.new.ensures))
+    rw err (λ why is. (reader_of c.run_rows.new.rows, c.in_err-run_rows.ensures.trace why is c.args.text.now c.new.ensures))

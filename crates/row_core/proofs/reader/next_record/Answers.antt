@@ -3,9 +3,9 @@ use Rattle.csv.proofs.ReadFacts.{rows-end, rows-more}
 use Rattle.csv.specs.Reading.{default_config, error_kind, strip_bom}
 use Rattle.csv.specs.Records.{fields_of}
 use Rattle.csv.specs.declared.parser.State.TheVariants as st
-use Rattle.trace_core.proofs.RecordLemmas.{all_records, io_alone}
-use Rattle.trace_core.specs.Traces.{text_left}
-use Rattle.trace_core.proofs.reader.next_record.Goals as goal
+use Rattle.row_core.proofs.RecordLemmas.{all_records, io_alone}
+use Rattle.row_core.specs.Traces.{text_left}
+use Rattle.row_core.proofs.reader.next_record.Goals as goal
 
 pub returns-in-Ok-clause-more : goal.returns-in-Ok-clause-more
 returns-in-Ok-clause-more c = λ found text before h.

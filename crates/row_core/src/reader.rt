@@ -2,13 +2,13 @@
 ghost use Rattle.std.specs.Prelude.{◌≡◌, ◌<◌, ◌≤◌, ◌⊎◌, ◌∷◌, [], ℕ, ◌++◌, IfErr, IfOk, IfSome, IsErrOf, List, Ok, false, length, true, vec_len};
 ghost use Rattle.csv.specs.Reading.{default_config, error_kind, records, strip_bom};
 ghost use Rattle.csv.specs.Records.{fields_of};
-ghost use Rattle.trace_core.specs.Traces as Traces;
+ghost use Rattle.row_core.specs.Traces as Traces;
 
 use crate::faults::{MAX_BYTES, MAX_ROWS, TraceFault, TraceFaultKind};
 use crate::row::{field, read_row};
 use crate::streams::{Source, Watched};
 use csv::{ByteRecord, ErrorKind, ReaderBuilder};
-use sched_core::Step;
+use journal_core::Step;
 use std::alloc::Global;
 use std::io::Read;
 
@@ -40,8 +40,9 @@ pub fn read_trace_from<S: Source>(alloc: Global, source: &mut S) -> Result<Vec<S
     all_steps(alloc, &mut TraceRows::new(alloc, &text))
 }
 
-/// The text of the trace that a source gives. A fault stands at row 0.
-pub(crate) fn read_text<S: Source>(alloc: Global, source: &mut S) -> Result<Vec<u8>, TraceFault>
+/// The text of the trace that a source gives: all its bytes, of which there are at most `MAX_BYTES`. A fault stands at
+/// row 0, and `Read` is answered only where the source has failed.
+pub fn read_text<S: Source>(alloc: Global, source: &mut S) -> Result<Vec<u8>, TraceFault>
     ensures whole { IfOk result (λ text. IfSome (S.remaining source.old) (λ bytes. text.items ≡ bytes)) }
     ensures bound { IfOk result (λ text. vec_len text ≤ MAX_BYTES) }
     ensures fault { IfErr result (λ fault. IfSome (S.remaining source.old) (λ bytes. Traces.IsFaultOf bytes fault)) }
@@ -87,7 +88,7 @@ fn read_bytes<S: Source>(alloc: Global, source: &mut S) -> Result<Vec<u8>, Trace
 
 /// What stands next in a text.
 #[derive(Clone, Copy, Debug)]
-pub(crate) enum Next {
+pub enum Next {
     /// A row, which asks for that step.
     Row(Step),
     /// A record with one empty field, which is no row and isn't counted.
@@ -96,9 +97,9 @@ pub(crate) enum Next {
     End,
 }
 
-/// The rows of a text, as they are read one after the other.
+/// The rows of a text, as they are read one after the other. Behind the end and behind a fault nothing is said of them.
 #[derive(Drop)]
-pub(crate) struct TraceRows<'a> {
+pub struct TraceRows<'a> {
     records: csv::Reader<&'a [u8]>,
     row: ByteRecord,
     row_number: u64,
@@ -106,7 +107,7 @@ pub(crate) struct TraceRows<'a> {
 
 impl<'a> TraceRows<'a> {
     /// The rows of a text, from its start on.
-    pub(crate) fn new(alloc: Global, text: &'a [u8]) -> TraceRows<'a>
+    pub fn new(alloc: Global, text: &'a [u8]) -> TraceRows<'a>
         requires { length text.now ≤ MAX_BYTES }
         ensures { Traces.HasTaken text.now result 0 [] }
     {
@@ -121,10 +122,10 @@ impl<'a> TraceRows<'a> {
     }
 
     /// What stands next. A fault comes at the row that it stands in.
-    pub(crate) fn next(&mut self) -> Result<Next, TraceFault>
+    pub fn next(&mut self) -> Result<Next, TraceFault>
         ensures taken { IfOk result (λ next. Traces.TakesNext self.old next self.new) }
         ensures fault { IfErr result (λ fault. (text : List ℕ) (turns : ℕ) (steps : List Step)
-            → Traces.HasTaken text self.old turns steps → Traces.IsRowsFault text self.new.records fault) }
+            → Traces.HasTaken text self.old turns steps → Traces.IsRowsFault text (Traces.reader_of self.new) fault) }
     {
         match next_record(&mut self.records, &mut self.row) {
             Ok(true) => {}
@@ -147,8 +148,8 @@ impl<'a> TraceRows<'a> {
     }
 
     /// The number of the next row, from 1.
-    pub(crate) fn row_number(&self) -> u64
-        ensures { result ≡ self.now.row_number }
+    pub fn row_number(&self) -> u64
+        ensures { result ≡ Traces.next_number self.now }
     {
         self.row_number
     }
@@ -159,7 +160,7 @@ fn all_steps(alloc: Global, rows: &mut TraceRows<'_>) -> Result<Vec<Step>, Trace
     ensures steps { IfOk result (λ steps. (text : List ℕ)
         → Traces.HasTaken text rows.old 0 [] → Traces.steps_of text ≡ Ok steps.items) }
     ensures fault { IfErr result (λ fault. (text : List ℕ)
-        → Traces.HasTaken text rows.old 0 [] → Traces.IsRowsFault text rows.new.records fault) }
+        → Traces.HasTaken text rows.old 0 [] → Traces.IsRowsFault text (Traces.reader_of rows.new) fault) }
 {
     let mut steps = Vec::new(alloc);
     // A record takes a byte or more, so the text ends before the turns do.

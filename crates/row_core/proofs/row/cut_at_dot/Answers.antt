@@ -1,8 +1,8 @@
 use Rattle.std.proofs.Common.{ℕ, ◌==◌, length, arith, rules}
 use Rattle.std.proofs.lemmas.List.Sums.{position_or_len_is}
 use Rattle.std.proofs.lemmas.List.{take_rest}
-use Rattle.trace_core.specs.Rows.{cut_of}
-use Rattle.trace_core.proofs.row.cut_at_dot.Goals as goal
+use Rattle.row_core.specs.Rows.{cut_of}
+use Rattle.row_core.proofs.row.cut_at_dot.Goals as goal
 
 pub returns-in_err-place : goal.returns-in_err-place
 unfolding cut_of

@@ -4,12 +4,12 @@ ghost use Rattle.std.specs.Char.{digit_value};
 ghost use Rattle.std.specs.Option.{SomeIff};
 ghost use Rattle.packet_core.specs.Packets.{IsLengthInRange};
 ghost use Rattle.csv.specs.Records.{fields_of};
-ghost use Rattle.trace_core.specs.Rows.{address_of, cut_of, ecn_of, field_of, fields_of_kind, four_octets_of, kind_of, length_of, number_below, octet_of, packet_of, row_of, starts_with_zero};
+ghost use Rattle.row_core.specs.Rows.{address_of, cut_of, ecn_of, field_of, fields_of_kind, four_octets_of, kind_of, length_of, number_below, octet_of, packet_of, row_of, starts_with_zero};
 
 use crate::faults::TraceFaultKind;
 use csv::ByteRecord;
+use journal_core::{MAX_MOMENT, Step};
 use packet_core::{Ecn, FiveTuple, Ip, MAX_LENGTH, Packet, read_numeral};
-use sched_core::{MAX_MOMENT, Step};
 
 /// Every packet of a trace comes from the one lane.
 const TRACE_LANE: u32 = 0;

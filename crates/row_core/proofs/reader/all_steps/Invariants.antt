@@ -1,6 +1,6 @@
 use Rattle.std.proofs.Common.{ℕ, List, []}
-use Rattle.trace_core.specs.Traces.{HasTaken}
-use Rattle.trace_core.proofs.reader.all_steps.Given as goal
+use Rattle.row_core.specs.Traces.{HasTaken}
+use Rattle.row_core.proofs.reader.all_steps.Given as goal
 
 -- the steps so far are those of the records so far
 abbrev pub invariant-loop-turn : goal.invariant-loop-turn

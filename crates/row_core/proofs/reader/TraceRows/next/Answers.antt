@@ -1,8 +1,8 @@
 use Rattle.std.proofs.Common.{◌+◌, ◌∙◌, [], ◌∷◌, ◌++◌, length, inl, inr, refl, sym, arith, length-append}
 use Rattle.std.proofs.lemmas.Bool.{le-ltb, lt-ltb}
 use Rattle.csv.specs.Records.{fields_of}
-use Rattle.trace_core.proofs.RecordLemmas.{fault_behind, reads_up_to, record_more}
-use Rattle.trace_core.proofs.reader.TraceRows.next.Goals as goal
+use Rattle.row_core.proofs.RecordLemmas.{fault_behind, reads_up_to, record_more}
+use Rattle.row_core.proofs.reader.TraceRows.next.Goals as goal
 
 pub returns-in-Ok-false-clause-taken : goal.returns-in-Ok-false-clause-taken
 returns-in-Ok-false-clause-taken c = λ text turns steps taken.

@@ -12,10 +12,10 @@ use Rattle.packet_core.specs.declared.packet.Ip.{Ip}
 use Rattle.packet_core.specs.declared.packet.Ip.TheVariants.{V4}
 use Rattle.journal_core.specs.declared.step.Step.{Step}
 use Rattle.journal_core.specs.declared.step.Step.TheVariants as step
-use Rattle.trace_core.specs.declared.faults.TraceFaultKind.{TraceFaultKind}
-use Rattle.trace_core.specs.declared.faults.TraceFaultKind.TheVariants.{BadKind, BadFieldCount, BadNumber, BadAddress, BadEcn, LengthOutOfRange}
-use Rattle.trace_core.specs.declared.row.RowKind.{RowKind}
-use Rattle.trace_core.specs.declared.row.RowKind.TheVariants.{Enqueue, Dequeue, Close}
+use Rattle.row_core.specs.declared.faults.TraceFaultKind.{TraceFaultKind}
+use Rattle.row_core.specs.declared.faults.TraceFaultKind.TheVariants.{BadKind, BadFieldCount, BadNumber, BadAddress, BadEcn, LengthOutOfRange}
+use Rattle.row_core.specs.declared.row.RowKind.{RowKind}
+use Rattle.row_core.specs.declared.row.RowKind.TheVariants.{Enqueue, Dequeue, Close}
 
 infixl 10 ◌>>=◌
 infixl 10 ◌>>?◌

@@ -16,11 +16,11 @@ use Rattle.csv.specs.declared.parser.Config.{Config}
 use Rattle.csv.specs.declared.parser.State.{State}
 use Rattle.csv.specs.declared.parser.State.TheVariants as st
 use Rattle.journal_core.specs.declared.step.Step.{Step}
-use Rattle.trace_core.specs.declared.faults.TraceFault.{TraceFault}
-use Rattle.trace_core.specs.declared.faults.TraceFaultKind.TheVariants.{Read}
-use Rattle.trace_core.specs.declared.reader.TraceRows.{TraceRows}
-use Rattle.trace_core.specs.Traces.{HasRead, HasTaken, IsFaultOf, IsRowsFault, ReadFails, ReadsUpTo, TextReader}
-use Rattle.trace_core.specs.Traces.{csv_fault, steps_of, steps_of_records, text_left, with_record}
+use Rattle.row_core.specs.declared.faults.TraceFault.{TraceFault}
+use Rattle.row_core.specs.declared.faults.TraceFaultKind.TheVariants.{Read}
+use Rattle.row_core.specs.declared.reader.TraceRows.{TraceRows}
+use Rattle.row_core.specs.Traces.{HasRead, HasTaken, IsFaultOf, IsRowsFault, ReadFails, ReadsUpTo, TextReader}
+use Rattle.row_core.specs.Traces.{csv_fault, steps_of, steps_of_records, text_left, with_record}
 
 -- a record leaves no more than the text behind its first byte
 shorter : (cfg : Config) (s : State) (fields : List (List ℕ)) (field xs : List ℕ) (p : Cut)

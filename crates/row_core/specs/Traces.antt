@@ -12,13 +12,13 @@ use Rattle.csv.specs.declared.parser.State.TheVariants as st
 use Rattle.csv.specs.declared.reader.Reader.{Reader}
 use Rattle.csv.specs.declared.reader.Trim.TheVariants as trim
 use Rattle.journal_core.specs.declared.step.Step.{Step}
-use Rattle.trace_core.specs.declared.reader.Next.{Next}
-use Rattle.trace_core.specs.declared.reader.Next.TheVariants as next
-use Rattle.trace_core.specs.declared.faults.TraceFault.{TraceFault}
-use Rattle.trace_core.specs.declared.faults.TraceFaultKind.{TraceFaultKind}
-use Rattle.trace_core.specs.declared.faults.TraceFaultKind.TheVariants.{Memory, Read, TooLarge}
-use Rattle.trace_core.specs.declared.reader.TraceRows.{TraceRows}
-use Rattle.trace_core.specs.Rows.{◌>>=◌, field_of, row_of}
+use Rattle.row_core.specs.declared.reader.Next.{Next}
+use Rattle.row_core.specs.declared.reader.Next.TheVariants as next
+use Rattle.row_core.specs.declared.faults.TraceFault.{TraceFault}
+use Rattle.row_core.specs.declared.faults.TraceFaultKind.{TraceFaultKind}
+use Rattle.row_core.specs.declared.faults.TraceFaultKind.TheVariants.{Memory, Read, TooLarge}
+use Rattle.row_core.specs.declared.reader.TraceRows.{TraceRows}
+use Rattle.row_core.specs.Rows.{◌>>=◌, field_of, row_of}
 
 -- whether a record's only field is empty: it stands for no row, and isn't counted
 abbrev pub is_blank : List (List ℕ) → Bool
@@ -133,15 +133,22 @@ IsRowsFault text reader fault =
     ⊎ ((fault.what ≡ Memory) × ReadsUpTo fault.row text)
     ⊎ ((fault.what ≡ Read) × FailsAtRow fault.row text reader)
 
+-- the reader of `csv` under the rows of a text, and the number of their next row
+abbrev pub reader_of : TraceRows → TextReader
+reader_of rows = rows.records
+
+abbrev pub next_number : TraceRows → ℕ
+next_number rows = rows.row_number
+
 -- So many records or more of a text that is no longer than a trace were taken, which ask for these steps, and the
 -- next row has its number.
 pub record HasTaken (text : List ℕ) (rows : TraceRows) (turns : ℕ) (steps : List Step) : Type 0 where
   pub small : length text ≤ 134217728
   pub before : List (List (List ℕ))
-  pub read : HasRead text rows.records before
+  pub read : HasRead text (reader_of rows) before
   pub many : turns ≤ length before
   pub asked : steps_of_records before ≡ Ok steps
-  pub next_row : rows.row_number ≡ 1 + length steps
+  pub next_row : next_number rows ≡ 1 + length steps
 
 -- what was taken next: a row asks for one step more, a blank record for none, and at the end the steps are those of
 -- the text

@@ -1,8 +1,8 @@
 use Rattle.std.proofs.Common.{inl, inr, length, refl, rules}
 use Rattle.std.proofs.lemmas.Bool.{lt-ltb}
 use Rattle.std.proofs.lemmas.Option.{IfSome_then}
-use Rattle.trace_core.specs.Traces.{IsFaultOf}
-use Rattle.trace_core.proofs.reader.read_text.Goals as goal
+use Rattle.row_core.specs.Traces.{IsFaultOf}
+use Rattle.row_core.proofs.reader.read_text.Goals as goal
 
 pub returns-in-Err-clause-fault : goal.returns-in-Err-clause-fault
 returns-in-Err-clause-fault g c = elim c.in-Err.ensures.fault [

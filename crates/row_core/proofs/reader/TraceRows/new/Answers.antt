@@ -1,7 +1,7 @@
 use Rattle.std.proofs.Common.{◌∙◌, [], arith, inr, refl, sym}
 use Rattle.csv.specs.Reading.{Reached, strip_bom}
-use Rattle.trace_core.specs.Traces.{HasRead, steps_of_records}
-use Rattle.trace_core.proofs.reader.TraceRows.new.Goals as goal
+use Rattle.row_core.specs.Traces.{HasRead, steps_of_records}
+use Rattle.row_core.proofs.reader.TraceRows.new.Goals as goal
 
 pub returns : goal.returns
 unfolding Reached steps_of_records

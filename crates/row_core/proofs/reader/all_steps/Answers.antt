@@ -1,8 +1,8 @@
 use Rattle.std.proofs.Common.{◌≡◌, Err, true, inl, inr, refl, arith, rules}
 use Rattle.std.specs.Result.{is_ok}
-use Rattle.trace_core.proofs.RecordLemmas.{few_turns, reads_up_to}
-use Rattle.trace_core.proofs.reader.all_steps.Goals as goal
-use Rattle.trace_core.proofs.reader.all_steps.Goals.{in-Blank, in-Row+else-is_err}
+use Rattle.row_core.proofs.RecordLemmas.{few_turns, reads_up_to}
+use Rattle.row_core.proofs.reader.all_steps.Goals as goal
+use Rattle.row_core.proofs.reader.all_steps.Goals.{in-Blank, in-Row+else-is_err}
 
 pub returns-in_err-next-clause-fault : goal.returns-in_err-next-clause-fault
 returns-in_err-next-clause-fault c =

@@ -1,0 +1,12 @@
+//! From a trace's bytes to its steps: the bytes that a source gives, the records that `csv` cuts off them, and the
+//! rows of these, each with the step that it asks for or its first fault.
+#![tactic(auto)]
+
+mod faults;
+mod reader;
+mod row;
+mod streams;
+
+pub use faults::{MAX_BYTES, MAX_ROWS, TraceFault, TraceFaultKind};
+pub use reader::{Next, TraceRows, read_text, read_trace, read_trace_from};
+pub use streams::{Source, Watched};
