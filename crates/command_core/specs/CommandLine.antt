@@ -33,19 +33,23 @@ parameter_argument = record (new_rule (codes "PARAM")) { action = Some Append }
 abbrev pub trace_line : App
 trace_line = with_rule (with_rule (new_app (codes "trace")) seed_option) parameter_argument
 
+-- a subcommand that runs a trace by senders, `[--seed HEX32] [--senders N] [PARAM]...`
+abbrev pub senders_line : App → App
+senders_line named = with_rule (with_rule (with_rule named seed_option) senders_option) parameter_argument
+
 -- `locked [--seed HEX32] [--senders N] [PARAM]...`
 abbrev pub locked_line : App
-locked_line = with_rule (with_rule (with_rule (new_app (codes "locked")) seed_option) senders_option) parameter_argument
+locked_line = senders_line (new_app (codes "locked"))
 
--- the words behind the program's name: one of two subcommands, which has to be there
+-- the words behind the program's name, of which the first has to be a subcommand
+abbrev pub top_line : App
+top_line =
+    on_top (λ top. record top { no_binary_name = true; subcommand_required = true; arg_required_else_help = true })
+    (new_app (codes "fqsim"))
+
+-- the same with the two subcommands
 abbrev pub program_line : App
-program_line =
-    with_subcommand
-    (with_subcommand
-    (on_top (λ top. record top { no_binary_name = true; subcommand_required = true; arg_required_else_help = true })
-    (new_app (codes "fqsim")))
-    trace_line.top)
-    locked_line.top
+program_line = with_subcommand (with_subcommand top_line trace_line.top) locked_line.top
 
 -- what stands behind a subcommand, by its matches and by the words
 abbrev pub rows_of_entered : Option (Text × List Row) → List Row

@@ -1,8 +1,8 @@
 //! The words behind the program's name, read by `clap`.
 ghost use Rattle.std.specs.Prelude.{◌≡◌, ◌≢◌, [], IfErr, IfOk, Some, codes, false, map, option_map, true, unwrap_or};
-ghost use Rattle.clap.specs.Words.{all_of, app_of, first_of, found_of, kind_of, one_of, rows_of, rule_of, subcommand_name_of};
+ghost use Rattle.clap.specs.Words.{all_of, app_of, first_of, found_of, kind_of, new_app, one_of, rows_of, rule_of, subcommand_name_of};
 ghost use Rattle.clap.specs.declared.builder.command.Command.TheViews.{out-Command as fields_of};
-ghost use Rattle.command_core.specs.CommandLine.{AsksForHelp, AsksForLocked, AsksForTrace, IsMistake, IsRunRequest, IsSenderCount, locked_line, parameter_argument, parameter_words, program_line, rows_behind, seed_option, seed_text, senders_option, senders_text, trace_line};
+ghost use Rattle.command_core.specs.CommandLine.{AsksForHelp, AsksForLocked, AsksForTrace, IsMistake, IsRunRequest, IsSenderCount, locked_line, parameter_argument, parameter_words, program_line, rows_behind, seed_option, seed_text, senders_line, senders_option, senders_text, top_line, trace_line};
 
 use crate::manual;
 use clap::error::ErrorKind;
@@ -100,10 +100,14 @@ fn without_matches<'a>(alloc: Global, error: Error) -> Result<Request<'a>, Comma
     ensures mistake { IfErr result (λ fault. (text : _) → fault ≡ CommandFault.Mistake text
         → (kind_of error ≢ ErrorKind.DisplayHelp) × (kind_of error ≢ ErrorKind.OutOfMemory)) }
 {
-    match error.kind() {
-        ErrorKind::OutOfMemory => Err(CommandFault::Memory),
-        ErrorKind::DisplayHelp => Ok(Request::Help(format!(in alloc; "{error}")?)),
-        _ => Err(CommandFault::Mistake(format!(in alloc; "{error}")?)),
+    let kind = error.kind();
+    if kind == ErrorKind::OutOfMemory {
+        return Err(CommandFault::Memory);
+    }
+    let text = format!(in alloc; "{error}")?;
+    match kind {
+        ErrorKind::DisplayHelp => Ok(Request::Help(text)),
+        _ => Err(CommandFault::Mistake(text)),
     }
 }
 
@@ -165,17 +169,23 @@ fn sender_count(matches: &ArgMatches<'_>) -> u32
 fn program_command<'a>(alloc: Global) -> Result<Command<'a>, AllocError>
     ensures { IfOk result (λ r. app_of r ≡ program_line) }
 {
-    let trace = trace_command(alloc)?;
-    let locked = locked_command(alloc)?;
-    let named = Command::new(alloc, "fqsim").bin_name("fqsim")?;
-    let command = named
+    let command = top_command(alloc)?;
+    let command = command.subcommand(trace_command(alloc)?)?;
+    command.subcommand(locked_command(alloc)?)
+}
+
+/// The command line without its subcommands.
+fn top_command<'a>(alloc: Global) -> Result<Command<'a>, AllocError>
+    ensures { IfOk result (λ r. app_of r ≡ top_line) }
+{
+    let command = Command::new(alloc, "fqsim")
         .no_binary_name(true)
         .subcommand_required(true)
         .arg_required_else_help(true)
         .about(manual::PROGRAM_SUMMARY)
         .long_about(manual::PROGRAM_DESCRIPTION)
         .after_help(manual::PROGRAM_NOTES);
-    command.subcommand(trace)?.subcommand(locked)
+    command.bin_name("fqsim")
 }
 
 /// `--seed HEX32`
@@ -214,15 +224,35 @@ fn parameter_argument<'a>(alloc: Global) -> Arg<'a>
         .long_help(manual::PARAMETERS_DESCRIPTION)
 }
 
+/// A subcommand of that name without arguments: what it does, in a line and at length, and what stands below its help.
+fn subcommand<'a>(
+    alloc: Global,
+    name: &'a str,
+    summary: &'a str,
+    description: &'a str,
+    notes: &'a str,
+) -> Command<'a>
+    ensures line { app_of result ≡ new_app name.entry.now }
+    ensures local { (fields_of result).has_globals ≡ false }
+{
+    Command::new(alloc, name)
+        .about(summary)
+        .long_about(description)
+        .after_long_help(notes)
+}
+
 /// The subcommand that runs a trace.
 fn trace_command<'a>(alloc: Global) -> Result<Command<'a>, AllocError>
     ensures line { IfOk result (λ r. app_of r ≡ trace_line) }
     ensures local { IfOk result (λ r. (fields_of r).has_globals ≡ false) }
 {
-    let command = Command::new(alloc, "trace")
-        .about(manual::TRACE_SUMMARY)
-        .long_about(manual::TRACE_DESCRIPTION)
-        .after_long_help(manual::TRACE_NOTES);
+    let command = subcommand(
+        alloc,
+        "trace",
+        manual::TRACE_SUMMARY,
+        manual::TRACE_DESCRIPTION,
+        manual::TRACE_NOTES,
+    );
     command
         .arg(seed_argument(alloc))?
         .arg(parameter_argument(alloc))
@@ -233,10 +263,22 @@ fn locked_command<'a>(alloc: Global) -> Result<Command<'a>, AllocError>
     ensures line { IfOk result (λ r. app_of r ≡ locked_line) }
     ensures local { IfOk result (λ r. (fields_of r).has_globals ≡ false) }
 {
-    let command = Command::new(alloc, "locked")
-        .about(manual::LOCKED_SUMMARY)
-        .long_about(manual::LOCKED_DESCRIPTION)
-        .after_long_help(manual::LOCKED_NOTES);
+    let command = subcommand(
+        alloc,
+        "locked",
+        manual::LOCKED_SUMMARY,
+        manual::LOCKED_DESCRIPTION,
+        manual::LOCKED_NOTES,
+    );
+    by_senders(alloc, command)
+}
+
+/// A subcommand with the arguments of a run by senders.
+fn by_senders<'a>(alloc: Global, command: Command<'a>) -> Result<Command<'a>, AllocError>
+    requires { (fields_of command).has_globals ≡ false }
+    ensures line { IfOk result (λ r. app_of r ≡ senders_line (app_of command.entry)) }
+    ensures local { IfOk result (λ r. (fields_of r).has_globals ≡ false) }
+{
     command
         .arg(seed_argument(alloc))?
         .arg(senders_argument(alloc))?
