@@ -73,6 +73,18 @@ pub struct OnPort<A: Ledger, S: Ledger, R: Wait + Drop> {
     pub seat: PortSeat<A, S>,
 }
 
+impl<A: Ledger, S: Ledger, R: Wait + Drop> OnPort<A, S, R> {
+    /// A port by the last of these seats, if there is one.
+    pub fn new(
+        rt: R,
+        port: LockedPort<A, S>,
+        mut seats: Vec<PortSeat<A, S>>,
+    ) -> Option<OnPort<A, S, R>> {
+        let seat = seats.pop()?;
+        Some(OnPort { rt, port, seat })
+    }
+}
+
 impl<A: Ledger, S: Ledger, R: Wait + Drop> Device for OnPort<A, S, R> {
     fn enqueue(&mut self, moment: u64, packet: Packet) -> Result<(), Refused> {
         if self

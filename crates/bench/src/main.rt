@@ -52,19 +52,47 @@ fn measure<R: AllocGlobal + Clock + Print + Threads + Wait + Sync + Clone + Drop
     name: &str,
 ) -> Result<(), Fault> {
     if name == SETTLE {
-        let tenths = least_settling(rt)? / 100_000;
-        println!(rt; "{name},{SETTLED},{}.{}", tenths / 10, tenths % 10)?;
-        return Ok(());
+        return measure_settling(rt);
     }
-    if let Some(senders) = senders_of(name) {
-        let nanoseconds = least_sending(rt, senders)?.max(1);
-        let packets = u128::from(ROUNDS) * 1_000_000_000 / nanoseconds;
-        println!(rt; "{name},{ROUNDS},{packets}")?;
-        return Ok(());
+    match senders_of(name) {
+        Some(senders) => measure_sending(rt, name, senders),
+        None => measure_workload(rt, named(name).ok_or(Fault::UnknownWorkload)?),
     }
-    let workload = named(name).ok_or(Fault::UnknownWorkload)?;
-    let tenths = least_nanoseconds(rt, &workload)?.saturating_mul(10) / u128::from(ROUNDS);
-    println!(rt; "{name},{ROUNDS},{}.{}", tenths / 10, tenths % 10)?;
+}
+
+/// Measures the settling of a locked port.
+fn measure_settling<R: AllocGlobal + Clock + Print + Wait>(rt: &R) -> Result<(), Fault> {
+    let tenths = least_settling(rt)? / 100_000;
+    println!(rt; "{SETTLE},{SETTLED},{}.{}", tenths / 10, tenths % 10)?;
+    Ok(())
+}
+
+/// Measures so many senders and a device at a locked port.
+fn measure_sending<R: AllocGlobal + Clock + Print + Threads + Wait + Sync>(
+    rt: &R,
+    name: &str,
+    senders: u32,
+) -> Result<(), Fault>
+    requires { (0 < senders) × (senders ≤ 4) }
+{
+    let nanoseconds = least_sending(rt, senders)?.max(1);
+    let packets = u128::from(ROUNDS) * 1_000_000_000 / nanoseconds;
+    println!(rt; "{name},{ROUNDS},{packets}")?;
+    Ok(())
+}
+
+/// Measures the rounds of a workload.
+fn measure_workload<R: AllocGlobal + Clock + Print + Wait + Clone + Drop>(
+    rt: &R,
+    workload: &Workload,
+) -> Result<(), Fault> {
+    let tenths = least_nanoseconds(rt, workload)?.saturating_mul(10) / u128::from(ROUNDS);
+    println!(rt;
+        "{},{ROUNDS},{}.{}",
+        workload.name,
+        tenths / 10,
+        tenths % 10
+    )?;
     Ok(())
 }
 
@@ -81,16 +109,16 @@ fn senders_of(name: &str) -> Option<u32>
 }
 
 /// The workload of that name.
-fn named(name: &str) -> Option<Workload> {
-    WORKLOADS.into_iter().find(|workload| workload.name == name)
+fn named(name: &str) -> Option<&'static Workload> {
+    WORKLOADS.iter().find(|workload| workload.name == name)
 }
 
-/// Says what each workload does.
+/// Says what each word measures.
 fn tell_workloads(rt: &impl Print) -> Result<(), Fault> {
     println!(rt;
         "bench NAME... prints name,rounds,nanoseconds per round: the least of some repetitions"
     )?;
-    for workload in WORKLOADS {
+    for workload in &WORKLOADS {
         println!(rt; "{}: {}", workload.name, workload.about)?;
     }
     println!(rt;

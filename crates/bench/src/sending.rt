@@ -3,7 +3,7 @@
 ghost use Rattle.std.specs.Prelude.{◌≡◌, ◌≤◌, ◌<◌, ◌+◌};
 ghost use denote.Param.Send.{IsSend, IsSync};
 
-use crate::timing::{Fault, REPETITIONS, SEED, START, packet_to};
+use crate::timing::{Fault, REPETITIONS, SEED, START, nanoseconds_since, now, packet_to};
 use crate::workload::ROUNDS;
 use packet_core::{Ecn, Packet, ParamFields, Params};
 use port_core::{LockedDone, LockedPort, Open, PortSeat, send_locked};
@@ -13,7 +13,6 @@ use std::rt::Clock;
 use std::sync::Wait;
 use std::sync::ledger::{Blank, Ledger};
 use std::thread::{self, Threads};
-use std::time::Instant;
 
 /// The most packets that wait: all.
 const LIMIT: u32 = 1_048_576;
@@ -75,14 +74,27 @@ fn timed<A: Ledger + Send + Sync, S: Ledger + Send + Sync, R: Clock + Threads + 
     packets: &[(u64, Packet)],
 ) -> Result<u128, Fault> {
     let mut seats = seats;
-    let device = seats.pop().ok_or(Fault::Refused)?;
-    let begun = Instant::now(rt)?;
-    let (done, device) = at_once(rt, port, seats, packets, device);
-    let elapsed = begun.elapsed(rt)?;
-    if done.is_err() || device.sent() != u64::from(ROUNDS) {
-        return Err(Fault::Refused);
+    match seats.pop() {
+        Some(device) => timed_with(rt, port, seats, packets, device),
+        None => Err(Fault::Refused),
     }
-    Ok(elapsed.as_nanos())
+}
+
+/// The same with the device's seat apart. It owns all seats, and so has one way out.
+fn timed_with<A: Ledger + Send + Sync, S: Ledger + Send + Sync, R: Clock + Threads + Wait + Sync>(
+    rt: &R,
+    port: &LockedPort<A, S>,
+    seats: Vec<PortSeat<A, S>>,
+    packets: &[(u64, Packet)],
+    device: PortSeat<A, S>,
+) -> Result<u128, Fault> {
+    let begun = now(rt);
+    let (done, device) = at_once(rt, port, seats, packets, device);
+    nanoseconds_since(
+        rt,
+        begun,
+        done.is_ok() && device.sent() == u64::from(ROUNDS),
+    )
 }
 
 /// So many packets to one flow, all at the start.

@@ -3,7 +3,7 @@
 ghost use Rattle.std.specs.Prelude.{◌≡◌};
 
 use crate::device::Refused;
-use crate::timing::{Fault, REPETITIONS, SEED, START, packet_to};
+use crate::timing::{Fault, REPETITIONS, SEED, START, nanoseconds_since, now, packet_to};
 use packet_core::{Ecn, Packet, ParamFields, Params};
 use port_core::{LockedPort, PortSeat};
 use std::marker::Brand;
@@ -37,22 +37,29 @@ fn settling<A: Ledger, S: Ledger, R: AllocGlobal + Clock + Wait>(
     requires sent { (sent.name ≡ S.name) × (sent.parts ≡ S.parts) × (S.parts ≡ 64) }
 {
     let params = Params::try_new(ParamFields::standard())?;
-    let (port, mut seats) = LockedPort::<A, S>::start(
-        rt.alloc(),
-        params,
-        SEED,
-        SEATS,
-        accepted,
-        sent,
-    )?;
-    use_in_turn(rt, &port, &mut seats)?;
-    let begun = Instant::now(rt)?;
+    let (port, seats) = LockedPort::<A, S>::start(rt.alloc(), params, SEED, SEATS, accepted, sent)?;
+    settled_in(rt, port, seats)
+}
+
+/// The time in which a port with these seats was settled. It owns both, and so has one way out.
+fn settled_in<A: Ledger, S: Ledger, R: Clock + Wait>(
+    rt: &R,
+    port: LockedPort<A, S>,
+    mut seats: Vec<PortSeat<A, S>>,
+) -> Result<u128, Fault> {
+    let begun = begun_behind_use(rt, &port, &mut seats);
     let settled = port.settle(seats);
-    let elapsed = begun.elapsed(rt)?;
-    if settled.is_err() {
-        return Err(Fault::Refused);
-    }
-    Ok(elapsed.as_nanos())
+    nanoseconds_since(rt, begun, settled.is_ok())
+}
+
+/// The moment at which the seats have been used.
+fn begun_behind_use<A: Ledger, S: Ledger, R: Clock + Wait>(
+    rt: &R,
+    port: &LockedPort<A, S>,
+    seats: &mut Vec<PortSeat<A, S>>,
+) -> Result<Instant, Fault> {
+    use_in_turn(rt, port, seats)?;
+    now(rt)
 }
 
 /// The seats send the packets in turn, and each takes one behind its own.

@@ -211,17 +211,12 @@ fn nanoseconds_locked<A: Ledger, S: Ledger, R: AllocGlobal + Clock + Wait + Clon
     requires sent { (sent.name ≡ S.name) × (sent.parts ≡ S.parts) × (S.parts ≡ 1) }
 {
     let params = params_of(workload)?;
-    let (port, mut seats) = LockedPort::<A, S>::start(rt.alloc(), params, SEED, 1, accepted, sent)?;
-    let seat = seats.pop().ok_or(Fault::Refused)?;
-    nanoseconds_of(
-        rt,
-        workload,
-        &mut OnPort {
-            rt: rt.clone()?,
-            port,
-            seat,
-        },
-    )
+    let own = rt.clone()?;
+    let (port, seats) = LockedPort::<A, S>::start(rt.alloc(), params, SEED, 1, accepted, sent)?;
+    match OnPort::new(own, port, seats) {
+        Some(mut device) => nanoseconds_of(rt, workload, &mut device),
+        None => Err(Fault::Refused),
+    }
 }
 
 /// The same through a device that has made no step. What makes the packets and fills the queues before isn't counted.
@@ -240,9 +235,28 @@ fn nanoseconds_of<R: AllocGlobal + Clock, D: Device>(
             u64::from(workload.limit).saturating_sub(waiting),
         )?;
     }
-    let begun = Instant::now(rt)?;
-    rounds(device, &mut traffic, workload)?;
-    Ok(begun.elapsed(rt)?.as_nanos())
+    let begun = now(rt);
+    let made = rounds(device, &mut traffic, workload);
+    nanoseconds_since(rt, begun, made.is_ok())
+}
+
+/// The moment, by the clock.
+pub fn now<R: Clock>(rt: &R) -> Result<Instant, Fault> {
+    Ok(Instant::now(rt)?)
+}
+
+/// The time since then in nanoseconds, where what was timed was done. Whoever owns a scheduler, an engine or a port
+/// calls it last, with what may fail: each way out of a function drops all that it owns, and the proof of it is as long.
+pub fn nanoseconds_since<R: Clock>(
+    rt: &R,
+    begun: Result<Instant, Fault>,
+    is_done: bool,
+) -> Result<u128, Fault> {
+    let elapsed = begun?.elapsed(rt)?;
+    if !is_done {
+        return Err(Fault::Refused);
+    }
+    Ok(elapsed.as_nanos())
 }
 
 /// The workload's parameters, and otherwise the standard ones.

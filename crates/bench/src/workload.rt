@@ -130,8 +130,8 @@ const CODEL: Workload = Workload {
     ..FEW
 };
 
-/// All workloads.
-pub const WORKLOADS: [Workload; 17] = [
+/// All workloads. It is a static, since a constant is written out wherever it is named.
+pub static WORKLOADS: [Workload; 17] = [
     ONE,
     FEW,
     MANY,

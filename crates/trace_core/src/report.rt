@@ -44,10 +44,18 @@ impl Rows {
             ≡ (written ++ Report.line_of (Report.totals_row (statistics sched.now.standing.events)))
             ++ flat_map Report.tuple_line (tuple_rows sched.now.standing.events)) }
     {
-        self.totals(&sched.totals())?;
-        let tuple_rows = sched.tuple_rows()?;
-        self.tuples(&tuple_rows)?;
+        self.statistics(sched)?;
         self.into_text()
+    }
+
+    /// The row of a scheduler's totals, and a row for each of its five-tuples.
+    fn statistics(&mut self, sched: &Sched) -> Result<(), Memory>
+        ensures { OnOk result ((written : List ℕ) → Report.HasText self.old written → Report.HasText self.new
+            ((written ++ Report.line_of (Report.totals_row (statistics sched.now.standing.events)))
+            ++ flat_map Report.tuple_line (tuple_rows sched.now.standing.events))) }
+    {
+        self.totals(&sched.totals())?;
+        self.tuples(&sched.tuple_rows()?)
     }
 
     /// The text of an engine's journal: the rows so far, of which there are none, a row for each event, the row of the
@@ -60,12 +68,20 @@ impl Rows {
         requires { Report.HasText self [] }
         ensures { IfOk result (λ text. text.items ≡ Report.journal_text engine.now.sched.standing.events senders.now) }
     {
+        self.journal_rows(engine, senders)?;
+        self.into_text()
+    }
+
+    /// The rows of an engine's journal, where there are none yet.
+    fn journal_rows(&mut self, engine: &Engine, senders: &[SenderRow]) -> Result<(), Memory>
+        requires { Report.HasText self.old [] }
+        ensures { OnOk result (Report.HasText self.new
+            (Report.journal_text engine.now.sched.standing.events senders.now)) }
+    {
         self.events(engine.events())?;
         self.totals(&engine.totals())?;
-        let tuple_rows = engine.tuple_rows()?;
-        self.tuples(&tuple_rows)?;
-        self.senders(senders)?;
-        self.into_text()
+        self.tuples(&engine.tuple_rows()?)?;
+        self.senders(senders)
     }
 
     /// The text of all rows.
