@@ -13,6 +13,7 @@ use std::process::Abort;
 use std::test::Fail;
 
 /// One lane with room for so many packets.
+#[tactic(auto, using(crate::proofs::LaneEndLemmas::end_of_one))]
 fn one_lane(alloc: Global, capacity: u32) -> Result<(LaneSender, Device), Fail>
     requires { (0 < capacity) × (capacity ≤ MAX_CAPACITY) }
     ensures { IfOk result (λ o. slice_get (rings_of o.1.lanes) 0 ≡ Some o.0.ring) }
