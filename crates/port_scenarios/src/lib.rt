@@ -1,10 +1,13 @@
 //! Tests of locked ports: by one thread, what each call answers and what a settling gives; by several, that senders run
-//! at once. What is expected was worked out by hand from the rules.
+//! at once. And of lanes: what goes through them, when they are full, and what a device refuses. What is expected was
+//! worked out by hand from the rules.
 #![tactic(auto)]
 
 #[cfg(test)]
 mod alone;
 #[cfg(test)]
 mod fixtures;
+#[cfg(test)]
+mod lanes;
 #[cfg(test)]
 mod together;

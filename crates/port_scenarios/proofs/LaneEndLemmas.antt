@@ -1,0 +1,10 @@
+-- The two ends of one lane.
+use Rattle.std.proofs.Common.{◌≡◌, List, [], ◌∷◌, ◌++◌, ap, arith, length, length-append, sym, Some, slice_get}
+use Rattle.port_core.specs.Devices.{AreNewLanes, rings_of}
+use Rattle.port_core.specs.Lanes.{LaneView, Sending}
+
+-- where one lane was made, the device's end is that of its sender
+pub end_of_one : (rest : List Sending) (s : Sending) (ls : List LaneView) → AreNewLanes (rest ++ s ∷ []) ls 1 → slice_get (rings_of ls) 0 ≡ Some s.ring
+end_of_one rest s [] all = absurd (omega (arith, all.lanes_number))
+end_of_one [] s (l ∷ ls) all = ap (λ r. Some r) (sym (all.each 0 s l (omega arith)).ring)
+end_of_one (x ∷ rest) s (l ∷ ls) all = absurd (omega (arith, all.senders_number, length-append rest (s ∷ [])))
