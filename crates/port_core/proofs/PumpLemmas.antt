@@ -51,6 +51,7 @@ pumps_none h lane now = record {
   others = λ i d apart. refl;
   params = refl;
   seed = refl;
+  turns = refl;
 }
 
 pub pumps_more : (old mid new : Holding) (lane now k : ℕ) → Pumps old lane now k mid → Takes mid lane now new → Pumps old lane now (k + 1) new
@@ -70,6 +71,7 @@ pumps_more old mid new lane now k p t = record {
   others = λ i d apart. t.others i d apart ∙ p.others i d apart;
   params = t.made.params ∙ p.params;
   seed = t.made.seed ∙ p.seed;
+  turns = t.made.turns ∙ p.turns;
 }
 
 -- one packet fewer may be accepted behind one

@@ -60,6 +60,7 @@ pub record Pumps (old : Holding) (lane now k : ℕ) (new : Holding) : Type 0 whe
   pub others : (i : ℕ) (d : LaneView) → i ≢ lane → slice_index_or new.lanes i d ≡ slice_index_or old.lanes i d
   pub params : new.engine.sched.params ≡ old.engine.sched.params
   pub seed : new.engine.sched.seed ≡ old.engine.sched.seed
+  pub turns : new.engine.sched.turns ≡ old.engine.sched.turns
 
 -- Of a settled lane a pump takes what is left, but no more than its burst.
 abbrev pub TakesAllLeft : Holding → ℕ → ℕ → ℕ → Type 0
@@ -72,6 +73,8 @@ pub record AreNewEnds (s : Sending) (l : LaneView) (lane : ℕ) : Type 0 where
   pub ring : s.ring ≡ l.ring
   pub submitted : s.submitted ≡ []
   pub received : l.received ≡ []
+  pub known : l.known ≡ []
+  pub settled : l.settled ≡ false
 
 -- The senders and the device's ends of so many lanes that were just made, in the order of their numbers.
 pub record AreNewLanes (senders : List Sending) (lanes : List LaneView) (number : ℕ) : Type 0 where

@@ -123,6 +123,7 @@ pub struct LaneDone {
 pub fn send_lane<G: Gate>(sender: LaneSender, packets: &[Packet], gate: &G) -> LaneDone
     ensures submitted { result.submitted ≤ length packets.now }
     ensures done { result.stop ≡ stop.Done → result.submitted ≡ length packets.now }
+    ensures all { result.submitted ≡ length packets.now → result.stop ≡ stop.Done }
     ensures stop { (result.stop ≡ stop.Done) ⊎ (result.stop ≡ stop.Stalled) ⊎ (result.stop ≡ stop.Full) }
     ensures end { IfSome result.end (λ end. end ≡ record sender {
       submitted = sender.submitted ++ take result.submitted packets.now;
