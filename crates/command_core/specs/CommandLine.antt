@@ -33,23 +33,29 @@ parameter_argument = record (new_rule (codes "PARAM")) { action = Some Append }
 abbrev pub trace_line : App
 trace_line = with_rule (with_rule (new_app (codes "trace")) seed_option) parameter_argument
 
--- a subcommand that runs a trace by senders, `[--seed HEX32] [--senders N] [PARAM]...`
-abbrev pub senders_line : App → App
-senders_line named = with_rule (with_rule (with_rule named seed_option) senders_option) parameter_argument
+-- `NAME [--seed HEX32] [--senders N] [PARAM]...`, of a subcommand with senders
+abbrev pub senders_line : Text → App
+senders_line name = with_rule (with_rule (with_rule (new_app name) seed_option) senders_option) parameter_argument
 
 -- `locked [--seed HEX32] [--senders N] [PARAM]...`
 abbrev pub locked_line : App
-locked_line = senders_line (new_app (codes "locked"))
+locked_line = senders_line (codes "locked")
 
--- the words behind the program's name, of which the first has to be a subcommand
-abbrev pub top_line : App
-top_line =
-    on_top (λ top. record top { no_binary_name = true; subcommand_required = true; arg_required_else_help = true })
-    (new_app (codes "fqsim"))
+-- `lanes [--seed HEX32] [--senders N] [PARAM]...`
+abbrev pub lanes_line : App
+lanes_line = senders_line (codes "lanes")
 
--- the same with the two subcommands
+-- the words behind the program's name: one of three subcommands, which has to be there
 abbrev pub program_line : App
-program_line = with_subcommand (with_subcommand top_line trace_line.top) locked_line.top
+program_line =
+    with_subcommand
+    (with_subcommand
+    (with_subcommand
+    (on_top (λ top. record top { no_binary_name = true; subcommand_required = true; arg_required_else_help = true })
+    (new_app (codes "fqsim")))
+    trace_line.top)
+    locked_line.top)
+    lanes_line.top
 
 -- what stands behind a subcommand, by its matches and by the words
 abbrev pub rows_of_entered : Option (Text × List Row) → List Row
@@ -94,13 +100,18 @@ pub record IsSenderCount (text : Option Text) (senders : ℕ) : Type 0 where
 abbrev pub AsksForRun : List Text → Type 0
 AsksForRun words = fault_of program_line words ≡ []
 
--- they are those of a run by senders that are threads
+-- they are those of a run by senders that share the scheduler
 abbrev pub AsksForLocked : List Text → Type 0
 AsksForLocked words = AsksForRun words × (run_name words ≡ Some (codes "locked"))
 
+-- they are those of a run by senders with a lane each
+abbrev pub AsksForLanes : List Text → Type 0
+AsksForLanes words = AsksForRun words × (run_name words ≡ Some (codes "lanes"))
+
 -- they are those of a run of the trace alone
 abbrev pub AsksForTrace : List Text → Type 0
-AsksForTrace words = AsksForRun words × (run_name words ≢ Some (codes "locked"))
+AsksForTrace words =
+    AsksForRun words × (run_name words ≢ Some (codes "locked")) × (run_name words ≢ Some (codes "lanes"))
 
 -- the words ask for help
 abbrev pub AsksForHelp : List Text → Type 0

@@ -1,8 +1,8 @@
 //! The words behind the program's name, read by `clap`.
 ghost use Rattle.std.specs.Prelude.{◌≡◌, ◌≢◌, [], IfErr, IfOk, Some, codes, false, map, option_map, true, unwrap_or};
-ghost use Rattle.clap.specs.Words.{all_of, app_of, first_of, found_of, kind_of, new_app, one_of, rows_of, rule_of, subcommand_name_of};
+ghost use Rattle.clap.specs.Words.{all_of, app_of, first_of, found_of, kind_of, one_of, rows_of, rule_of, subcommand_name_of};
 ghost use Rattle.clap.specs.declared.builder.command.Command.TheViews.{out-Command as fields_of};
-ghost use Rattle.command_core.specs.CommandLine.{AsksForHelp, AsksForLocked, AsksForTrace, IsMistake, IsRunRequest, IsSenderCount, locked_line, parameter_argument, parameter_words, program_line, rows_behind, seed_option, seed_text, senders_line, senders_option, senders_text, top_line, trace_line};
+ghost use Rattle.command_core.specs.CommandLine.{AsksForHelp, AsksForLanes, AsksForLocked, AsksForTrace, IsMistake, IsRunRequest, IsSenderCount, parameter_argument, parameter_words, program_line, rows_behind, seed_option, seed_text, senders_line, senders_option, senders_text, trace_line};
 
 use crate::manual;
 use clap::error::ErrorKind;
@@ -26,7 +26,7 @@ pub struct RunRequest<'a> {
 
 /// The run of a trace by senders, as it was asked for.
 #[derive(Debug, Drop)]
-pub struct LockedRequest<'a> {
+pub struct SendersRequest<'a> {
     /// The run.
     pub run: RunRequest<'a>,
     /// How many senders there are, 1 to 64.
@@ -38,8 +38,10 @@ pub struct LockedRequest<'a> {
 pub enum Request<'a> {
     /// The run of a trace.
     Trace(RunRequest<'a>),
-    /// The run of a trace by senders that are threads.
-    Locked(LockedRequest<'a>),
+    /// The run of a trace by senders that are threads and share the scheduler.
+    Locked(SendersRequest<'a>),
+    /// The run of a trace by senders that are threads with a lane each.
+    Lanes(SendersRequest<'a>),
     /// Help, with its text.
     Help(String),
 }
@@ -79,6 +81,14 @@ pub fn parse<'a>(alloc: Global, words: &'a [&'a str]) -> Result<Request<'a>, Com
         → map (λ w. w.now) locked.run.parameters.items ≡ parameter_words (map (λ w. w.now) words.entry.now)) }
     ensures senders { IfOk result (λ r. (locked : _) → r ≡ Request.Locked locked
         → IsSenderCount (senders_text (map (λ w. w.now) words.entry.now)) locked.senders) }
+    ensures lanes { IfOk result (λ r. (lanes : _) → r ≡ Request.Lanes lanes
+        → AsksForLanes (map (λ w. w.now) words.entry.now)) }
+    ensures lanes_seed { IfOk result (λ r. (lanes : _) → r ≡ Request.Lanes lanes
+        → option_map (λ s. s.now) lanes.run.seed ≡ seed_text (map (λ w. w.now) words.entry.now)) }
+    ensures lanes_parameters { IfOk result (λ r. (lanes : _) → r ≡ Request.Lanes lanes
+        → map (λ w. w.now) lanes.run.parameters.items ≡ parameter_words (map (λ w. w.now) words.entry.now)) }
+    ensures lanes_senders { IfOk result (λ r. (lanes : _) → r ≡ Request.Lanes lanes
+        → IsSenderCount (senders_text (map (λ w. w.now) words.entry.now)) lanes.senders) }
     ensures help { IfOk result (λ r. (text : _) → r ≡ Request.Help text
         → AsksForHelp (map (λ w. w.now) words.entry.now)) }
     ensures mistake { IfErr result (λ fault. (text : _) → fault ≡ CommandFault.Mistake text
@@ -95,39 +105,42 @@ pub fn parse<'a>(alloc: Global, words: &'a [&'a str]) -> Result<Request<'a>, Com
 fn without_matches<'a>(alloc: Global, error: Error) -> Result<Request<'a>, CommandFault>
     ensures trace { IfOk result (λ r. (trace : _) → r ≡ Request.Trace trace → ⊥) }
     ensures locked { IfOk result (λ r. (locked : _) → r ≡ Request.Locked locked → ⊥) }
+    ensures lanes { IfOk result (λ r. (lanes : _) → r ≡ Request.Lanes lanes → ⊥) }
     ensures help { IfOk result (λ r. (text : _) → r ≡ Request.Help text
         → kind_of error ≡ ErrorKind.DisplayHelp) }
     ensures mistake { IfErr result (λ fault. (text : _) → fault ≡ CommandFault.Mistake text
         → (kind_of error ≢ ErrorKind.DisplayHelp) × (kind_of error ≢ ErrorKind.OutOfMemory)) }
 {
-    let kind = error.kind();
-    if kind == ErrorKind::OutOfMemory {
-        return Err(CommandFault::Memory);
-    }
-    let text = format!(in alloc; "{error}")?;
-    match kind {
-        ErrorKind::DisplayHelp => Ok(Request::Help(text)),
-        _ => Err(CommandFault::Mistake(text)),
+    match error.kind() {
+        ErrorKind::OutOfMemory => Err(CommandFault::Memory),
+        ErrorKind::DisplayHelp => Ok(Request::Help(format!(in alloc; "{error}")?)),
+        _ => Err(CommandFault::Mistake(format!(in alloc; "{error}")?)),
     }
 }
 
 /// What the matches ask for.
 fn request_of<'a>(alloc: Global, matches: &ArgMatches<'a>) -> Result<Request<'a>, AllocError>
     ensures trace { IfOk result (λ r. (trace : _) → r ≡ Request.Trace trace
-        → (subcommand_name_of matches.now ≢ Some (codes "locked")) × IsRunRequest (rows_behind matches.now) trace) }
+        → (subcommand_name_of matches.now ≢ Some (codes "locked"))
+        × (subcommand_name_of matches.now ≢ Some (codes "lanes")) × IsRunRequest (rows_behind matches.now) trace) }
     ensures locked { IfOk result (λ r. (locked : _) → r ≡ Request.Locked locked
         → (subcommand_name_of matches.now ≡ Some (codes "locked")) × IsRunRequest (rows_behind matches.now) locked.run
         × IsSenderCount (one_of (codes "senders") (rows_behind matches.now)) locked.senders) }
+    ensures lanes { IfOk result (λ r. (lanes : _) → r ≡ Request.Lanes lanes
+        → (subcommand_name_of matches.now ≡ Some (codes "lanes")) × IsRunRequest (rows_behind matches.now) lanes.run
+        × IsSenderCount (one_of (codes "senders") (rows_behind matches.now)) lanes.senders) }
     ensures help { IfOk result (λ r. (text : _) → r ≡ Request.Help text → ⊥) }
 {
     let run = run_request(alloc, matches)?;
-    match matches.subcommand_matches("locked") {
-        Some(found) => Ok(Request::Locked(LockedRequest {
-            run,
-            senders: sender_count(found),
-        })),
-        None => Ok(Request::Trace(run)),
+    if let Some(found) = matches.subcommand_matches("locked") {
+        let senders = sender_count(found);
+        return Ok(Request::Locked(SendersRequest { run, senders }));
     }
+    if let Some(found) = matches.subcommand_matches("lanes") {
+        let senders = sender_count(found);
+        return Ok(Request::Lanes(SendersRequest { run, senders }));
+    }
+    Ok(Request::Trace(run))
 }
 
 /// The run that the matches ask for, whichever subcommand it is.
@@ -165,27 +178,37 @@ fn sender_count(matches: &ArgMatches<'_>) -> u32
     }
 }
 
-/// The command line: one subcommand, which has to be there.
+/// The command line: one of the subcommands, which has to be there.
 fn program_command<'a>(alloc: Global) -> Result<Command<'a>, AllocError>
     ensures { IfOk result (λ r. app_of r ≡ program_line) }
 {
-    let command = top_command(alloc)?;
-    let command = command.subcommand(trace_command(alloc)?)?;
-    command.subcommand(locked_command(alloc)?)
-}
-
-/// The command line without its subcommands.
-fn top_command<'a>(alloc: Global) -> Result<Command<'a>, AllocError>
-    ensures { IfOk result (λ r. app_of r ≡ top_line) }
-{
-    let command = Command::new(alloc, "fqsim")
+    let trace = trace_command(alloc)?;
+    let locked = senders_command(
+        alloc,
+        "locked",
+        manual::LOCKED_SUMMARY,
+        manual::LOCKED_DESCRIPTION,
+        manual::LOCKED_NOTES,
+    )?;
+    let lanes = senders_command(
+        alloc,
+        "lanes",
+        manual::LANES_SUMMARY,
+        manual::LANES_DESCRIPTION,
+        manual::LANES_NOTES,
+    )?;
+    let named = Command::new(alloc, "fqsim").bin_name("fqsim")?;
+    let command = named
         .no_binary_name(true)
         .subcommand_required(true)
         .arg_required_else_help(true)
         .about(manual::PROGRAM_SUMMARY)
         .long_about(manual::PROGRAM_DESCRIPTION)
         .after_help(manual::PROGRAM_NOTES);
-    command.bin_name("fqsim")
+    command
+        .subcommand(trace)?
+        .subcommand(locked)?
+        .subcommand(lanes)
 }
 
 /// `--seed HEX32`
@@ -224,61 +247,36 @@ fn parameter_argument<'a>(alloc: Global) -> Arg<'a>
         .long_help(manual::PARAMETERS_DESCRIPTION)
 }
 
-/// A subcommand of that name without arguments: what it does, in a line and at length, and what stands below its help.
-fn subcommand<'a>(
-    alloc: Global,
-    name: &'a str,
-    summary: &'a str,
-    description: &'a str,
-    notes: &'a str,
-) -> Command<'a>
-    ensures line { app_of result ≡ new_app name.entry.now }
-    ensures local { (fields_of result).has_globals ≡ false }
-{
-    Command::new(alloc, name)
-        .about(summary)
-        .long_about(description)
-        .after_long_help(notes)
-}
-
 /// The subcommand that runs a trace.
 fn trace_command<'a>(alloc: Global) -> Result<Command<'a>, AllocError>
     ensures line { IfOk result (λ r. app_of r ≡ trace_line) }
     ensures local { IfOk result (λ r. (fields_of r).has_globals ≡ false) }
 {
-    let command = subcommand(
-        alloc,
-        "trace",
-        manual::TRACE_SUMMARY,
-        manual::TRACE_DESCRIPTION,
-        manual::TRACE_NOTES,
-    );
+    let command = Command::new(alloc, "trace")
+        .about(manual::TRACE_SUMMARY)
+        .long_about(manual::TRACE_DESCRIPTION)
+        .after_long_help(manual::TRACE_NOTES);
     command
         .arg(seed_argument(alloc))?
         .arg(parameter_argument(alloc))
 }
 
-/// The subcommand that runs a trace by senders that are threads.
-fn locked_command<'a>(alloc: Global) -> Result<Command<'a>, AllocError>
-    ensures line { IfOk result (λ r. app_of r ≡ locked_line) }
+/// A subcommand that runs a trace by senders that are threads: its name, what it does, in a line and at length, and
+/// what stands below its help.
+fn senders_command<'a>(
+    alloc: Global,
+    name: &'a str,
+    summary: &'a str,
+    description: &'a str,
+    notes: &'a str,
+) -> Result<Command<'a>, AllocError>
+    ensures line { IfOk result (λ r. app_of r ≡ senders_line name.entry.now) }
     ensures local { IfOk result (λ r. (fields_of r).has_globals ≡ false) }
 {
-    let command = subcommand(
-        alloc,
-        "locked",
-        manual::LOCKED_SUMMARY,
-        manual::LOCKED_DESCRIPTION,
-        manual::LOCKED_NOTES,
-    );
-    by_senders(alloc, command)
-}
-
-/// A subcommand with the arguments of a run by senders.
-fn by_senders<'a>(alloc: Global, command: Command<'a>) -> Result<Command<'a>, AllocError>
-    requires { (fields_of command).has_globals ≡ false }
-    ensures line { IfOk result (λ r. app_of r ≡ senders_line (app_of command.entry)) }
-    ensures local { IfOk result (λ r. (fields_of r).has_globals ≡ false) }
-{
+    let command = Command::new(alloc, name)
+        .about(summary)
+        .long_about(description)
+        .after_long_help(notes);
     command
         .arg(seed_argument(alloc))?
         .arg(senders_argument(alloc))?

@@ -12,8 +12,10 @@ time of its own, and the same trace always gives the same report.";
 
 /// What stands below the program's help.
 pub const PROGRAM_NOTES: &str = "\
-'fqsim trace --help' describes the parameters, the trace and the report, and
-'fqsim locked --help' the run by several threads and its journal.
+'fqsim trace --help' describes the parameters, the trace and the report,
+'fqsim locked --help' the run by several threads that share the scheduler, and
+its journal, and 'fqsim lanes --help' the run by several threads that send to
+the one that owns the scheduler.
 
 Exit status:
   0  the report or the help was written
@@ -31,10 +33,10 @@ Read a trace from standard input, make its steps with a new scheduler, and write
 the report to standard output. The whole trace is read, and the whole run made,
 before the first byte of the report is written.";
 
-/// What the subcommand with senders does, in a line.
+/// What the subcommand with senders that share the scheduler does, in a line.
 pub const LOCKED_SUMMARY: &str = "Read a trace, run it by senders in threads, write the journal";
 
-/// What the subcommand with senders does.
+/// What the subcommand with senders that share the scheduler does.
 pub const LOCKED_DESCRIPTION: &str = "\
 Read a trace from standard input, make its steps with a new scheduler behind a
 lock, and write the journal to standard output. Each packet that comes in is
@@ -86,6 +88,52 @@ and the ACCEPTED of all senders are that of the totals.
 Exit status: as of 'fqsim trace', and 1 with 'fqsim: settle' on standard error
 where the journal isn't what the senders were told, which would be a fault of
 the program.";
+
+/// What the subcommand with lanes does, in a line.
+pub const LANES_SUMMARY: &str =
+    "Read a trace, run it by senders with a lane each, write the journal";
+
+/// What the subcommand with lanes does.
+pub const LANES_DESCRIPTION: &str = "\
+Read a trace from standard input, make its steps with a new scheduler that the
+device alone uses, and write the journal to standard output. Each packet that
+comes in is submitted by one of N senders, each a thread of its own with a lane
+to the device; the device is the main thread, which takes packets from the
+lanes, asks for packets and closes meanwhile. No sender waits for a lock. The
+whole trace is read, and the whole run made, before the first byte of the
+journal is written.";
+
+/// How senders and the device share a trace, and what differs in the journal.
+pub const LANES_NOTES: &str = "\
+Parameters, seed and trace are those of 'fqsim trace --help', and the journal is
+that of 'fqsim locked --help'.
+
+Sender I submits the packets of its flows to lane I, in the order of the trace.
+The moments of 'enq' rows aren't used. The device makes the 'deq' and 'close'
+rows in their order, while the senders run. Its moment starts at 0, and grows to
+that of each of these rows where that is greater. At a 'deq' row the device
+first pumps each lane, by rising number: at most 64 of its packets are accepted,
+at the device's moment. Then it asks for a packet. Behind the close no lane is
+pumped.
+
+Behind the last row the device waits until all senders are done, and pumps each
+lane, by rising number, until it is empty. Then the scheduler is closed where no
+row closed it, and packets are taken at the last moment until none waits.
+
+Of a row 'sender', SUBMITTED counts the packets that the sender submitted,
+ACCEPTED those of its lane that were accepted, and LEFT those that stand in the
+lane at the end, behind the close.
+
+How many packets stand in a lane when it is pumped is up to the machine, so two
+runs of one trace may write different journals: in which packets of a lane are
+accepted at which 'deq' row, and so in what is dropped, marked or left behind
+the close. Always the packets of one sender are accepted in their order, each
+once, SUBMITTED is ACCEPTED and LEFT together, each packet that was accepted is
+sent or dropped, and the ACCEPTED of all senders are that of the totals.
+
+Exit status: as of 'fqsim trace', and 1 with 'fqsim: lane LANE' on standard
+error where the sender of that lane has no end, or stopped before its last
+packet, which would be a fault of the program.";
 
 /// What the seed is, in a line.
 pub const SEED_SUMMARY: &str = "Seed of the flow hash [default: 32 zeros]";

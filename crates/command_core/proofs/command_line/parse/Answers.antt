@@ -37,17 +37,17 @@ pub returns-in_ok-request_of-in-Ok-clause-trace : goal.returns-in_ok-request_of-
 returns-in_ok-request_of-in-Ok-clause-trace c trace same =
     let at = (goal.at.returns-in_ok-request_of-in-Ok-clause-trace c).In-Ok in
     let asked = c.in_ok-request_of-in-Ok.ensures.trace trace same in
-    (no_fault at, λ is. asked.0 (name_read at ∙ is))
+    (no_fault at, λ is. asked.0 (name_read at ∙ is), λ is. asked.1 (name_read at ∙ is))
 
 pub returns-in_ok-request_of-in-Ok-clause-seed : goal.returns-in_ok-request_of-in-Ok-clause-seed
 returns-in_ok-request_of-in-Ok-clause-seed c trace same =
     let rows = rows_read (goal.at.returns-in_ok-request_of-in-Ok-clause-seed c).In-Ok in
-    (c.in_ok-request_of-in-Ok.ensures.trace trace same).1.seed ∙ ap (first_of (codes "seed")) rows
+    (c.in_ok-request_of-in-Ok.ensures.trace trace same).2.seed ∙ ap (first_of (codes "seed")) rows
 
 pub returns-in_ok-request_of-in-Ok-clause-parameters : goal.returns-in_ok-request_of-in-Ok-clause-parameters
 returns-in_ok-request_of-in-Ok-clause-parameters c trace same =
     let rows = rows_read (goal.at.returns-in_ok-request_of-in-Ok-clause-parameters c).In-Ok in
-    (c.in_ok-request_of-in-Ok.ensures.trace trace same).1.parameters ∙ ap (λ found. unwrap_or (all_of (codes "PARAM") found) []) rows
+    (c.in_ok-request_of-in-Ok.ensures.trace trace same).2.parameters ∙ ap (λ found. unwrap_or (all_of (codes "PARAM") found) []) rows
 
 pub returns-in_ok-request_of-in-Ok-clause-locked : goal.returns-in_ok-request_of-in-Ok-clause-locked
 returns-in_ok-request_of-in-Ok-clause-locked c locked same =
@@ -69,6 +69,27 @@ pub returns-in_ok-request_of-in-Ok-clause-senders : goal.returns-in_ok-request_o
 returns-in_ok-request_of-in-Ok-clause-senders c locked same =
     let rows = rows_read (goal.at.returns-in_ok-request_of-in-Ok-clause-senders c).In-Ok in
     subst (λ (r : List Row). IsSenderCount (one_of (codes "senders") r) locked.senders) rows (c.in_ok-request_of-in-Ok.ensures.locked locked same).2
+
+pub returns-in_ok-request_of-in-Ok-clause-lanes : goal.returns-in_ok-request_of-in-Ok-clause-lanes
+returns-in_ok-request_of-in-Ok-clause-lanes c lanes same =
+    let at = (goal.at.returns-in_ok-request_of-in-Ok-clause-lanes c).In-Ok in
+    let asked = c.in_ok-request_of-in-Ok.ensures.lanes lanes same in
+    (no_fault at, sym (name_read at) ∙ asked.0)
+
+pub returns-in_ok-request_of-in-Ok-clause-lanes_seed : goal.returns-in_ok-request_of-in-Ok-clause-lanes_seed
+returns-in_ok-request_of-in-Ok-clause-lanes_seed c lanes same =
+    let rows = rows_read (goal.at.returns-in_ok-request_of-in-Ok-clause-lanes_seed c).In-Ok in
+    (c.in_ok-request_of-in-Ok.ensures.lanes lanes same).1.seed ∙ ap (first_of (codes "seed")) rows
+
+pub returns-in_ok-request_of-in-Ok-clause-lanes_parameters : goal.returns-in_ok-request_of-in-Ok-clause-lanes_parameters
+returns-in_ok-request_of-in-Ok-clause-lanes_parameters c lanes same =
+    let rows = rows_read (goal.at.returns-in_ok-request_of-in-Ok-clause-lanes_parameters c).In-Ok in
+    (c.in_ok-request_of-in-Ok.ensures.lanes lanes same).1.parameters ∙ ap (λ found. unwrap_or (all_of (codes "PARAM") found) []) rows
+
+pub returns-in_ok-request_of-in-Ok-clause-lanes_senders : goal.returns-in_ok-request_of-in-Ok-clause-lanes_senders
+returns-in_ok-request_of-in-Ok-clause-lanes_senders c lanes same =
+    let rows = rows_read (goal.at.returns-in_ok-request_of-in-Ok-clause-lanes_senders c).In-Ok in
+    subst (λ (r : List Row). IsSenderCount (one_of (codes "senders") r) lanes.senders) rows (c.in_ok-request_of-in-Ok.ensures.lanes lanes same).2
 
 pub returns-in-Err-clause-help : goal.returns-in-Err-clause-help
 returns-in-Err-clause-help c =
