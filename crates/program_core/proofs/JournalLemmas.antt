@@ -82,7 +82,7 @@ row_of_done sender calls why old new list events fresh done whole told =
     }
 
 -- a member of a list that has one at that place
-member : {X : Type 0} (xs : List X) (i : ℕ) → i < length xs → X
+pub member : {X : Type 0} (xs : List X) (i : ℕ) → i < length xs → X
 member [] i less = absurd (omega (arith, less))
 member (x ∷ xs) i less = x
 
@@ -177,8 +177,8 @@ calls_push p seed n steps k moment lane packet lists sender old new within stand
         ∙ sym (calls_next p seed n i steps k step within stands ∙ ap (λ l. calls_of p seed n i (take k steps) ++ l) none ∙ append-nil (calls_of p seed n i (take k steps)))
 
 -- what the jobs did, by their seats and lists
-pub done_by_lists : {J D S V : Type 0} (seat : J → S) (packets : J → List (ℕ × PacketParts)) (items : V → List (ℕ × PacketParts))
-    (Did : S → List (ℕ × PacketParts) → D → Type 0) (jobs : List J) (seats : List S) (lists : List V) (done : List D)
+pub done_by_lists : {J D S V P : Type 0} (seat : J → S) (packets : J → List P) (items : V → List P)
+    (Did : S → List P → D → Type 0) (jobs : List J) (seats : List S) (lists : List V) (done : List D)
     → map seat jobs ≡ seats → map packets jobs ≡ map items lists
     → ((i : ℕ) (d : D) (j : J) → i < length jobs → Did (seat (slice_index_or jobs i j)) (packets (slice_index_or jobs i j)) (slice_index_or done i d))
     → (i : ℕ) (d : D) (s : S) (l : V) → i < length seats → Did (slice_index_or seats i s) (items (slice_index_or lists i l)) (slice_index_or done i d)

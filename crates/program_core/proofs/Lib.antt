@@ -1,2 +1,3 @@
-mod JournalLemmas
-mod RunLemmas
+pub mod JournalLemmas
+pub mod LaneRunLemmas
+pub mod RunLemmas

@@ -1,5 +1,5 @@
 -- What a run by senders comes to, where it wrote a journal and where it failed.
-use Rattle.std.proofs.Common.{◌≡◌, ◌≢◌, ℕ, List, Option, Some, None, Result, Ok, Err, inl, inr, refl, rules, subst}
+use Rattle.std.proofs.Common.{◌≡◌, ◌≢◌, ℕ, List, Option, Some, None, Result, Ok, Err, refl, rules, subst}
 use Rattle.std.specs.Prelude.{IfErr, IfSome, IsErrAnd, OnOk}
 use Rattle.std.specs.Io.KnownBytes.{Appends, Keeps}
 use Rattle.packet_core.specs.Words.{params_of_words}
@@ -12,18 +12,18 @@ use Rattle.row_core.specs.Traces.{trace_of}
 use Rattle.trace_core.specs.declared.journal_report.SenderRow.{SenderRow}
 use Rattle.trace_core.specs.declared.trace_run.RunFault.{RunFault}
 use Rattle.trace_core.specs.declared.trace_run.RunFault.TheVariants as run_fault
-use Rattle.command_core.specs.CommandLine.{AsksForLocked, IsSenderCount, parameter_words, seed_text, senders_text}
-use Rattle.program_core.specs.Faults.{IsLockedFault, run_fault_told}
-use Rattle.program_core.specs.Journals.{AreJournalOf, IsJournalOf}
-use Rattle.program_core.specs.Runs.{Answers, BeginsJournal, IsLockedRunFor}
+use Rattle.command_core.specs.CommandLine.{IsSenderCount, parameter_words, seed_text, senders_text}
+use Rattle.program_core.specs.Faults.{IsLanesFault, IsLockedFault, run_fault_told}
+use Rattle.program_core.specs.Journals.{AreLanesJournal, AreLockedJournal, IsJournalOf, Journals}
+use Rattle.program_core.specs.Runs.{AnswersSenders, BeginsJournal, IsSendersRunFor}
 use Rattle.command_core.specs.Seeds.{seed_given}
 
 -- a journal was made and written so
-pub locked_run : (seed_words : Option (List ℕ)) (words : List (List ℕ)) (n : ℕ) (input : Option (List ℕ)) (Wrote : List ℕ → Type 0)
+pub senders_run : (Are : Journals) (seed_words : Option (List ℕ)) (words : List (List ℕ)) (n : ℕ) (input : Option (List ℕ)) (Wrote : List ℕ → Type 0)
     (seed : Seed) (params : ParamFields) (steps : List Step) (events : List Event) (rows : List SenderRow)
     → seed_given seed_words ≡ Some seed.0 → params_of_words words ≡ Ok params → IfSome input (λ bytes. trace_of bytes ≡ Ok steps)
-    → AreJournalOf params seed n steps events rows → Wrote (journal_text events rows) → IsLockedRunFor seed_words words n input Wrote
-locked_run seed_words words n input Wrote seed params steps events rows seed_read params_read read made wrote = record {
+    → Are params seed n steps events rows → Wrote (journal_text events rows) → IsSendersRunFor Are seed_words words n input Wrote
+senders_run Are seed_words words n input Wrote seed params steps events rows seed_read params_read read made wrote = record {
   seed = seed;
   params = params;
   seed_read = seed_read;
@@ -32,17 +32,27 @@ locked_run seed_words words n input Wrote seed params steps events rows seed_rea
 }
   where
     go : (known : Option (List ℕ)) → IfSome known (λ bytes. trace_of bytes ≡ Ok steps)
-        → IfSome known (λ bytes. (text : List ℕ) × IsJournalOf params seed n bytes text × Wrote text)
+        → IfSome known (λ bytes. (text : List ℕ) × IsJournalOf Are params seed n bytes text × Wrote text)
     go (Some bytes) h = (journal_text events rows, record { steps = steps; events = events; rows = rows; read = h; made = made; told = refl }, wrote)
     go None h = tt
 
 -- a fault of the journal's writing, told as one of the run
 pub locked_fault : (seed_words : Option (List ℕ)) (words : List (List ℕ)) (n : ℕ) (input old new : Option (List ℕ)) (fault : RunFault)
-    → (fault ≡ run_fault.Write → BeginsJournal seed_words words n input old new) → (fault ≢ run_fault.Write → fault ≡ run_fault.Memory)
+    → (fault ≡ run_fault.Write → BeginsJournal AreLockedJournal seed_words words n input old new) → (fault ≢ run_fault.Write → fault ≡ run_fault.Memory)
     → (fault ≢ run_fault.Write → Keeps old new) → IsLockedFault seed_words words n input old new (run_fault_told fault)
 locked_fault seed_words words n input old new run_fault.Write front memory kept = front refl
 locked_fault seed_words words n input old new run_fault.Memory front memory kept = kept (λ is. search (rules, is))
 locked_fault seed_words words n input old new (run_fault.Trace why) front memory kept =
+    let never : run_fault.Trace why ≡ run_fault.Memory = memory (λ is. search (rules, is)) in
+    absurd (search (rules, never))
+
+-- the same of a run through lanes
+pub lanes_fault : (seed_words : Option (List ℕ)) (words : List (List ℕ)) (n : ℕ) (input old new : Option (List ℕ)) (fault : RunFault)
+    → (fault ≡ run_fault.Write → BeginsJournal AreLanesJournal seed_words words n input old new) → (fault ≢ run_fault.Write → fault ≡ run_fault.Memory)
+    → (fault ≢ run_fault.Write → Keeps old new) → IsLanesFault seed_words words n input old new (run_fault_told fault)
+lanes_fault seed_words words n input old new run_fault.Write front memory kept = front refl
+lanes_fault seed_words words n input old new run_fault.Memory front memory kept = kept (λ is. search (rules, is))
+lanes_fault seed_words words n input old new (run_fault.Trace why) front memory kept =
     let never : run_fault.Trace why ≡ run_fault.Memory = memory (λ is. search (rules, is)) in
     absurd (search (rules, never))
 
@@ -52,16 +62,19 @@ err_told (Ok x) e P h told = tt
 err_told (Err f) e P h told = rw h told
 
 -- the answer to words that ask for a run by senders
-pub answers_locked : {X E : Type 0} (words : List (List ℕ)) (input old new : Option (List ℕ)) (r : Result X E) (seed_words : Option (List ℕ))
-    (given : List (List ℕ)) (n : ℕ) → AsksForLocked words → seed_words ≡ seed_text words → given ≡ parameter_words words
-    → IsSenderCount (senders_text words) n → OnOk r (IsLockedRunFor seed_words given n input (λ text. Appends old new text))
-    → OnOk r (Answers words input old new)
-answers_locked words input old new (Ok x) seed_words given n asks seed_is given_is count made =
-    inr (inl (
-      asks,
-      n,
-      count,
-      subst (λ s. IsLockedRunFor s (parameter_words words) n input (λ text. Appends old new text)) seed_is
-          (subst (λ ps. IsLockedRunFor seed_words ps n input (λ text. Appends old new text)) given_is made),
-    ))
-answers_locked words input old new (Err e) seed_words given n asks seed_is given_is count made = tt
+pub answers_senders : {X E : Type 0} (Are : Journals) (words : List (List ℕ)) (input old new : Option (List ℕ)) (r : Result X E) (seed_words : Option (List ℕ))
+    (given : List (List ℕ)) (n : ℕ) → seed_words ≡ seed_text words → given ≡ parameter_words words
+    → IsSenderCount (senders_text words) n → OnOk r (IsSendersRunFor Are seed_words given n input (λ text. Appends old new text))
+    → OnOk r (AnswersSenders Are words input old new)
+answers_senders Are words input old new (Ok x) seed_words given n seed_is given_is count made = (
+  n,
+  count,
+  subst (λ s. IsSendersRunFor Are s (parameter_words words) n input (λ text. Appends old new text)) seed_is
+      (subst (λ ps. IsSendersRunFor Are seed_words ps n input (λ text. Appends old new text)) given_is made),
+)
+answers_senders Are words input old new (Err e) seed_words given n seed_is given_is count made = tt
+
+-- an answer to words that ask for one of the four
+pub answers_so : {X E : Type 0} (r : Result X E) (A B : Type 0) → (A → B) → OnOk r A → OnOk r B
+answers_so (Ok x) A B so a = so a
+answers_so (Err e) A B so a = tt

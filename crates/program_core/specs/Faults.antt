@@ -1,5 +1,5 @@
 -- Why the program fails, and what status it ends with then.
-use Rattle.std.specs.Prelude.{◌≡◌, ◌≢◌, ◌⊎◌, ℕ, List, IfSome, IsOk, Option, None, Err}
+use Rattle.std.specs.Prelude.{◌≡◌, ◌≢◌, ◌⊎◌, ◌<◌, ℕ, List, IfSome, IsOk, Option, None, Err}
 use Rattle.std.specs.Io.KnownBytes.{Keeps}
 use Rattle.packet_core.specs.Words.{params_of_words}
 use Rattle.row_core.specs.Traces.{IsFaultOf}
@@ -7,7 +7,8 @@ use Rattle.row_core.specs.declared.faults.TraceFaultKind.{TraceFaultKind}
 use Rattle.row_core.specs.declared.faults.TraceFaultKind.TheVariants as trace_fault
 use Rattle.trace_core.specs.declared.trace_run.RunFault.{RunFault}
 use Rattle.trace_core.specs.declared.trace_run.RunFault.TheVariants as run_fault
-use Rattle.command_core.specs.CommandLine.{AsksForLocked, AsksForRun, IsMistake, parameter_words, seed_text}
+use Rattle.command_core.specs.CommandLine.{AsksForLanes, AsksForLocked, AsksForRun, IsMistake, parameter_words, seed_text}
+use Rattle.program_core.specs.Journals.{AreLanesJournal, AreLockedJournal}
 use Rattle.program_core.specs.Runs.{Begins, BeginsJournal, BeginsReport}
 use Rattle.command_core.specs.Seeds.{seed_given}
 use Rattle.command_core.specs.declared.command_line.CommandFault.{CommandFault}
@@ -31,6 +32,7 @@ status_of (program_fault.Trace fault) = trace_status fault.what
 status_of program_fault.Memory = 1
 status_of program_fault.Write = 1
 status_of program_fault.Settle = 1
+status_of (program_fault.Lane lane) = 1
 
 -- The fault is one of a run of the input, with the seed of that text and the parameters of those words, by which the
 -- writer came from what it held to what it holds. The seed is looked at first, then the parameters, then the input.
@@ -49,18 +51,33 @@ IsRunFault seed words input old new program_fault.Write = BeginsReport seed word
 IsRunFault seed words input old new (program_fault.CommandLine text) = ⊥
 IsRunFault seed words input old new program_fault.NotUtf8 = ⊥
 IsRunFault seed words input old new program_fault.Settle = ⊥
+IsRunFault seed words input old new (program_fault.Lane lane) = ⊥
 
--- A run by senders, of a trace that was read, fails so: memory was wanting, or the port didn't settle.
-abbrev pub IsRunsFault : ProgramFault → Type 0
-IsRunsFault fault = (fault ≡ program_fault.Memory) ⊎ (fault ≡ program_fault.Settle)
+-- A run through a locked port, of a trace that was read, fails so: memory was wanting, or the port didn't settle.
+abbrev pub IsLockedRunFault : ProgramFault → Type 0
+IsLockedRunFault fault = (fault ≡ program_fault.Memory) ⊎ (fault ≡ program_fault.Settle)
 
--- The same of a run by so many senders, with a front of its journal. What the engine has may differ from what the seats
--- were told.
+-- And one through the lanes of so many senders: memory was wanting, or one of them didn't submit all of its packets.
+abbrev pub IsLanesRunFault : ℕ → ProgramFault → Type 0
+IsLanesRunFault senders fault =
+    (fault ≡ program_fault.Memory) ⊎ ((lane : ℕ) × (lane < senders) × (fault ≡ program_fault.Lane lane))
+
+-- The fault is one of a run by so many senders, with a front of its journal where a write failed. What the engine has
+-- may differ from what the seats were told.
 abbrev pub IsLockedFault : Option (List ℕ) → List (List ℕ) → ℕ → Option (List ℕ) → Option (List ℕ) → Option (List ℕ)
     → ProgramFault → Type 0
-IsLockedFault seed words senders input old new program_fault.Write = BeginsJournal seed words senders input old new
+IsLockedFault seed words senders input old new program_fault.Write =
+    BeginsJournal AreLockedJournal seed words senders input old new
 IsLockedFault seed words senders input old new program_fault.Settle = Keeps old new
 IsLockedFault seed words senders input old new fault = IsRunFault seed words input old new fault
+
+-- The same where they have lanes. One of them may not have submitted all of its packets.
+abbrev pub IsLanesFault : Option (List ℕ) → List (List ℕ) → ℕ → Option (List ℕ) → Option (List ℕ) → Option (List ℕ)
+    → ProgramFault → Type 0
+IsLanesFault seed words senders input old new program_fault.Write =
+    BeginsJournal AreLanesJournal seed words senders input old new
+IsLanesFault seed words senders input old new (program_fault.Lane lane) = (lane < senders) × Keeps old new
+IsLanesFault seed words senders input old new fault = IsRunFault seed words input old new fault
 
 -- The fault is one of these words and this input, by which the writer came from what it held to what it holds. Of
 -- the words nothing is said at want of memory, since `clap` may want it whatever they are.
@@ -76,6 +93,7 @@ IsFaultOn words input old new (program_fault.Trace fault) =
 IsFaultOn words input old new program_fault.Memory = Keeps old new
 IsFaultOn words input old new program_fault.Write = Begins words input old new
 IsFaultOn words input old new program_fault.Settle = AsksForLocked words × Keeps old new
+IsFaultOn words input old new (program_fault.Lane lane) = AsksForLanes words × Keeps old new
 
 -- the fault of the program for one of the command line
 abbrev pub command_fault_told : CommandFault → ProgramFault

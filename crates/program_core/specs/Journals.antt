@@ -1,5 +1,5 @@
 -- The journals of runs by senders that are threads.
-use Rattle.std.specs.Prelude.{◌≡◌, ◌<◌, ℕ, ◌+◌, ◌-◌, ◌%◌, ◌==◌, List, [], ◌∷◌, Ok, Vec, if◌then◌else◌, length, map, slice_index_or, sum_by}
+use Rattle.std.specs.Prelude.{◌≡◌, ◌≤◌, ◌<◌, ℕ, ◌+◌, ◌-◌, ◌%◌, ◌==◌, List, [], ◌∷◌, ◌++◌, Ok, Option, Some, None, IfSome, Vec, if◌then◌else◌, length, map, slice_get, slice_index_or, sum_by, take}
 use Rattle.std.specs.Global.{Global}
 use Rattle.std.specs.List.{flat_map}
 use Rattle.packet_core.specs.FlowNumber.{flow_number}
@@ -14,9 +14,12 @@ use Rattle.journal_core.specs.declared.step.Step.{Step}
 use Rattle.journal_core.specs.declared.step.Step.TheVariants.{Enqueue, Dequeue, Close}
 use Rattle.fair_core.specs.FairQueues.{FairQueues}
 use Rattle.fair_core.specs.FqCodel.{fq_codel}
+use Rattle.port_core.specs.Devices.{Holding, rings_of}
+use Rattle.port_core.specs.Lanes.{RingId, Sending, accepted}
 use Rattle.port_core.specs.Ports.{Seat, of_lane}
 use Rattle.port_core.specs.Senders.{IsSubsequence, SendsSome, packets_told}
 use Rattle.port_core.specs.declared.gate.Stop.{Stop}
+use Rattle.port_core.specs.declared.lane_sender.LaneDone.{LaneDone}
 use Rattle.port_core.specs.declared.gate.Stop.TheVariants as stop
 use Rattle.trace_core.specs.Report.{journal_text}
 use Rattle.row_core.specs.Traces.{trace_of}
@@ -70,7 +73,7 @@ pub record IsSenderRow (sender : ℕ) (calls : List (ℕ × PacketParts)) (event
 
 -- The events are those of some run with that seed and those parameters, in which the packets of the steps were
 -- submitted by so many senders, and the rows are theirs. All that was accepted is some sender's.
-pub record AreJournalOf (p : ParamFields) (seed : Seed) (senders : ℕ) (steps : List Step) (events : List Event)
+pub record AreLockedJournal (p : ParamFields) (seed : Seed) (senders : ℕ) (steps : List Step) (events : List Event)
     (rows : List SenderRow) : Type 0 where
   pub made : List Step
   pub standing : Standing FairQueues
@@ -81,11 +84,67 @@ pub record AreJournalOf (p : ParamFields) (seed : Seed) (senders : ℕ) (steps :
       → IsSenderRow i (calls_of p seed senders i steps) events (slice_index_or rows i d)
   pub all : (statistics events).accepted ≡ sum_by (λ row. row.accepted) rows
 
--- The text is the journal of a run of a trace with these bytes by so many senders.
-pub record IsJournalOf (p : ParamFields) (seed : Seed) (senders : ℕ) (bytes text : List ℕ) : Type 0 where
+-- A sender with that end of its lane and those packets submitted so many of them and stopped so; behind it stands what
+-- is left of it, unless the device was dropped before.
+pub record IsLaneDone (old : Sending) (packets : List PacketParts) (submitted : ℕ) (why : Stop)
+    (end : Option Sending) : Type 0 where
+  pub most : submitted ≤ length packets
+  pub done : why ≡ stop.Done → submitted ≡ length packets
+  pub ends : IfSome end (λ e. e ≡ record old { submitted = old.submitted ++ take submitted packets })
+
+-- the packets that went into a lane, by its sender's end
+abbrev pub submitted_of : Option Sending → List PacketParts
+submitted_of None = []
+submitted_of (Some end) = end.submitted
+
+-- What a sender did fits the lane of that number: its end has that lane's ring, and as many packets as were submitted.
+pub record FitsLane (rings : List RingId) (lane : ℕ) (done : LaneDone) : Type 0 where
+  pub ring : IfSome done.end (λ e. slice_get rings lane ≡ Some e.ring)
+  pub submitted : IfSome done.end (λ e. done.submitted ≡ length e.submitted)
+
+-- And where the sender came to its end, it submitted all of these packets.
+pub record IsSent (rings : List RingId) (lane : ℕ) (packets : List PacketParts) (done : LaneDone) : Type 0 where
+  pub fits : FitsLane rings lane done
+  pub whole : done.stop ≡ stop.Done → IfSome done.end (λ e. e.submitted ≡ packets)
+
+-- The device is the one that it was: the rings of its lanes stay, and what its engine was made with.
+pub record IsSameDevice (old new : Holding) : Type 0 where
+  pub rings : rings_of new.lanes ≡ rings_of old.lanes
+  pub number : length new.lanes ≡ length old.lanes
+  pub params : new.engine.sched.params ≡ old.engine.sched.params
+  pub seed : new.engine.sched.seed ≡ old.engine.sched.seed
+
+-- The row is that of a lane to which those packets were submitted: the first of them were accepted, each once and in
+-- their order, and the others are left.
+pub record IsLaneRow (lane : ℕ) (packets : List PacketParts) (events : List Event) (row : SenderRow) : Type 0 where
+  pub number : row.sender ≡ lane
+  pub submitted : row.submitted ≡ length packets
+  pub accepted : accepted lane events ≡ take row.accepted packets
+  pub left : row.accepted + row.left ≡ row.submitted
+
+-- The events are those of some run with that seed and those parameters, into which a device took the packets of the
+-- steps from the lanes of so many senders, and the rows are theirs. All that was accepted came out of some lane.
+pub record AreLanesJournal (p : ParamFields) (seed : Seed) (senders : ℕ) (steps : List Step) (events : List Event)
+    (rows : List SenderRow) : Type 0 where
+  pub made : List Step
+  pub standing : Standing FairQueues
+  pub run : IsRunOf (fq_codel p seed) made standing
+  pub journal : standing.events ≡ events
+  pub number : length rows ≡ senders
+  pub each : (i : ℕ) (d : SenderRow) → i < senders
+      → IsLaneRow i (map (λ call. call.1) (calls_of p seed senders i steps)) events (slice_index_or rows i d)
+  pub no_other : (i : ℕ) → senders ≤ i → accepted i events ≡ []
+
+-- what is said of the events and the rows of a run by so many senders, by the parameters, the seed and the steps
+abbrev pub Journals : Type 1
+Journals = ParamFields → Seed → ℕ → List Step → List Event → List SenderRow → Type 0
+
+-- The text is the journal of such a run of a trace with these bytes by so many senders.
+pub record IsJournalOf (Are : Journals) (p : ParamFields) (seed : Seed) (senders : ℕ)
+    (bytes text : List ℕ) : Type 0 where
   pub steps : List Step
   pub events : List Event
   pub rows : List SenderRow
   pub read : trace_of bytes ≡ Ok steps
-  pub made : AreJournalOf p seed senders steps events rows
+  pub made : Are p seed senders steps events rows
   pub told : text ≡ journal_text events rows

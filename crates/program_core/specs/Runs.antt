@@ -5,8 +5,8 @@ use Rattle.packet_core.specs.Words.{params_of_words}
 use Rattle.packet_core.specs.declared.flow.Seed.{Seed}
 use Rattle.packet_core.specs.declared.params.ParamFields.{ParamFields}
 use Rattle.trace_core.specs.Report.{IsReportOf}
-use Rattle.command_core.specs.CommandLine.{AsksForHelp, AsksForLocked, AsksForTrace, IsSenderCount, parameter_words, seed_text, senders_text}
-use Rattle.program_core.specs.Journals.{IsJournalOf}
+use Rattle.command_core.specs.CommandLine.{AsksForHelp, AsksForLanes, AsksForLocked, AsksForTrace, IsSenderCount, parameter_words, seed_text, senders_text}
+use Rattle.program_core.specs.Journals.{AreLanesJournal, AreLockedJournal, IsJournalOf, Journals}
 use Rattle.command_core.specs.Seeds.{seed_given}
 
 -- The text of the seed and the parameter words are good, and of the report of the input with that seed and those
@@ -25,20 +25,22 @@ BeginsReport seed_text parameter_words input old new =
     IsRunFor seed_text parameter_words input (λ text. (count : ℕ) × Appends old new (take count text))
 
 -- The text of the seed and the parameter words are good, and of a journal of the input by so many senders, with that
--- seed and those parameters, this holds.
-pub record IsLockedRunFor (seed_text : Option (List ℕ)) (parameter_words : List (List ℕ)) (senders : ℕ)
-    (input : Option (List ℕ)) (Wrote : List ℕ → Type 0) : Type 0 where
+-- seed and those parameters, this holds. Which journals these are depends on how the senders reach the scheduler.
+pub record IsSendersRunFor (Are : Journals) (seed_text : Option (List ℕ))
+    (parameter_words : List (List ℕ)) (senders : ℕ) (input : Option (List ℕ))
+    (Wrote : List ℕ → Type 0) : Type 0 where
   pub seed : Seed
   pub params : ParamFields
   pub seed_read : seed_given seed_text ≡ Some seed.0
   pub params_read : params_of_words parameter_words ≡ Ok params
-  pub journal : IfSome input (λ bytes. (text : List ℕ) × IsJournalOf params seed senders bytes text × Wrote text)
+  pub journal : IfSome input (λ bytes. (text : List ℕ) × IsJournalOf Are params seed senders bytes text × Wrote text)
 
 -- The text of the seed and the parameter words are good, and a front of a journal was written behind what was there.
-abbrev pub BeginsJournal : Option (List ℕ) → List (List ℕ) → ℕ → Option (List ℕ) → Option (List ℕ) → Option (List ℕ)
-    → Type 0
-BeginsJournal seed_text parameter_words senders input old new =
-    IsLockedRunFor seed_text parameter_words senders input (λ text. (count : ℕ) × Appends old new (take count text))
+abbrev pub BeginsJournal : Journals → Option (List ℕ) → List (List ℕ) → ℕ → Option (List ℕ) → Option (List ℕ)
+    → Option (List ℕ) → Type 0
+BeginsJournal Are seed_text parameter_words senders input old new =
+    IsSendersRunFor Are seed_text parameter_words senders input
+    (λ text. (count : ℕ) × Appends old new (take count text))
 
 -- The words ask for a run, and its report was written behind what was there.
 abbrev pub AnswersRun : List (List ℕ) → Option (List ℕ) → Option (List ℕ) → Option (List ℕ) → Type 0
@@ -50,17 +52,18 @@ abbrev pub BeginsRun : List (List ℕ) → Option (List ℕ) → Option (List �
 BeginsRun words input old new =
     AsksForTrace words × BeginsReport (seed_text words) (parameter_words words) input old new
 
--- The words ask for a run by senders, and a journal of one was written behind what was there.
-abbrev pub AnswersLocked : List (List ℕ) → Option (List ℕ) → Option (List ℕ) → Option (List ℕ) → Type 0
-AnswersLocked words input old new =
-    AsksForLocked words × (senders : ℕ) × IsSenderCount (senders_text words) senders
-    × IsLockedRunFor (seed_text words) (parameter_words words) senders input (λ text. Appends old new text)
+-- The words say how many senders there are, and a journal of a run by them was written behind what was there.
+abbrev pub AnswersSenders : Journals → List (List ℕ) → Option (List ℕ) → Option (List ℕ) → Option (List ℕ) → Type 0
+AnswersSenders Are words input old new =
+    (senders : ℕ) × IsSenderCount (senders_text words) senders
+    × IsSendersRunFor Are (seed_text words) (parameter_words words) senders input (λ text. Appends old new text)
 
--- The words ask for a run by senders, and a front of a journal of one was written behind what was there.
-abbrev pub BeginsLocked : List (List ℕ) → Option (List ℕ) → Option (List ℕ) → Option (List ℕ) → Type 0
-BeginsLocked words input old new =
-    AsksForLocked words × (senders : ℕ) × IsSenderCount (senders_text words) senders
-    × BeginsJournal (seed_text words) (parameter_words words) senders input old new
+-- The words say how many senders there are, and a front of a journal of a run by them was written behind what was
+-- there.
+abbrev pub BeginsSenders : Journals → List (List ℕ) → Option (List ℕ) → Option (List ℕ) → Option (List ℕ) → Type 0
+BeginsSenders Are words input old new =
+    (senders : ℕ) × IsSenderCount (senders_text words) senders
+    × BeginsJournal Are (seed_text words) (parameter_words words) senders input old new
 
 -- The words ask for help, and a text was written behind what was there.
 abbrev pub AnswersHelp : List (List ℕ) → Option (List ℕ) → Option (List ℕ) → Type 0
@@ -73,9 +76,15 @@ BeginsHelp words old new = AsksForHelp words × (text : List ℕ) × (count : �
 -- what the program writes where nothing fails
 abbrev pub Answers : List (List ℕ) → Option (List ℕ) → Option (List ℕ) → Option (List ℕ) → Type 0
 Answers words input old new =
-    AnswersRun words input old new ⊎ AnswersLocked words input old new ⊎ AnswersHelp words old new
+    AnswersRun words input old new
+    ⊎ (AsksForLocked words × AnswersSenders AreLockedJournal words input old new)
+    ⊎ (AsksForLanes words × AnswersSenders AreLanesJournal words input old new)
+    ⊎ AnswersHelp words old new
 
 -- what the program has written where a write fails
 abbrev pub Begins : List (List ℕ) → Option (List ℕ) → Option (List ℕ) → Option (List ℕ) → Type 0
 Begins words input old new =
-    BeginsRun words input old new ⊎ BeginsLocked words input old new ⊎ BeginsHelp words old new
+    BeginsRun words input old new
+    ⊎ (AsksForLocked words × BeginsSenders AreLockedJournal words input old new)
+    ⊎ (AsksForLanes words × BeginsSenders AreLanesJournal words input old new)
+    ⊎ BeginsHelp words old new

@@ -2,10 +2,14 @@
 //! journal of its run by senders that are threads, or help.
 #![tactic(auto)]
 
+mod lane_senders;
+mod lanes;
 mod locked;
 mod program_run;
 mod senders;
 
+pub use lane_senders::start_lanes;
+pub use lanes::simulate_lanes;
 pub use locked::simulate_locked;
 pub use program_run::{ProgramFault, program, tell};
 pub use senders::{lists_of, start_locked};

@@ -1,16 +1,16 @@
 //! The run of a trace by senders that are threads, through a locked port.
 ghost use Rattle.std.specs.Prelude.{◌≡◌, ◌≢◌, ◌≤◌, ◌<◌, ◌+◌, ◌-◌, ℕ, All, Err, IfErr, IfOk, OnOk, length, map, option_map, slice_index_or};
 ghost use Rattle.std.specs.Io.KnownBytes.{Appends, Keeps};
-ghost use Rattle.program_core.specs.Faults.{IsLockedFault, IsRunsFault};
-ghost use Rattle.program_core.specs.Journals.{AreCalls, AreJournalOf, row_of};
-ghost use Rattle.program_core.specs.Runs.{IsLockedRunFor};
+ghost use Rattle.program_core.specs.Faults.{IsLockedFault, IsLockedRunFault};
+ghost use Rattle.program_core.specs.Journals.{AreCalls, AreLockedJournal, row_of};
+ghost use Rattle.program_core.specs.Runs.{IsSendersRunFor};
 ghost use Rattle.command_core.specs.declared.command_line.TheConstants.{MAX_SENDERS};
 ghost use Rattle.program_core.specs.declared.program_run.ProgramFault.TheVariants as program_fault;
 ghost use Rattle.port_core.specs.declared.gate.Stop.TheVariants as stop;
 
 use crate::program_run::{ProgramFault, seed_given};
 use crate::senders::{lists_of, start_locked};
-use command_core::{LockedRequest, MAX_SENDERS};
+use command_core::{MAX_SENDERS, SendersRequest};
 use packet_core::{Packet, Params, Seed, read_params};
 use port_core::{LockedDone, LockedPort, Open, PortSeat, Stop};
 use sched_core::{Engine, Refusal, Step};
@@ -27,12 +27,12 @@ use trace_core::{SenderRow, read_trace, write_journal};
 pub fn simulate_locked<H: Threads + Wait + Sync, R: Read, W: Write>(
     rt: &H,
     alloc: Global,
-    request: &LockedRequest<'_>,
+    request: &SendersRequest<'_>,
     reader: &mut R,
     writer: &mut W,
 ) -> Result<(), ProgramFault>
     requires { (0 < request.now.senders) × (request.now.senders ≤ MAX_SENDERS) }
-    ensures journal { OnOk result (IsLockedRunFor (option_map (λ s. s.now) request.now.run.seed)
+    ensures journal { OnOk result (IsSendersRunFor AreLockedJournal (option_map (λ s. s.now) request.now.run.seed)
         (map (λ w. w.now) request.now.run.parameters.items) request.now.senders (R.remaining reader.old)
         (λ text. Appends (W.contents writer.old) (W.contents writer.new) text)) }
     ensures fault { IfErr result (IsLockedFault (option_map (λ s. s.now) request.now.run.seed)
@@ -58,9 +58,9 @@ fn run_locked<H: Threads + Wait + Sync>(
     steps: &[Step],
 ) -> Result<(Engine, Vec<SenderRow>), ProgramFault>
     requires { (0 < senders) × (senders ≤ MAX_SENDERS) }
-    ensures journal { IfOk result (λ r. AreJournalOf params seed senders steps.now
+    ensures journal { IfOk result (λ r. AreLockedJournal params seed senders steps.now
         r.0.sched.standing.events r.1.items) }
-    ensures fault { IfErr result IsRunsFault }
+    ensures fault { IfErr result IsLockedRunFault }
 {
     let lists = lists_of(alloc, &params, &seed, senders, steps)?;
     let (accepted, sent) = (
@@ -86,9 +86,9 @@ fn run_lists<A: Ledger + Send + Sync, S: Ledger + Send + Sync, H: Threads + Wait
     requires number { (0 < length lists.now) × (length lists.now ≤ MAX_SENDERS) }
     requires accepted { (accepted.name ≡ A.name) × (accepted.parts ≡ A.parts) × (A.parts ≡ length lists.now + 1) }
     requires sent { (sent.name ≡ S.name) × (sent.parts ≡ S.parts) × (S.parts ≡ length lists.now + 1) }
-    ensures journal { IfOk result (λ r. AreJournalOf params seed (length lists.now) steps.now
+    ensures journal { IfOk result (λ r. AreLockedJournal params seed (length lists.now) steps.now
         r.0.sched.standing.events r.1.items) }
-    ensures fault { IfErr result IsRunsFault }
+    ensures fault { IfErr result IsLockedRunFault }
 {
     let count = lists.len() as u32 + 1;
     let (port, mut seats) = LockedPort::<A, S>::start(alloc, params, seed, count, accepted, sent)?;

@@ -10,9 +10,11 @@ ghost use Rattle.command_core.specs.Seeds.{seed_given};
 ghost use Rattle.program_core.specs.declared.program_run.ProgramFault.{ProgramFault};
 ghost use Rattle.program_core.specs.declared.program_run.ProgramFault.TheVariants as program_fault;
 
+use crate::lanes::simulate_lanes;
 use crate::locked::simulate_locked;
 use command_core::{CommandFault, Request, ZERO_SEED, parse, read_seed};
 use packet_core::{ParamFault, Seed, read_params};
+use port_core::OpenFault;
 use sched_core::Refusal;
 use std::alloc::{AllocError, AllocFailed, Global};
 use std::io::{self, ErrorKind, Read, Write};
@@ -57,6 +59,10 @@ pub enum ProgramFault {
     /// The journal isn't what the senders were told. It would show a fault of the locked port itself.
     #[error("settle")]
     Settle,
+    /// The sender of that lane didn't submit all of its packets, or its lane has no end. A lane has room for 1,048,576
+    /// packets.
+    #[error("lane {0}")]
+    Lane(u32),
 }
 
 impl ProgramFault {
@@ -70,7 +76,10 @@ impl ProgramFault {
             | ProgramFault::Seed
             | ProgramFault::Params(_) => INPUT_FAULT,
             ProgramFault::Trace(fault) => trace_status(fault),
-            ProgramFault::Memory | ProgramFault::Write | ProgramFault::Settle => MACHINE_FAULT,
+            ProgramFault::Memory
+            | ProgramFault::Write
+            | ProgramFault::Settle
+            | ProgramFault::Lane(_) => MACHINE_FAULT,
         }
     }
 }
@@ -124,13 +133,24 @@ impl From<RunFault> for ProgramFault {
     }
 }
 
-/// Why a call of the locked port is refused, where it isn't for a second close: the moments of a trace are below 2^60
-/// and it has less than 2^40 rows, so memory was wanting.
+/// Why a call of the locked port or of the device is refused, where it isn't for a second close: the moments of a trace
+/// are below 2^60 and it has less than 2^40 rows, so memory was wanting.
 impl From<Refusal> for ProgramFault {
     ghost from_gives = { λ _ e. e ≡ program_fault.Memory };
 
     fn from(_: Refusal) -> ProgramFault {
         ProgramFault::Memory
+    }
+}
+
+/// Why lanes aren't opened.
+impl From<OpenFault> for ProgramFault {
+    ghost from_gives = { λ _ e. e ≡ program_fault.Memory };
+
+    fn from(fault: OpenFault) -> ProgramFault {
+        match fault {
+            OpenFault::Memory => ProgramFault::Memory,
+        }
     }
 }
 
@@ -219,7 +239,8 @@ fn answer<H: Threads + Wait + Sync, R: Read, W: Write>(
 {
     match parse(alloc, words)? {
         Request::Trace(trace) => simulate(alloc, trace.seed, &trace.parameters, reader, writer),
-        Request::Locked(locked) => simulate_locked(rt, alloc, &locked, reader, writer),
+        Request::Locked(senders) => simulate_locked(rt, alloc, &senders, reader, writer),
+        Request::Lanes(senders) => simulate_lanes(rt, alloc, &senders, reader, writer),
         Request::Help(text) => show(writer, text.as_str()),
     }
 }

@@ -37,8 +37,10 @@ fn help_on_the_program(rt: HostRuntime) -> Result<(), Fail> {
         "Usage: fqsim <COMMAND>\n",
         "\n  trace  ",
         "\n  locked  ",
+        "\n  lanes  ",
         "'fqsim trace --help'",
         "'fqsim locked --help'",
+        "'fqsim lanes --help'",
         "Exit status:\n  0  ",
         "\n  1  ",
         "\n  2  ",
@@ -85,6 +87,25 @@ fn help_on_the_senders(rt: HostRuntime) -> Result<(), Fail> {
     expect_help(&rt, &["locked", "--help"], &texts)?;
     expect_help(&rt, &["help", "locked"], &texts)?;
     expect_help(&rt, &["locked", "--senders", "3", "--help"], &texts)
+}
+
+#[test]
+fn help_on_the_lanes(rt: HostRuntime) -> Result<(), Fail> {
+    let texts = [
+        "Usage: fqsim lanes [OPTIONS] [PARAM]...\n",
+        "--seed <HEX32>",
+        "--senders <N>",
+        "1 to 64",
+        "[default: 2]",
+        "'fqsim trace --help'",
+        "'fqsim locked --help'",
+        "moments of 'enq' rows aren't used",
+        "at most 64 of its packets",
+        "'fqsim: lane LANE'",
+    ];
+    expect_help(&rt, &["lanes", "--help"], &texts)?;
+    expect_help(&rt, &["help", "lanes"], &texts)?;
+    expect_help(&rt, &["lanes", "--senders", "3", "--help"], &texts)
 }
 
 #[test]

@@ -8,7 +8,11 @@ mod faults;
 #[cfg(test)]
 mod help;
 #[cfg(test)]
+mod lanes;
+#[cfg(test)]
 mod locked;
+#[cfg(test)]
+mod packets;
 #[cfg(test)]
 mod seeds;
 #[cfg(test)]

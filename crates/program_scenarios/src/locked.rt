@@ -1,7 +1,8 @@
 //! Senders in threads of their own.
 ghost use Rattle.std.specs.Prelude.{◌≡◌, IfOk, length};
 
-use packet_core::{Ecn, FiveTuple, Ip, Packet, Seed, read_params};
+use crate::packets::packet;
+use packet_core::{Packet, Seed, read_params};
 use port_core::{Gate, LockedDone, LockedPort, PortSeat, Stop};
 use program_core::start_locked;
 use std::alloc::Global;
@@ -27,18 +28,6 @@ impl Gate for Side<'_> {
             .store(call.saturating_sub(1), Ordering::SeqCst);
         call < self.first_held || self.answered_there.load(Ordering::SeqCst) >= 1
     }
-}
-
-/// A packet of 100 bytes to that destination port.
-fn packet(dport: u16) -> Result<Packet, Fail> {
-    let tuple = FiveTuple {
-        proto: 17,
-        src: Ip::V4([10, 0, 0, 1]),
-        dst: Ip::V4([10, 0, 0, 2]),
-        sport: 5000,
-        dport,
-    };
-    Ok(Packet::try_new(tuple, 100, Ecn::NotEct)?)
 }
 
 /// Sender 0's first call waits for the answer of sender 1's first, and sender 1's second for that of sender 0's first.

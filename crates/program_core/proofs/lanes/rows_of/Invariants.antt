@@ -1,0 +1,17 @@
+use Rattle.std.proofs.Common.{◌≡◌, ◌≢◌, ◌≤◌, ◌<◌, ℕ, None, drop, length, slice_index_or}
+use Rattle.std.specs.Vec.Iter.{into_iter_items, into_iter_len}
+use Rattle.port_core.specs.declared.gate.Stop.TheVariants as stop
+use Rattle.port_core.specs.declared.lane_sender.LaneDone.{LaneDone}
+use Rattle.trace_core.specs.declared.journal_report.SenderRow.{SenderRow}
+use Rattle.program_core.specs.Journals.{IsLaneRow, IsSameDevice, submitted_of}
+use Rattle.program_core.proofs.lanes.rows_of.Given as goal
+
+abbrev pub invariant-loop-one : goal.invariant-loop-one
+invariant-loop-one l =
+    (into_iter_items l.one-iterator ≡ drop l.lane l.fn.done.items)
+    × (into_iter_len l.one-iterator ≡ length (into_iter_items l.one-iterator))
+    × (l.lane ≤ length l.fn.done.items)
+    × (length l.rows.items ≡ l.lane)
+    × IsSameDevice l.fn.device l.device
+    × ((i : ℕ) (r : SenderRow) (d : LaneDone) → i < l.lane → IsLaneRow i (submitted_of (slice_index_or l.fn.done.items i d).end) l.device.engine.sched.standing.events (slice_index_or l.rows.items i r))
+    × ((i : ℕ) (d : LaneDone) → i < l.lane → ((slice_index_or l.fn.done.items i d).stop ≡ stop.Done) × ((slice_index_or l.fn.done.items i d).end ≢ None))
