@@ -1,14 +1,17 @@
-//! Times the scheduler: how long a round of enqueues and dequeues takes under a workload, and what a locked port takes.
+//! Times the scheduler: how long a round of enqueues and dequeues takes under a workload, and what a locked port and
+//! lanes take.
 #![tactic(auto)]
 
 ghost use Rattle.std.specs.Prelude.{◌<◌, ◌≤◌, IfSome};
 
 mod device;
+mod lanes;
 mod sending;
 mod settling;
 mod timing;
 mod workload;
 
+use crate::lanes::{LanePart, least_of_part, least_through_lanes};
 use crate::sending::least_sending;
 use crate::settling::{SETTLED, least_settling};
 use crate::timing::{Fault, least_nanoseconds};
@@ -54,10 +57,31 @@ fn measure<R: AllocGlobal + Clock + Print + Threads + Wait + Sync + Clone + Drop
     if name == SETTLE {
         return measure_settling(rt);
     }
-    match senders_of(name) {
-        Some(senders) => measure_sending(rt, name, senders),
-        None => measure_workload(rt, named(name).ok_or(Fault::UnknownWorkload)?),
+    if let Some(part) = lane_part_of(name) {
+        return tell_each(rt, name, least_of_part(rt, part)?);
     }
+    if let Some(senders) = senders_of(name, "senders_") {
+        return tell_rate(rt, name, least_sending(rt, senders)?);
+    }
+    if let Some(senders) = senders_of(name, "lanes_") {
+        return tell_rate(rt, name, least_through_lanes(rt, senders)?);
+    }
+    let workload = named(name).ok_or(Fault::UnknownWorkload)?;
+    tell_each(rt, workload.name, least_nanoseconds(rt, workload)?)
+}
+
+/// Tells how long each of the rounds took, in nanoseconds.
+fn tell_each(rt: &impl Print, name: &str, nanoseconds: u128) -> Result<(), Fault> {
+    let tenths = nanoseconds.saturating_mul(10) / u128::from(ROUNDS);
+    println!(rt; "{name},{ROUNDS},{}.{}", tenths / 10, tenths % 10)?;
+    Ok(())
+}
+
+/// Tells how many packets went through in a second.
+fn tell_rate(rt: &impl Print, name: &str, nanoseconds: u128) -> Result<(), Fault> {
+    let packets = u128::from(ROUNDS) * 1_000_000_000 / nanoseconds.max(1);
+    println!(rt; "{name},{ROUNDS},{packets}")?;
+    Ok(())
 }
 
 /// Measures the settling of a locked port.
@@ -67,43 +91,25 @@ fn measure_settling<R: AllocGlobal + Clock + Print + Wait>(rt: &R) -> Result<(),
     Ok(())
 }
 
-/// Measures so many senders and a device at a locked port.
-fn measure_sending<R: AllocGlobal + Clock + Print + Threads + Wait + Sync>(
-    rt: &R,
-    name: &str,
-    senders: u32,
-) -> Result<(), Fault>
-    requires { (0 < senders) × (senders ≤ 4) }
-{
-    let nanoseconds = least_sending(rt, senders)?.max(1);
-    let packets = u128::from(ROUNDS) * 1_000_000_000 / nanoseconds;
-    println!(rt; "{name},{ROUNDS},{packets}")?;
-    Ok(())
-}
-
-/// Measures the rounds of a workload.
-fn measure_workload<R: AllocGlobal + Clock + Print + Wait + Clone + Drop>(
-    rt: &R,
-    workload: &Workload,
-) -> Result<(), Fault> {
-    let tenths = least_nanoseconds(rt, workload)?.saturating_mul(10) / u128::from(ROUNDS);
-    println!(rt;
-        "{},{ROUNDS},{}.{}",
-        workload.name,
-        tenths / 10,
-        tenths % 10
-    )?;
-    Ok(())
-}
-
-/// The number of senders that the word asks for.
-fn senders_of(name: &str) -> Option<u32>
+/// The number of senders that the word asks for, behind those letters.
+fn senders_of(name: &str, front: &str) -> Option<u32>
     ensures { IfSome result (λ n. (0 < n) × (n ≤ 4)) }
 {
+    match name.strip_prefix(front)? {
+        "1" => Some(1),
+        "2" => Some(2),
+        "4" => Some(4),
+        _ => None,
+    }
+}
+
+/// The part of a packet's way through a lane that the word asks for.
+fn lane_part_of(name: &str) -> Option<LanePart> {
     match name {
-        "senders_1" => Some(1),
-        "senders_2" => Some(2),
-        "senders_4" => Some(4),
+        "lane_push" => Some(LanePart::Push),
+        "lane_submit" => Some(LanePart::Submit),
+        "lane_pump" => Some(LanePart::Pump),
+        "lane_enqueue" => Some(LanePart::Enqueue),
         _ => None,
     }
 }
@@ -125,7 +131,11 @@ fn tell_workloads(rt: &impl Print) -> Result<(), Fault> {
         "{SETTLE}: the settling of a locked port of 64 seats; it prints name,packets,milliseconds in all"
     )?;
     println!(rt;
-        "senders_1, senders_2, senders_4: so many threads send and one takes; it prints name,packets,packets a second"
+        "lane_submit, lane_pump: a submit, and a packet of a pump of 64; beside them lane_push and lane_enqueue, the ring's push and the engine's enqueue alone"
     )?;
+    println!(rt;
+        "senders_1, senders_2, senders_4: so many threads send through a locked port and one takes; it prints name,packets,packets a second"
+    )?;
+    println!(rt; "lanes_1, lanes_2, lanes_4: the same through lanes")?;
     Ok(())
 }

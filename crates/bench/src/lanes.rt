@@ -1,0 +1,244 @@
+//! How long packets take through lanes, and what the parts of that take.
+
+ghost use Rattle.std.specs.Prelude.{◌≤◌, ◌<◌};
+ghost use denote.Param.Send.{IsSync};
+
+use crate::timing::{Fault, REPETITIONS, SEED, START, nanoseconds_since, now, packet_to};
+use crate::workload::ROUNDS;
+use packet_core::{Ecn, Packet, ParamFields, Params};
+use port_core::{Device, LaneDone, LaneSender, Open, Opened, lanes, send_lane};
+use rtrb::{Producer, RingBuffer};
+use sched_core::Engine;
+use std::alloc::{AllocError, Global};
+use std::rt::Clock;
+use std::thread::{self, Threads};
+
+/// The most packets that wait: all.
+const LIMIT: u32 = 1_048_576;
+
+/// A pump takes so many packets at most.
+const BURST: u64 = 64;
+
+/// The device looks so often for packets at most, so that it ends where no thread can be made for a sender.
+const MAX_LOOKS: u32 = 10_000_000;
+
+/// The moment of every step, in microseconds.
+const MOMENT: u64 = START / 1_000;
+
+/// A part of a packet's way through a lane, or what it is compared with.
+#[derive(Clone, Copy, Debug)]
+pub enum LanePart {
+    /// The ring's own push.
+    Push,
+    /// A submit.
+    Submit,
+    /// A packet of a pump, with its enqueue.
+    Pump,
+    /// The engine's enqueue alone.
+    Enqueue,
+}
+
+/// The least time that the part took for all packets of a repetition, in nanoseconds.
+pub fn least_of_part<R: AllocGlobal + Clock>(rt: &R, part: LanePart) -> Result<u128, Fault> {
+    let packet = packet_to(0, Ecn::NotEct)?;
+    let mut least = u128::MAX;
+    for _ in 0..REPETITIONS {
+        let took = match part {
+            LanePart::Push => pushing(rt, packet)?,
+            LanePart::Submit => submitting(rt, packet)?,
+            LanePart::Pump => pumping(rt, packet)?,
+            LanePart::Enqueue => enqueuing(rt, packet)?,
+        };
+        least = least.min(took);
+    }
+    Ok(least)
+}
+
+/// The parameters of each run: no packet is dropped for want of room.
+fn params() -> Result<Params, Fault> {
+    Ok(Params::try_new(ParamFields {
+        limit: LIMIT,
+        ..ParamFields::standard()
+    })?)
+}
+
+/// So many lanes, each with room for all packets.
+fn open(alloc: Global, number: u32) -> Result<Opened, Fault>
+    requires { (0 < number) × (number ≤ 4) }
+{
+    lanes(alloc, params()?, SEED, number, ROUNDS)
+        .ok()
+        .ok_or(Fault::Memory)
+}
+
+/// The time in which the packets are pushed into a ring.
+fn pushing<R: AllocGlobal + Clock>(rt: &R, packet: Packet) -> Result<u128, Fault> {
+    let (mut producer, _consumer) = RingBuffer::new(rt.alloc(), ROUNDS as usize)?;
+    let begun = now(rt);
+    let is_done = push_all(&mut producer, packet);
+    nanoseconds_since(rt, begun, is_done)
+}
+
+/// Pushes the packets. It answers whether all found room.
+fn push_all(producer: &mut Producer<Packet>, packet: Packet) -> bool {
+    for _ in 0..ROUNDS {
+        if producer.push(packet).is_err() {
+            return false;
+        }
+    }
+    true
+}
+
+/// The time in which the packets are submitted to a lane.
+fn submitting<R: AllocGlobal + Clock>(rt: &R, packet: Packet) -> Result<u128, Fault> {
+    let Opened {
+        mut senders,
+        device: _device,
+    } = open(rt.alloc(), 1)?;
+    let begun = now(rt);
+    let is_done = submit_all(&mut senders, packet);
+    nanoseconds_since(rt, begun, is_done)
+}
+
+/// Submits the packets by the first sender. It answers whether all found room.
+fn submit_all(senders: &mut Vec<LaneSender>, packet: Packet) -> bool {
+    let Some(sender) = senders.first_mut() else {
+        return false;
+    };
+    for _ in 0..ROUNDS {
+        if sender.submit(packet).is_err() {
+            return false;
+        }
+    }
+    true
+}
+
+/// The time in which the packets are pumped out of a lane.
+fn pumping<R: AllocGlobal + Clock>(rt: &R, packet: Packet) -> Result<u128, Fault> {
+    let Opened {
+        mut senders,
+        mut device,
+    } = open(rt.alloc(), 1)?;
+    let submitted = submit_all(&mut senders, packet);
+    let begun = now(rt);
+    let is_done = submitted && pump_out(&mut device);
+    nanoseconds_since(rt, begun, is_done)
+}
+
+/// Pumps the packets out of the first lane. It answers whether all came.
+fn pump_out(device: &mut Device) -> bool {
+    for _ in 0..=u64::from(ROUNDS) / BURST {
+        if !pump_one(device, 0) {
+            return false;
+        }
+    }
+    device.engine().totals().accepted == u64::from(ROUNDS)
+}
+
+/// Pumps that lane once. It answers whether there is such a lane, and memory.
+fn pump_one(device: &mut Device, lane: u32) -> bool {
+    lane < device.lanes() && device.pump(lane, MOMENT, BURST).is_ok()
+}
+
+/// The time in which an engine accepts the packets.
+fn enqueuing<R: AllocGlobal + Clock>(rt: &R, packet: Packet) -> Result<u128, Fault> {
+    let mut engine = Engine::try_new(rt.alloc(), params()?, SEED)?;
+    let begun = now(rt);
+    let is_done = enqueue_all(&mut engine, packet);
+    nanoseconds_since(rt, begun, is_done)
+}
+
+/// Enqueues the packets. It answers whether all were accepted.
+fn enqueue_all(engine: &mut Engine, packet: Packet) -> bool {
+    for _ in 0..ROUNDS {
+        if engine.enqueue(MOMENT, 0, packet).is_err() {
+            return false;
+        }
+    }
+    true
+}
+
+/// The least time that so many senders and the device took for all packets of a repetition, in nanoseconds.
+pub fn least_through_lanes<R: AllocGlobal + Clock + Threads + Sync>(
+    rt: &R,
+    senders: u32,
+) -> Result<u128, Fault>
+    requires { (0 < senders) × (senders ≤ 4) }
+{
+    let packet = packet_to(0, Ecn::NotEct)?;
+    let packets = vec![in rt.alloc(); packet; (ROUNDS / senders) as usize]?;
+    let mut least = u128::MAX;
+    for _ in 0..REPETITIONS {
+        least = least.min(through_lanes(rt, open(rt.alloc(), senders)?, &packets)?);
+    }
+    Ok(least)
+}
+
+/// The time in which each sender's packets go through its lane and out of the device.
+fn through_lanes<R: Clock + Threads + Sync>(
+    rt: &R,
+    opened: Opened,
+    packets: &[Packet],
+) -> Result<u128, Fault> {
+    let Opened { senders, device } = opened;
+    let begun = now(rt);
+    let (done, device) = at_once(rt, senders, packets, device);
+    nanoseconds_since(rt, begun, done.is_ok() && has_sent_all(&device))
+}
+
+/// The device takes packets while the senders submit theirs.
+fn at_once<R: Threads + Sync>(
+    rt: &R,
+    senders: Vec<LaneSender>,
+    packets: &[Packet],
+    device: Device,
+) -> (Result<Vec<LaneDone>, AllocError>, Device) {
+    let senders = move || -> Result<Vec<LaneDone>, AllocError>
+        requires { IsSync R.row }
+    { send_all(rt, senders, packets) };
+    thread::join(rt, senders, move || take_all(device))
+}
+
+/// Each lane's sender has a thread of its own.
+fn send_all<R: Threads + Sync>(
+    rt: &R,
+    senders: Vec<LaneSender>,
+    packets: &[Packet],
+) -> Result<Vec<LaneDone>, AllocError> {
+    let send = move |sender: LaneSender| send_lane(sender, packets, &Open);
+    thread::map_vec(rt, senders, &send)
+}
+
+/// Whether all packets of a repetition were sent.
+fn has_sent_all(device: &Device) -> bool {
+    device.engine().totals().sent == u64::from(ROUNDS)
+}
+
+/// The device takes packets until it has sent all, or is refused, or has looked too often.
+fn take_all(device: Device) -> Device {
+    let mut device = device;
+    for _ in 0..MAX_LOOKS {
+        if has_sent_all(&device) || !take_some(&mut device) {
+            break;
+        }
+    }
+    device
+}
+
+/// Pumps each lane once, and sends what waits then. It answers whether nothing was refused.
+fn take_some(device: &mut Device) -> bool {
+    for lane in 0..device.lanes() {
+        if !pump_one(device, lane) {
+            return false;
+        }
+    }
+    if device.engine().queued() == 0 {
+        thread::yield_now();
+    }
+    for _ in 0..device.engine().queued() {
+        if device.dequeue(MOMENT).is_err() {
+            return false;
+        }
+    }
+    true
+}
