@@ -8,7 +8,7 @@ use crate::workload::ROUNDS;
 use packet_core::{Ecn, Packet, ParamFields, Params};
 use port_core::{Device, LaneDone, LaneSender, Open, Opened, lanes, send_lane};
 use rtrb::{Producer, RingBuffer};
-use sched_core::Engine;
+use sched_core::{Engine, Event, Keeps, Step};
 use std::alloc::{AllocError, Global};
 use std::rt::Clock;
 use std::thread::{self, Threads};
@@ -55,7 +55,7 @@ pub fn least_of_part<R: AllocGlobal + Clock>(rt: &R, part: LanePart) -> Result<u
 }
 
 /// The parameters of each run: no packet is dropped for want of room.
-fn params() -> Result<Params, Fault> {
+pub fn params() -> Result<Params, Fault> {
     Ok(Params::try_new(ParamFields {
         limit: LIMIT,
         ..ParamFields::standard()
@@ -136,7 +136,7 @@ fn pump_out(device: &mut Device) -> bool {
 }
 
 /// Pumps that lane once. It answers whether there is such a lane, and memory.
-fn pump_one(device: &mut Device, lane: u32) -> bool {
+fn pump_one<K: Keeps<Event>, S: Keeps<Step>>(device: &mut Device<K, S>, lane: u32) -> bool {
     lane < device.lanes() && device.pump(lane, MOMENT, BURST).is_ok()
 }
 
@@ -196,7 +196,7 @@ fn at_once<R: Threads + Sync>(
     let senders = move || -> Result<Vec<LaneDone>, AllocError>
         requires { IsSync R.row }
     { send_all(rt, senders, packets) };
-    thread::join(rt, senders, move || take_all(device))
+    thread::join(rt, senders, move || take_all(device, u64::from(ROUNDS)))
 }
 
 /// Each lane's sender has a thread of its own.
@@ -214,11 +214,14 @@ fn has_sent_all(device: &Device) -> bool {
     device.engine().totals().sent == u64::from(ROUNDS)
 }
 
-/// The device takes packets until it has sent all, or is refused, or has looked too often.
-fn take_all(device: Device) -> Device {
+/// The device takes packets until it has sent so many, or is refused, or has looked too often.
+pub fn take_all<K: Keeps<Event>, S: Keeps<Step>>(
+    device: Device<K, S>,
+    packets: u64,
+) -> Device<K, S> {
     let mut device = device;
     for _ in 0..MAX_LOOKS {
-        if has_sent_all(&device) || !take_some(&mut device) {
+        if device.engine().totals().sent == packets || !take_some(&mut device) {
             break;
         }
     }
@@ -226,7 +229,7 @@ fn take_all(device: Device) -> Device {
 }
 
 /// Pumps each lane once, and sends what waits then. It answers whether nothing was refused.
-fn take_some(device: &mut Device) -> bool {
+fn take_some<K: Keeps<Event>, S: Keeps<Step>>(device: &mut Device<K, S>) -> bool {
     for lane in 0..device.lanes() {
         if !pump_one(device, lane) {
             return false;

@@ -9,12 +9,14 @@ mod lanes;
 mod sending;
 mod settling;
 mod timing;
+mod unstored;
 mod workload;
 
 use crate::lanes::{LanePart, least_of_part, least_through_lanes};
 use crate::sending::least_sending;
 use crate::settling::{SETTLED, least_settling};
 use crate::timing::{Fault, least_nanoseconds};
+use crate::unstored::totals_of_passing;
 use crate::workload::{ROUNDS, WORKLOADS, Workload};
 use std::env::{self, Env};
 use std::process::ExitCode;
@@ -24,6 +26,9 @@ use std::thread::Threads;
 
 /// The word for the settling of a locked port.
 const SETTLE: &str = "settle";
+
+/// The word for a run through lanes that stores nothing.
+const UNSTORED: &str = "unstored";
 
 fn main(rt: HostRuntime) -> ExitCode {
     match bench(&rt) {
@@ -57,6 +62,9 @@ fn measure<R: AllocGlobal + Clock + Print + Threads + Wait + Sync + Clone + Drop
     if name == SETTLE {
         return measure_settling(rt);
     }
+    if name == UNSTORED {
+        return tell_passing(rt);
+    }
     if let Some(part) = lane_part_of(name) {
         return tell_each(rt, name, least_of_part(rt, part)?);
     }
@@ -88,6 +96,16 @@ fn tell_rate(rt: &impl Print, name: &str, nanoseconds: u128) -> Result<(), Fault
 fn measure_settling<R: AllocGlobal + Clock + Print + Wait>(rt: &R) -> Result<(), Fault> {
     let tenths = least_settling(rt)? / 100_000;
     println!(rt; "{SETTLE},{SETTLED},{}.{}", tenths / 10, tenths % 10)?;
+    Ok(())
+}
+
+/// Tells what became of the packets of a run through lanes that stores nothing.
+fn tell_passing<R: AllocGlobal + Print + Threads + Sync>(rt: &R) -> Result<(), Fault> {
+    let totals = totals_of_passing(rt)?;
+    println!(rt;
+        "{UNSTORED},{},{},{}",
+        totals.accepted, totals.sent, totals.queued
+    )?;
     Ok(())
 }
 
@@ -137,5 +155,8 @@ fn tell_workloads(rt: &impl Print) -> Result<(), Fault> {
         "senders_1, senders_2, senders_4: so many threads send through a locked port and one takes; it prints name,packets,packets a second"
     )?;
     println!(rt; "lanes_1, lanes_2, lanes_4: the same through lanes")?;
+    println!(rt;
+        "{UNSTORED}: 5,000,000 packets through two lanes, where neither events nor steps are stored; it prints name,accepted,sent,queued"
+    )?;
     Ok(())
 }

@@ -1,0 +1,93 @@
+//! Many packets through lanes, with neither events nor steps stored: the memory that it takes stays level meanwhile.
+
+use crate::lanes::{params, take_all};
+use crate::timing::{Fault, SEED, packet_to};
+use packet_core::{Ecn, Packet};
+use port_core::{Device, LaneSender, Opened, lanes_with_keepers};
+use sched_core::{Step, Totals, Unstored};
+use std::alloc::{AllocError, Global};
+use std::thread::{self, Threads};
+
+/// So many packets in all.
+pub const PASSING: u64 = 5_000_000;
+
+/// So many senders have the same number of them each.
+const SENDERS: u32 = 2;
+
+/// A lane has room for so many.
+const CAPACITY: u32 = 1_024;
+
+/// A sender tries so often at most, so that it ends where no thread can be made for the device.
+const MAX_TRIES: u64 = 1_000_000_000;
+
+/// A device that stores neither its events nor its steps.
+type Passing = Device<Unstored, Unstored<Step>>;
+
+/// What became of the packets.
+pub fn totals_of_passing<R: AllocGlobal + Threads + Sync>(rt: &R) -> Result<Totals, Fault> {
+    let packet = packet_to(0, Ecn::NotEct)?;
+    let opened = open(rt.alloc())?;
+    let (sent, device) = at_once(rt, opened, packet);
+    let totals = device.engine().totals();
+    sent?;
+    Ok(totals)
+}
+
+/// The lanes.
+fn open(alloc: Global) -> Result<Opened<Unstored, Unstored<Step>>, Fault> {
+    lanes_with_keepers(
+        alloc,
+        params()?,
+        SEED,
+        SENDERS,
+        CAPACITY,
+        Unstored::new(),
+        Unstored::new(),
+    )
+    .ok()
+    .ok_or(Fault::Memory)
+}
+
+/// The device takes packets while the senders submit theirs.
+fn at_once<R: Threads + Sync>(
+    rt: &R,
+    opened: Opened<Unstored, Unstored<Step>>,
+    packet: Packet,
+) -> (Result<(), AllocError>, Passing) {
+    let Opened { senders, device } = opened;
+    let senders = move || send_all(rt, senders, packet);
+    thread::join(rt, senders, move || take_all(device, PASSING))
+}
+
+/// Each lane's sender has a thread of its own.
+fn send_all<R: Threads + Sync>(
+    rt: &R,
+    senders: Vec<LaneSender>,
+    packet: Packet,
+) -> Result<(), AllocError> {
+    let send = move |sender: LaneSender| send_share(sender, packet);
+    thread::map_vec(rt, senders, &send)?;
+    Ok(())
+}
+
+/// Submits a sender's share of the packets. Where the lane is full, it tries again with the packet that came back.
+fn send_share(sender: LaneSender, packet: Packet) {
+    let mut sender = sender;
+    let mut next = packet;
+    let mut left = PASSING / u64::from(SENDERS);
+    for _ in 0..MAX_TRIES {
+        if left == 0 {
+            break;
+        }
+        match sender.submit(next) {
+            Ok(()) => {
+                left = left.saturating_sub(1);
+                next = packet;
+            }
+            Err(full) => {
+                next = full.0;
+                thread::yield_now();
+            }
+        }
+    }
+}
