@@ -1,16 +1,21 @@
 //! How long packets take through lanes, and what the parts of that take.
 
-ghost use Rattle.std.specs.Prelude.{◌≤◌, ◌<◌};
+ghost use Rattle.std.specs.Prelude.{◌≡◌, ◌≤◌, ◌<◌};
 ghost use denote.Param.Send.{IsSync};
 
 use crate::timing::{Fault, REPETITIONS, SEED, START, nanoseconds_since, now, packet_to};
 use crate::workload::ROUNDS;
 use packet_core::{Ecn, Packet, ParamFields, Params};
-use port_core::{Device, LaneDone, LaneSender, Open, Opened, lanes, send_lane};
+use port_core::{
+    BookBlank, BookName, Device, LaneDone, LaneSender, Layout, LeftRight, Open, Opened, Screen,
+    Shown, lanes, send_lane,
+};
 use rtrb::{Producer, RingBuffer};
 use sched_core::{Engine, Event, Keeps, Step};
-use std::alloc::{AllocError, Global};
+use std::alloc::AllocError;
+use std::marker::Brand;
 use std::rt::Clock;
+use std::sync::Wait;
 use std::thread::{self, Threads};
 
 /// The most packets that wait: all.
@@ -39,14 +44,14 @@ pub enum LanePart {
 }
 
 /// The least time that the part took for all packets of a repetition, in nanoseconds.
-pub fn least_of_part<R: AllocGlobal + Clock>(rt: &R, part: LanePart) -> Result<u128, Fault> {
+pub fn least_of_part<R: AllocGlobal + Clock + Wait>(rt: &R, part: LanePart) -> Result<u128, Fault> {
     let packet = packet_to(0, Ecn::NotEct)?;
     let mut least = u128::MAX;
     for _ in 0..REPETITIONS {
         let took = match part {
             LanePart::Push => pushing(rt, packet)?,
-            LanePart::Submit => submitting(rt, packet)?,
-            LanePart::Pump => pumping(rt, packet)?,
+            LanePart::Submit => submitting::<Brand, _>(rt, BookBlank::new(), packet)?,
+            LanePart::Pump => pumping::<Brand, _>(rt, BookBlank::new(), packet)?,
             LanePart::Enqueue => enqueuing(rt, packet)?,
         };
         least = least.min(took);
@@ -62,11 +67,21 @@ pub fn params() -> Result<Params, Fault> {
     })?)
 }
 
-/// So many lanes, each with room for all packets.
-fn open(alloc: Global, number: u32) -> Result<Opened, Fault>
-    requires { (0 < number) × (number ≤ 4) }
+/// So many lanes, each with room for all packets, to a device without monitors.
+fn open<'a, J: BookName, R: AllocGlobal + Wait>(
+    rt: &'a R,
+    blank: BookBlank,
+    number: u32,
+) -> Result<Opened<J, LeftRight<Shown<J>, &'a R>>, Fault>
+    requires book { blank ≡ J.book }
+    requires number { (0 < number) × (number ≤ 4) }
 {
-    lanes(alloc, params()?, SEED, number, ROUNDS)
+    let layout = Layout {
+        lanes: number,
+        capacity: ROUNDS,
+        monitors: 0,
+    };
+    lanes(rt, rt.alloc(), blank, params()?, SEED, layout)
         .ok()
         .ok_or(Fault::Memory)
 }
@@ -90,11 +105,27 @@ fn push_all(producer: &mut Producer<Packet>, packet: Packet) -> bool {
 }
 
 /// The time in which the packets are submitted to a lane.
-fn submitting<R: AllocGlobal + Clock>(rt: &R, packet: Packet) -> Result<u128, Fault> {
+fn submitting<J: BookName, R: AllocGlobal + Clock + Wait>(
+    rt: &R,
+    blank: BookBlank,
+    packet: Packet,
+) -> Result<u128, Fault>
+    requires { blank ≡ J.book }
+{
+    submitting_to(rt, open::<J, R>(rt, blank, 1)?, packet)
+}
+
+/// The same, to the first of lanes that were opened.
+fn submitting_to<J: BookName, X: Screen<Shown<J>> + Drop, R: Clock>(
+    rt: &R,
+    opened: Opened<J, X>,
+    packet: Packet,
+) -> Result<u128, Fault> {
     let Opened {
         mut senders,
         device: _device,
-    } = open(rt.alloc(), 1)?;
+        monitors: _monitors,
+    } = opened;
     let begun = now(rt);
     let is_done = submit_all(&mut senders, packet);
     nanoseconds_since(rt, begun, is_done)
@@ -114,11 +145,27 @@ fn submit_all(senders: &mut Vec<LaneSender>, packet: Packet) -> bool {
 }
 
 /// The time in which the packets are pumped out of a lane.
-fn pumping<R: AllocGlobal + Clock>(rt: &R, packet: Packet) -> Result<u128, Fault> {
+fn pumping<J: BookName, R: AllocGlobal + Clock + Wait>(
+    rt: &R,
+    blank: BookBlank,
+    packet: Packet,
+) -> Result<u128, Fault>
+    requires { blank ≡ J.book }
+{
+    pumping_from(rt, open::<J, R>(rt, blank, 1)?, packet)
+}
+
+/// The same, out of the first of lanes that were opened.
+fn pumping_from<J: BookName, X: Screen<Shown<J>> + Drop, R: Clock>(
+    rt: &R,
+    opened: Opened<J, X>,
+    packet: Packet,
+) -> Result<u128, Fault> {
     let Opened {
         mut senders,
         mut device,
-    } = open(rt.alloc(), 1)?;
+        monitors: _monitors,
+    } = opened;
     let submitted = submit_all(&mut senders, packet);
     let begun = now(rt);
     let is_done = submitted && pump_out(&mut device);
@@ -126,7 +173,7 @@ fn pumping<R: AllocGlobal + Clock>(rt: &R, packet: Packet) -> Result<u128, Fault
 }
 
 /// Pumps the packets out of the first lane. It answers whether all came.
-fn pump_out(device: &mut Device) -> bool {
+fn pump_out<J: BookName, X: Screen<Shown<J>> + Drop>(device: &mut Device<J, X>) -> bool {
     for _ in 0..=u64::from(ROUNDS) / BURST {
         if !pump_one(device, 0) {
             return false;
@@ -136,7 +183,10 @@ fn pump_out(device: &mut Device) -> bool {
 }
 
 /// Pumps that lane once. It answers whether there is such a lane, and memory.
-fn pump_one<K: Keeps<Event>, S: Keeps<Step>>(device: &mut Device<K, S>, lane: u32) -> bool {
+fn pump_one<J: BookName, X: Screen<Shown<J>> + Drop, K: Keeps<Event>, S: Keeps<Step>>(
+    device: &mut Device<J, X, K, S>,
+    lane: u32,
+) -> bool {
     lane < device.lanes() && device.pump(lane, MOMENT, BURST).is_ok()
 }
 
@@ -159,7 +209,7 @@ fn enqueue_all(engine: &mut Engine, packet: Packet) -> bool {
 }
 
 /// The least time that so many senders and the device took for all packets of a repetition, in nanoseconds.
-pub fn least_through_lanes<R: AllocGlobal + Clock + Threads + Sync>(
+pub fn least_through_lanes<R: AllocGlobal + Clock + Threads + Wait + Sync>(
     rt: &R,
     senders: u32,
 ) -> Result<u128, Fault>
@@ -169,30 +219,47 @@ pub fn least_through_lanes<R: AllocGlobal + Clock + Threads + Sync>(
     let packets = vec![in rt.alloc(); packet; (ROUNDS / senders) as usize]?;
     let mut least = u128::MAX;
     for _ in 0..REPETITIONS {
-        least = least.min(through_lanes(rt, open(rt.alloc(), senders)?, &packets)?);
+        least = least.min(opened_lanes::<Brand, _>(rt, BookBlank::new(), senders, &packets)?);
     }
     Ok(least)
 }
 
-/// The time in which each sender's packets go through its lane and out of the device.
-fn through_lanes<R: Clock + Threads + Sync>(
+/// The time that they took once.
+fn opened_lanes<J: BookName, R: AllocGlobal + Clock + Threads + Wait + Sync>(
     rt: &R,
-    opened: Opened,
+    blank: BookBlank,
+    senders: u32,
+    packets: &[Packet],
+) -> Result<u128, Fault>
+    requires book { blank ≡ J.book }
+    requires number { (0 < senders) × (senders ≤ 4) }
+{
+    through_lanes(rt, open::<J, R>(rt, blank, senders)?, packets)
+}
+
+/// The time in which each sender's packets go through its lane and out of the device.
+fn through_lanes<J: BookName, X: Screen<Shown<J>> + Drop, R: Clock + Threads + Sync>(
+    rt: &R,
+    opened: Opened<J, X>,
     packets: &[Packet],
 ) -> Result<u128, Fault> {
-    let Opened { senders, device } = opened;
+    let Opened {
+        senders,
+        device,
+        monitors: _monitors,
+    } = opened;
     let begun = now(rt);
     let (done, device) = at_once(rt, senders, packets, device);
     nanoseconds_since(rt, begun, done.is_ok() && has_sent_all(&device))
 }
 
 /// The device takes packets while the senders submit theirs.
-fn at_once<R: Threads + Sync>(
+fn at_once<J: BookName, X: Screen<Shown<J>> + Drop, R: Threads + Sync>(
     rt: &R,
     senders: Vec<LaneSender>,
     packets: &[Packet],
-    device: Device,
-) -> (Result<Vec<LaneDone>, AllocError>, Device) {
+    device: Device<J, X>,
+) -> (Result<Vec<LaneDone>, AllocError>, Device<J, X>) {
     let senders = move || -> Result<Vec<LaneDone>, AllocError>
         requires { IsSync R.row }
     { send_all(rt, senders, packets) };
@@ -210,15 +277,15 @@ fn send_all<R: Threads + Sync>(
 }
 
 /// Whether all packets of a repetition were sent.
-fn has_sent_all(device: &Device) -> bool {
+fn has_sent_all<J: BookName, X: Screen<Shown<J>> + Drop>(device: &Device<J, X>) -> bool {
     device.engine().totals().sent == u64::from(ROUNDS)
 }
 
 /// The device takes packets until it has sent so many, or is refused, or has looked too often.
-pub fn take_all<K: Keeps<Event>, S: Keeps<Step>>(
-    device: Device<K, S>,
+pub fn take_all<J: BookName, X: Screen<Shown<J>> + Drop, K: Keeps<Event>, S: Keeps<Step>>(
+    device: Device<J, X, K, S>,
     packets: u64,
-) -> Device<K, S> {
+) -> Device<J, X, K, S> {
     let mut device = device;
     for _ in 0..MAX_LOOKS {
         if device.engine().totals().sent == packets || !take_some(&mut device) {
@@ -229,7 +296,9 @@ pub fn take_all<K: Keeps<Event>, S: Keeps<Step>>(
 }
 
 /// Pumps each lane once, and sends what waits then. It answers whether nothing was refused.
-fn take_some<K: Keeps<Event>, S: Keeps<Step>>(device: &mut Device<K, S>) -> bool {
+fn take_some<J: BookName, X: Screen<Shown<J>> + Drop, K: Keeps<Event>, S: Keeps<Step>>(
+    device: &mut Device<J, X, K, S>,
+) -> bool {
     for lane in 0..device.lanes() {
         if !pump_one(device, lane) {
             return false;

@@ -100,7 +100,7 @@ fn measure_settling<R: AllocGlobal + Clock + Print + Wait>(rt: &R) -> Result<(),
 }
 
 /// Tells what became of the packets of a run through lanes that stores nothing.
-fn tell_passing<R: AllocGlobal + Print + Threads + Sync>(rt: &R) -> Result<(), Fault> {
+fn tell_passing<R: AllocGlobal + Print + Threads + Wait + Sync>(rt: &R) -> Result<(), Fault> {
     let totals = totals_of_passing(rt)?;
     println!(rt;
         "{UNSTORED},{},{},{}",

@@ -1,11 +1,17 @@
 //! Many packets through lanes, with neither events nor steps stored: the memory that it takes stays level meanwhile.
 
+ghost use Rattle.std.specs.Prelude.{◌≡◌};
+
 use crate::lanes::{params, take_all};
 use crate::timing::{Fault, SEED, packet_to};
 use packet_core::{Ecn, Packet};
-use port_core::{Device, LaneSender, Opened, lanes_with_keepers};
+use port_core::{
+    BookBlank, BookName, Device, LaneSender, Layout, Opened, Screen, Shown, lanes_with_keepers,
+};
 use sched_core::{Step, Totals, Unstored};
-use std::alloc::{AllocError, Global};
+use std::alloc::AllocError;
+use std::marker::Brand;
+use std::sync::Wait;
 use std::thread::{self, Threads};
 
 /// So many packets in all.
@@ -21,40 +27,64 @@ const CAPACITY: u32 = 1_024;
 const MAX_TRIES: u64 = 1_000_000_000;
 
 /// A device that stores neither its events nor its steps.
-type Passing = Device<Unstored, Unstored<Step>>;
+type Passing<J, X> = Device<J, X, Unstored, Unstored<Step>>;
 
 /// What became of the packets.
-pub fn totals_of_passing<R: AllocGlobal + Threads + Sync>(rt: &R) -> Result<Totals, Fault> {
+pub fn totals_of_passing<R: AllocGlobal + Threads + Wait + Sync>(rt: &R) -> Result<Totals, Fault> {
+    pass::<Brand, _>(rt, BookBlank::new())
+}
+
+/// Opens the lanes, and has the packets go through them.
+fn pass<J: BookName, R: AllocGlobal + Threads + Wait + Sync>(
+    rt: &R,
+    blank: BookBlank,
+) -> Result<Totals, Fault>
+    requires { blank ≡ J.book }
+{
     let packet = packet_to(0, Ecn::NotEct)?;
-    let opened = open(rt.alloc())?;
+    let layout = Layout {
+        lanes: SENDERS,
+        capacity: CAPACITY,
+        monitors: 0,
+    };
+    let opened = lanes_with_keepers::<J, _, _, _>(
+        rt,
+        rt.alloc(),
+        blank,
+        params()?,
+        SEED,
+        layout,
+        Unstored::new(),
+        Unstored::new(),
+    )
+    .ok()
+    .ok_or(Fault::Memory)?;
+    passed(rt, opened, packet)
+}
+
+/// Has the packets go through lanes that were opened.
+fn passed<J: BookName, X: Screen<Shown<J>> + Drop, R: Threads + Sync>(
+    rt: &R,
+    opened: Opened<J, X, Unstored, Unstored<Step>>,
+    packet: Packet,
+) -> Result<Totals, Fault> {
     let (sent, device) = at_once(rt, opened, packet);
     let totals = device.engine().totals();
     sent?;
     Ok(totals)
 }
 
-/// The lanes.
-fn open(alloc: Global) -> Result<Opened<Unstored, Unstored<Step>>, Fault> {
-    lanes_with_keepers(
-        alloc,
-        params()?,
-        SEED,
-        SENDERS,
-        CAPACITY,
-        Unstored::new(),
-        Unstored::new(),
-    )
-    .ok()
-    .ok_or(Fault::Memory)
-}
-
 /// The device takes packets while the senders submit theirs.
-fn at_once<R: Threads + Sync>(
+fn at_once<J: BookName, X: Screen<Shown<J>> + Drop, R: Threads + Sync>(
     rt: &R,
-    opened: Opened<Unstored, Unstored<Step>>,
+    opened: Opened<J, X, Unstored, Unstored<Step>>,
     packet: Packet,
-) -> (Result<(), AllocError>, Passing) {
-    let Opened { senders, device } = opened;
+) -> (Result<(), AllocError>, Passing<J, X>) {
+    let Opened {
+        senders,
+        device,
+        monitors: _monitors,
+    } = opened;
     let senders = move || send_all(rt, senders, packet);
     thread::join(rt, senders, move || take_all(device, PASSING))
 }

@@ -1,5 +1,5 @@
 -- What follows from the kinds of error that a command line has.
-use Rattle.std.proofs.Common.{◌≡◌, ◌≢◌, ◌≤◌, ℕ, true, List, inl, inr, Box, Option, Some, None, Result, Ok, Err, String, Global, arith, ◌+◌, box_value, option_map, refl, rules, subst}
+use Rattle.std.proofs.Common.{◌≡◌, ◌≢◌, ◌≤◌, ◌<◌, ◌^◌, ℕ, true, List, inl, inr, Box, Option, Some, None, Result, Ok, Err, String, Global, arith, ◌+◌, box_value, option_map, refl, rules, subst}
 use Rattle.std.specs.Str.Parse.{ParsesUnsigned, digits_value, without_leading_plus}
 use Rattle.clap.specs.Words.{App, HasKind, IsAmong, Kinds, Text, fault_of, is_simple, is_simple_and_free, kind_of}
 use Rattle.clap.specs.Matches.{ReadsOne}
@@ -12,7 +12,7 @@ use Rattle.clap.specs.declared.parser.matches.ArgMatches.TheViews.{out-SubComman
 use Rattle.clap.specs.declared.error.kind.ErrorKind.{ErrorKind}
 use Rattle.clap.specs.declared.error.kind.ErrorKind.TheVariants.{DisplayHelp, OutOfMemory}
 use Rattle.std.specs.Prelude.{IfErr, IsErrAnd}
-use Rattle.command_core.specs.CommandLine.{IsSenderCount, program_line}
+use Rattle.command_core.specs.CommandLine.{IsCount, program_line}
 use Rattle.command_core.specs.declared.command_line.CommandFault.{CommandFault}
 use Rattle.command_core.specs.declared.command_line.CommandFault.TheVariants.{Memory, Mistake}
 
@@ -56,31 +56,32 @@ pub name_beside : {Z : Type 0} (found : Option (Box SubCommand Z))
 name_beside (Some b) = refl
 name_beside None = refl
 
--- a number that was read, from 1 to 64
-pub senders_read : {E : Type 0} (Gives : List ℕ → Result ℕ E → Type 0) (text : Option (List ℕ)) (n : ℕ)
+-- a number that was read, in its range
+pub count_read : {E : Type 0} (Gives : List ℕ → Result ℕ E → Type 0) (least most standard : ℕ) (text : Option (List ℕ)) (n : ℕ)
     → ((u : List ℕ) (x : Result ℕ E) → Gives u x → ParsesUnsigned 32 10 u x)
     → (text ≡ None → Some n ≡ None) → ((t : List ℕ) → text ≡ Some t → ReadsOne Gives t (Some n))
-    → 1 ≤ n → n ≤ 64 → IsSenderCount text n
-senders_read Gives text n parses none reads low high = record {
+    → least ≤ n → n ≤ most → IsCount least most standard text n
+count_read Gives least most standard text n parses none reads low high = record {
   said = λ digits is within. (parses digits (Ok n) (reads digits is)).1;
-  standard = λ is. absurd (search (rules, none is));
+  unsaid = λ is. absurd (search (rules, none is));
   range = (low, high);
 }
 
 -- where no such number was read, none was said
-pub senders_unread : {E : Type 0} (Gives : List ℕ → Result ℕ E → Type 0) (text : Option (List ℕ)) (read : Option ℕ)
+pub count_unread : {E : Type 0} (Gives : List ℕ → Result ℕ E → Type 0) (least most standard : ℕ) (text : Option (List ℕ)) (read : Option ℕ)
+    → most < 2 ^ 32 → (least ≤ standard) × (standard ≤ most)
     → ((u : List ℕ) (x : Result ℕ E) → Gives u x → ParsesUnsigned 32 10 u x)
     → ((t : List ℕ) → text ≡ Some t → ReadsOne Gives t read)
-    → ((n : ℕ) → read ≡ Some n → 1 ≤ n → n ≤ 64 → n ≡ n + 1) → IsSenderCount text 2
-senders_unread {E} Gives text read parses reads outside = record {
+    → ((n : ℕ) → read ≡ Some n → least ≤ n → n ≤ most → n ≡ n + 1) → IsCount least most standard text standard
+count_unread {E} Gives least most standard text read small fits parses reads outside = record {
   said = λ digits is within. absurd (go digits read refl (reads digits is) within);
-  standard = λ is. refl;
-  range = (omega arith, omega arith);
+  unsaid = λ is. refl;
+  range = fits;
 }
   where
-    go : (t : List ℕ) (r : Option ℕ) → read ≡ r → ReadsOne Gives t r → IsUnsignedIn 1 64 t → ⊥
+    go : (t : List ℕ) (r : Option ℕ) → read ≡ r → ReadsOne Gives t r → IsUnsignedIn least most t → ⊥
     go t (Some n) e h within =
         let is : n ≡ digits_value 10 (without_leading_plus t) = (parses t (Ok n) h).1 in
         let never = outside n e (omega (arith, is, within.2)) (omega (arith, is, within.3)) in
         omega (arith, never)
-    go t None e h within = parses t (Err h.0) h.1 (within.0, omega (arith, within.3))
+    go t None e h within = parses t (Err h.0) h.1 (within.0, omega (arith, within.3, small))

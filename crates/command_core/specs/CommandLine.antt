@@ -25,6 +25,14 @@ senders_option = record (new_rule (codes "senders")) {
   parser = Some (value_parser.Signed (pos 1) (pos 64));
 }
 
+-- `--monitors M`, a number from 0 to 64
+abbrev pub monitors_option : Rule
+monitors_option = record (new_rule (codes "monitors")) {
+  long = Some (codes "monitors");
+  value_names = 1;
+  parser = Some (value_parser.Signed (pos 0) (pos 64));
+}
+
 -- `[PARAM]...`
 abbrev pub parameter_argument : Rule
 parameter_argument = record (new_rule (codes "PARAM")) { action = Some Append }
@@ -41,9 +49,9 @@ senders_line name = with_rule (with_rule (with_rule (new_app name) seed_option) 
 abbrev pub locked_line : App
 locked_line = senders_line (codes "locked")
 
--- `lanes [--seed HEX32] [--senders N] [PARAM]...`
+-- `lanes [--seed HEX32] [--senders N] [--monitors M] [PARAM]...`
 abbrev pub lanes_line : App
-lanes_line = senders_line (codes "lanes")
+lanes_line = with_rule (senders_line (codes "lanes")) monitors_option
 
 -- the words behind the program's name: one of three subcommands, which has to be there
 abbrev pub program_line : App
@@ -88,13 +96,25 @@ pub record IsRunRequest (rows : List Row) (run : RunRequest) : Type 0 where
 abbrev pub senders_text : List Text → Option Text
 senders_text words = one_of (codes "senders") (run_rows words)
 
--- The number of senders that a text says, if it is one from 1 to 64, and 2 where there is none. The command line takes
--- no other text.
-pub record IsSenderCount (text : Option Text) (senders : ℕ) : Type 0 where
-  pub said : (digits : Text) → text ≡ Some digits → IsUnsignedIn 1 64 digits
-      → senders ≡ digits_value 10 (without_leading_plus digits)
-  pub standard : text ≡ None → senders ≡ 2
-  pub range : (1 ≤ senders) × (senders ≤ 64)
+-- The number that a text says, if it is one from the least to the most, and the standard one where there is no text.
+-- The command line takes no other text.
+pub record IsCount (least most standard : ℕ) (text : Option Text) (count : ℕ) : Type 0 where
+  pub said : (digits : Text) → text ≡ Some digits → IsUnsignedIn least most digits
+      → count ≡ digits_value 10 (without_leading_plus digits)
+  pub unsaid : text ≡ None → count ≡ standard
+  pub range : (least ≤ count) × (count ≤ most)
+
+-- the number of senders: 1 to 64, and 2 where the words don't say
+abbrev pub IsSenderCount : Option Text → ℕ → Type 0
+IsSenderCount = IsCount 1 64 2
+
+-- the text behind `--monitors`, where there is one
+abbrev pub monitors_text : List Text → Option Text
+monitors_text words = one_of (codes "monitors") (run_rows words)
+
+-- the number of monitors: 0 to 64, and none where the words don't say
+abbrev pub IsMonitorCount : Option Text → ℕ → Type 0
+IsMonitorCount = IsCount 0 64 0
 
 -- the words are those of a run
 abbrev pub AsksForRun : List Text → Type 0

@@ -1,8 +1,8 @@
 //! The words behind the program's name, read by `clap`.
-ghost use Rattle.std.specs.Prelude.{◌≡◌, ◌≢◌, [], IfErr, IfOk, Some, codes, false, map, option_map, true, unwrap_or};
+ghost use Rattle.std.specs.Prelude.{◌≡◌, ◌≢◌, ◌≤◌, [], IfErr, IfOk, Some, codes, false, map, option_map, true, unwrap_or};
 ghost use Rattle.clap.specs.Words.{all_of, app_of, first_of, found_of, kind_of, one_of, rows_of, rule_of, subcommand_name_of};
 ghost use Rattle.clap.specs.declared.builder.command.Command.TheViews.{out-Command as fields_of};
-ghost use Rattle.command_core.specs.CommandLine.{AsksForHelp, AsksForLanes, AsksForLocked, AsksForTrace, IsMistake, IsRunRequest, IsSenderCount, parameter_argument, parameter_words, program_line, rows_behind, seed_option, seed_text, senders_line, senders_option, senders_text, trace_line};
+ghost use Rattle.command_core.specs.CommandLine.{AsksForHelp, AsksForLanes, AsksForLocked, AsksForTrace, IsCount, IsMistake, IsMonitorCount, IsRunRequest, IsSenderCount, lanes_line, monitors_option, monitors_text, parameter_argument, parameter_words, program_line, rows_behind, seed_option, seed_text, senders_line, senders_option, senders_text, trace_line};
 
 use crate::manual;
 use clap::error::ErrorKind;
@@ -14,6 +14,9 @@ pub const MAX_SENDERS: u32 = 64;
 
 /// So many senders where the words don't say.
 pub const STANDARD_SENDERS: u32 = 2;
+
+/// At most so many monitors.
+pub const MAX_MONITORS: u32 = 64;
 
 /// The run of a trace, as it was asked for.
 #[derive(Debug, Drop)]
@@ -33,6 +36,15 @@ pub struct SendersRequest<'a> {
     pub senders: u32,
 }
 
+/// The run of a trace by senders with a lane each, as it was asked for.
+#[derive(Debug, Drop)]
+pub struct LanesRequest<'a> {
+    /// The run and its senders.
+    pub by: SendersRequest<'a>,
+    /// How many monitors read its statistics meanwhile, 0 to 64.
+    pub monitors: u32,
+}
+
 /// What the words ask for.
 #[derive(Debug, Drop)]
 pub enum Request<'a> {
@@ -41,7 +53,7 @@ pub enum Request<'a> {
     /// The run of a trace by senders that are threads and share the scheduler.
     Locked(SendersRequest<'a>),
     /// The run of a trace by senders that are threads with a lane each.
-    Lanes(SendersRequest<'a>),
+    Lanes(LanesRequest<'a>),
     /// Help, with its text.
     Help(String),
 }
@@ -84,11 +96,13 @@ pub fn parse<'a>(alloc: Global, words: &'a [&'a str]) -> Result<Request<'a>, Com
     ensures lanes { IfOk result (λ r. (lanes : _) → r ≡ Request.Lanes lanes
         → AsksForLanes (map (λ w. w.now) words.entry.now)) }
     ensures lanes_seed { IfOk result (λ r. (lanes : _) → r ≡ Request.Lanes lanes
-        → option_map (λ s. s.now) lanes.run.seed ≡ seed_text (map (λ w. w.now) words.entry.now)) }
+        → option_map (λ s. s.now) lanes.by.run.seed ≡ seed_text (map (λ w. w.now) words.entry.now)) }
     ensures lanes_parameters { IfOk result (λ r. (lanes : _) → r ≡ Request.Lanes lanes
-        → map (λ w. w.now) lanes.run.parameters.items ≡ parameter_words (map (λ w. w.now) words.entry.now)) }
+        → map (λ w. w.now) lanes.by.run.parameters.items ≡ parameter_words (map (λ w. w.now) words.entry.now)) }
     ensures lanes_senders { IfOk result (λ r. (lanes : _) → r ≡ Request.Lanes lanes
-        → IsSenderCount (senders_text (map (λ w. w.now) words.entry.now)) lanes.senders) }
+        → IsSenderCount (senders_text (map (λ w. w.now) words.entry.now)) lanes.by.senders) }
+    ensures monitors { IfOk result (λ r. (lanes : _) → r ≡ Request.Lanes lanes
+        → IsMonitorCount (monitors_text (map (λ w. w.now) words.entry.now)) lanes.monitors) }
     ensures help { IfOk result (λ r. (text : _) → r ≡ Request.Help text
         → AsksForHelp (map (λ w. w.now) words.entry.now)) }
     ensures mistake { IfErr result (λ fault. (text : _) → fault ≡ CommandFault.Mistake text
@@ -127,8 +141,10 @@ fn request_of<'a>(alloc: Global, matches: &ArgMatches<'a>) -> Result<Request<'a>
         → (subcommand_name_of matches.now ≡ Some (codes "locked")) × IsRunRequest (rows_behind matches.now) locked.run
         × IsSenderCount (one_of (codes "senders") (rows_behind matches.now)) locked.senders) }
     ensures lanes { IfOk result (λ r. (lanes : _) → r ≡ Request.Lanes lanes
-        → (subcommand_name_of matches.now ≡ Some (codes "lanes")) × IsRunRequest (rows_behind matches.now) lanes.run
-        × IsSenderCount (one_of (codes "senders") (rows_behind matches.now)) lanes.senders) }
+        → (subcommand_name_of matches.now ≡ Some (codes "lanes"))
+        × IsRunRequest (rows_behind matches.now) lanes.by.run
+        × IsSenderCount (one_of (codes "senders") (rows_behind matches.now)) lanes.by.senders
+        × IsMonitorCount (one_of (codes "monitors") (rows_behind matches.now)) lanes.monitors) }
     ensures help { IfOk result (λ r. (text : _) → r ≡ Request.Help text → ⊥) }
 {
     let run = run_request(alloc, matches)?;
@@ -137,8 +153,12 @@ fn request_of<'a>(alloc: Global, matches: &ArgMatches<'a>) -> Result<Request<'a>
         return Ok(Request::Locked(SendersRequest { run, senders }));
     }
     if let Some(found) = matches.subcommand_matches("lanes") {
-        let senders = sender_count(found);
-        return Ok(Request::Lanes(SendersRequest { run, senders }));
+        let by = SendersRequest {
+            run,
+            senders: sender_count(found),
+        };
+        let monitors = monitor_count(found);
+        return Ok(Request::Lanes(LanesRequest { by, monitors }));
     }
     Ok(Request::Trace(run))
 }
@@ -171,10 +191,25 @@ fn run_request<'a>(alloc: Global, matches: &ArgMatches<'a>) -> Result<RunRequest
 fn sender_count(matches: &ArgMatches<'_>) -> u32
     ensures { IsSenderCount (one_of (codes "senders") (rows_of (found_of matches.now))) result }
 {
-    match matches.get_one::<u32>("senders") {
-        Some(senders) if (1..=MAX_SENDERS).contains(&senders) => senders,
-        // `clap` refuses what is no number from 1 to 64, so here none was given.
-        _ => STANDARD_SENDERS,
+    count_of(matches, "senders", 1, MAX_SENDERS, STANDARD_SENDERS)
+}
+
+/// How many monitors the matches of a subcommand ask for.
+fn monitor_count(matches: &ArgMatches<'_>) -> u32
+    ensures { IsMonitorCount (one_of (codes "monitors") (rows_of (found_of matches.now))) result }
+{
+    count_of(matches, "monitors", 0, MAX_MONITORS, 0)
+}
+
+/// The number that the matches of a subcommand have for an option, and the standard one where it wasn't given.
+fn count_of(matches: &ArgMatches<'_>, option: &str, least: u32, most: u32, standard: u32) -> u32
+    requires { (least ≤ standard) × (standard ≤ most) }
+    ensures { IsCount least most standard (one_of option.now (rows_of (found_of matches.now))) result }
+{
+    match matches.get_one::<u32>(option) {
+        Some(count) if (least..=most).contains(&count) => count,
+        // `clap` refuses what is no number from the least to the most, so here none was given.
+        _ => standard,
     }
 }
 
@@ -190,13 +225,7 @@ fn program_command<'a>(alloc: Global) -> Result<Command<'a>, AllocError>
         manual::LOCKED_DESCRIPTION,
         manual::LOCKED_NOTES,
     )?;
-    let lanes = senders_command(
-        alloc,
-        "lanes",
-        manual::LANES_SUMMARY,
-        manual::LANES_DESCRIPTION,
-        manual::LANES_NOTES,
-    )?;
+    let lanes = lanes_command(alloc)?;
     let named = Command::new(alloc, "fqsim").bin_name("fqsim")?;
     let command = named
         .no_binary_name(true)
@@ -234,6 +263,19 @@ fn senders_argument<'a>(alloc: Global) -> Arg<'a>
         .value_parser(clap::value_parser!(u32).range(1..=64))
         .help(manual::SENDERS_SUMMARY)
         .long_help(manual::SENDERS_DESCRIPTION)
+}
+
+/// `--monitors M`
+fn monitors_argument<'a>(alloc: Global) -> Arg<'a>
+    ensures rule { rule_of result ≡ monitors_option }
+    ensures local { result.global ≡ false }
+{
+    Arg::new(alloc, "monitors")
+        .long("monitors")
+        .value_name("M")
+        .value_parser(clap::value_parser!(u32).range(0..=64))
+        .help(manual::MONITORS_SUMMARY)
+        .long_help(manual::MONITORS_DESCRIPTION)
 }
 
 /// `[PARAM]...`
@@ -281,4 +323,19 @@ fn senders_command<'a>(
         .arg(seed_argument(alloc))?
         .arg(senders_argument(alloc))?
         .arg(parameter_argument(alloc))
+}
+
+/// The subcommand that runs a trace by senders with a lane each.
+fn lanes_command<'a>(alloc: Global) -> Result<Command<'a>, AllocError>
+    ensures line { IfOk result (λ r. app_of r ≡ lanes_line) }
+    ensures local { IfOk result (λ r. (fields_of r).has_globals ≡ false) }
+{
+    let command = senders_command(
+        alloc,
+        "lanes",
+        manual::LANES_SUMMARY,
+        manual::LANES_DESCRIPTION,
+        manual::LANES_NOTES,
+    )?;
+    command.arg(monitors_argument(alloc))
 }

@@ -6,5 +6,8 @@ mod command_line;
 mod manual;
 mod seed;
 
-pub use command_line::{CommandFault, MAX_SENDERS, Request, RunRequest, SendersRequest, parse};
+pub use command_line::{
+    CommandFault, LanesRequest, MAX_MONITORS, MAX_SENDERS, Request, RunRequest, SendersRequest,
+    parse,
+};
 pub use seed::{ZERO_SEED, read_seed};

@@ -52,6 +52,14 @@ pub const SENDERS_DESCRIPTION: &str = "\
 Number of senders, 1 to 64: the packets of flow F belong to sender
 F modulo N [default: 2]";
 
+/// What the number of monitors is, in a line.
+pub const MONITORS_SUMMARY: &str = "Number of monitors, 0 to 64 [default: 0]";
+
+/// What the number of monitors is.
+pub const MONITORS_DESCRIPTION: &str = "\
+Number of monitors, 0 to 64: threads that read the run's
+statistics while it lasts [default: 0]";
+
 /// How senders and the main thread share a trace, and the journal.
 pub const LOCKED_NOTES: &str = "\
 Parameters, seed and trace are those of 'fqsim trace --help'.
@@ -98,10 +106,10 @@ pub const LANES_DESCRIPTION: &str = "\
 Read a trace from standard input, make its steps with a new scheduler that the
 device alone uses, and write the journal to standard output. Each packet that
 comes in is submitted by one of N senders, each a thread of its own with a lane
-to the device; the device is the main thread, which takes packets from the
-lanes, asks for packets and closes meanwhile. No sender waits for a lock. The
-whole trace is read, and the whole run made, before the first byte of the
-journal is written.";
+to the device; the device is a thread too, which takes packets from the lanes,
+asks for packets and closes meanwhile. No sender waits for a lock. The whole
+trace is read, and the whole run made, before the first byte of the journal is
+written.";
 
 /// How senders and the device share a trace, and what differs in the journal.
 pub const LANES_NOTES: &str = "\
@@ -123,6 +131,16 @@ row closed it, and packets are taken at the last moment until none waits.
 Of a row 'sender', SUBMITTED counts the packets that the sender submitted,
 ACCEPTED those of its lane that were accepted, and LEFT those that stand in the
 lane at the end, behind the close.
+
+With M above 0 the device publishes its statistics at each 'deq' row and at the
+end. Each monitor, a thread of its own, reads without a lock what was published
+last, until the run has ended, and the last thing that it saw is told on
+standard error, by rising number:
+
+  monitor I EVENTS ACCEPTED SENT DROPPED QUEUED
+                           after the first EVENTS things that happened, so many
+                           packets had been accepted, sent and dropped, and so
+                           many waited
 
 How many packets stand in a lane when it is pumped is up to the machine, so two
 runs of one trace may write different journals: in which packets of a lane are

@@ -1,19 +1,23 @@
 -- What a device keeps of its lanes, from step to step, and pumps, packet by packet.
-use Rattle.std.proofs.Common.{◌≡◌, ◌≢◌, ◌∙◌, ◌==◌, ℕ, zero, suc, ◌<◌, List, [], ◌∷◌, ◌++◌, cond, length, refl, ap, sym, subst, append-nil, arith, ⊎_elim, length-set, Result, Ok, Err, IfOk, OnOk, OnErr, Option, Some, slice_get}
+use Rattle.std.proofs.Common.{◌≡◌, ◌≢◌, ◌∙◌, ◌==◌, ℕ, zero, suc, ◌<◌, List, [], ◌∷◌, ◌++◌, cond, length, refl, ap, sym, subst, append-nil, ◌⊎◌, arith, ⊎_elim, length-set, Result, Ok, Err, IfOk, OnOk, OnErr, Option, Some, slice_get}
 use Rattle.std.specs.Prelude.{slice_index_or, slice_set}
 use Rattle.std.proofs.lemmas.Bool.Decides.{eqb_tells}
 use Rattle.std.proofs.lemmas.Bool.{eq-eqb, ne_eqb}
 use Rattle.std.proofs.lemmas.List.{get_or_default, get_or-set_other, get_or-set_same}
 use Rattle.std.proofs.Math.Seq.{map-set_same}
+use mathlib.Core.List.{IsPrefix}
 use Rattle.packet_core.specs.Packets.{PacketParts}
 use Rattle.journal_core.specs.declared.event.Event.{Event}
 use Rattle.journal_core.specs.declared.outcome.Answer.TheVariants as answer
 use Rattle.journal_core.specs.declared.step.Refusal.{Refusal}
 use Rattle.journal_core.specs.declared.step.Sent.{Sent}
 use Rattle.journal_core.specs.declared.step.Step.TheVariants.{Close, Enqueue}
+use Rattle.monitor_core.specs.Publishing.{Published}
+use Rattle.monitor_core.specs.declared.publisher.PublishFault.{PublishFault}
+use Rattle.monitor_core.proofs.PrefixLemmas.{prefix_behind, prefix_same}
 use Rattle.sched_core.specs.Engines.{Running}
 use Rattle.sched_core.specs.Schedulers.{IsAdvanced, IsServed, discipline_of}
-use Rattle.port_core.specs.Devices.{AreNewLanes, Holding, KeepsLanes, Takes, rings_of}
+use Rattle.port_core.specs.Devices.{AreNewLanes, BeginsJournal, Holding, KeepsLanes, Takes, rings_of}
 use Rattle.port_core.specs.Lanes.{GivesPackets, LaneView, RingId, Sending, accepted}
 use Rattle.port_core.proofs.LaneLemmas.{grows_accepted, stays_closed, stays_served}
 
@@ -32,6 +36,39 @@ pub keeps_close : (old new : Running) (moment : ℕ) (r : Result Unit Refusal) (
 keeps_close old new moment (Ok _) lanes made same k =
     keeps_same old.sched.standing.events new.sched.standing.events lanes (stays_closed (discipline_of old.sched) old.sched.standing new.sched.standing moment made.advances) k
 keeps_close old new moment (Err why) lanes made same k = subst (λ (e : Running). KeepsLanes e.sched.standing.events lanes) (sym same) k
+
+-- events that follow leave beginnings as they are
+begins_more : (p : Published) (old new more : List Event) → new ≡ old ++ more → BeginsJournal p old → BeginsJournal p new
+begins_more p old new more journal b = record { shown = prefix_behind p.shown old new more journal b.shown; reached = prefix_behind p.reached old new more journal b.reached }
+
+pub begins_dequeue : (p : Published) (old new : Running) (moment : ℕ) (r : Result (Option Sent) Refusal) → IfOk r (λ sent. IsServed old.sched moment sent new.sched) → OnErr r (new ≡ old)
+    → BeginsJournal p old.sched.standing.events → BeginsJournal p new.sched.standing.events
+begins_dequeue p old new moment (Ok sent) made same b = begins_more p old.sched.standing.events new.sched.standing.events made.gives.made made.gives.journal b
+begins_dequeue p old new moment (Err why) made same b = subst (λ (e : Running). BeginsJournal p e.sched.standing.events) (sym same) b
+
+pub begins_close : (p : Published) (old new : Running) (moment : ℕ) (r : Result Unit Refusal) → OnOk r (IsAdvanced old.sched (Close moment) answer.Closed new.sched) → OnErr r (new ≡ old)
+    → BeginsJournal p old.sched.standing.events → BeginsJournal p new.sched.standing.events
+begins_close p old new moment (Ok _) made same b = begins_more p old.sched.standing.events new.sched.standing.events made.advances.made made.advances.journal b
+begins_close p old new moment (Err why) made same b = subst (λ (e : Running). BeginsJournal p e.sched.standing.events) (sym same) b
+
+pub begins_take : (p : Published) (old new : Running) (lane now : ℕ) (packet : PacketParts) → IsAdvanced old.sched (Enqueue now lane packet) answer.Accepted new.sched
+    → BeginsJournal p old.sched.standing.events → BeginsJournal p new.sched.standing.events
+begins_take p old new lane now packet made b = begins_more p old.sched.standing.events new.sched.standing.events made.advances.made made.advances.journal b
+
+-- whatever a publish answers, what is shown begins the journal
+pub begins_publish : (old new : Published) (events : List Event) (r : Result (List Event) PublishFault) → OnOk r (new.shown ≡ events) → OnErr r (new.shown ≡ old.shown)
+    → (new.reached ≡ old.reached) ⊎ (new.reached ≡ events) → BeginsJournal old events → BeginsJournal new events
+begins_publish old new events r done refused reached b = record {
+  shown = begun r done refused;
+  reached = ⊎_elim (λ same. subst (λ (xs : List Event). IsPrefix xs events) (sym same) b.reached) (λ all. prefix_same new.reached events all) reached;
+}
+  where
+    begun : (r : Result (List Event) PublishFault) → OnOk r (new.shown ≡ events) → OnErr r (new.shown ≡ old.shown) → IsPrefix new.shown events
+    begun (Ok _) done refused = prefix_same new.shown events done
+    begun (Err _) done refused = subst (λ (xs : List Event). IsPrefix xs events) (sym refused) b.shown
+
+pub begins_nothing : (p : Published) → p.shown ≡ [] → p.reached ≡ [] → BeginsJournal p []
+begins_nothing p shown reached = record { shown = prefix_same p.shown [] shown; reached = prefix_same p.reached [] reached }
 
 -- a look at a lane takes nothing out of it
 pub keeps_look : (events : List Event) (lanes : List LaneView) (lane : ℕ) (l e : LaneView) → lane < length lanes → KeepsLanes events lanes → l.received ≡ (slice_index_or lanes lane e).received → KeepsLanes events (slice_set lanes lane l)
@@ -64,15 +101,16 @@ keeps_take old new lanes lane now p l e there k more made = record {
     other i apart = grown i ∙ ap (λ b. accepted i old.sched.standing.events ++ cond b (p ∷ []) []) (ne_eqb lane i apart) ∙ append-nil (accepted i old.sched.standing.events)
 
 -- and so the device takes it
-pub takes_packet : (h : Holding) (old new : Running) (lanes : List LaneView) (lane now : ℕ) (p : PacketParts) (l e : LaneView) → h ≡ record { engine = old; lanes = lanes } → lane < length lanes
+pub takes_packet : (h : Holding) (old new : Running) (lanes : List LaneView) (shown : Published) (lane now : ℕ) (p : PacketParts) (l e : LaneView) → h ≡ record { engine = old; lanes = lanes; published = shown } → lane < length lanes
     → e ≡ slice_index_or lanes lane e → GivesPackets e (p ∷ []) l → IsAdvanced old.sched (Enqueue now lane p) answer.Accepted new.sched → new.steps ≡ old.steps ++ Enqueue now lane p ∷ []
-    → Takes h lane now (record { engine = new; lanes = slice_set lanes lane l })
-takes_packet h old new lanes lane now p l e is there stands gives made steps = rw is (record {
+    → Takes h lane now (record { engine = new; lanes = slice_set lanes lane l; published = shown })
+takes_packet h old new lanes shown lane now p l e is there stands gives made steps = rw is (record {
   packet = p;
   made = made;
   steps = steps;
   gives = λ d. rw (get_or-set_same lanes lane l d there, get_or_default lanes lane d e there, sym stands) gives;
   others = λ i d apart. get_or-set_other lanes lane i l d apart;
+  published = refl;
 })
 
 -- the rings stay

@@ -49,6 +49,7 @@ pumps_none h lane now = record {
   accepted = λ from. sym (ap (λ ps. accepted from h.engine.sched.standing.events ++ ps) (nothing (lane == from)) ∙ append-nil (accepted from h.engine.sched.standing.events));
   gives = λ d. gives_none (slice_index_or h.lanes lane d);
   others = λ i d apart. refl;
+  published = refl;
   params = refl;
   seed = refl;
   turns = refl;
@@ -69,6 +70,7 @@ pumps_more old mid new lane now k p t = record {
       ∙ ap (λ ps. accepted from old.engine.sched.standing.events ++ ps) (accepts_more own p.packets t.packet);
   gives = λ d. gives_more (slice_index_or old.lanes lane d) (slice_index_or mid.lanes lane d) (slice_index_or new.lanes lane d) p.packets t.packet (p.gives d) (t.gives d);
   others = λ i d apart. t.others i d apart ∙ p.others i d apart;
+  published = t.published ∙ p.published;
   params = t.made.params ∙ p.params;
   seed = t.made.seed ∙ p.seed;
   turns = t.made.turns ∙ p.turns;

@@ -1,5 +1,6 @@
 -- A device as callers see it.
 use Rattle.std.specs.Prelude.{◌≡◌, ◌≢◌, ◌≤◌, ◌<◌, ◌==◌, ℕ, ◌+◌, ◌^◌, true, false, List, [], ◌∷◌, ◌++◌, Option, Some, None, if◌then◌else◌, length, map, min, nat_lt, slice_index_or}
+use mathlib.Core.List.{IsPrefix}
 use Rattle.packet_core.specs.Packets.{PacketParts}
 use Rattle.journal_core.specs.State.{State, first_of_two, refusal_of}
 use Rattle.journal_core.specs.declared.event.Event.{Event}
@@ -7,14 +8,16 @@ use Rattle.journal_core.specs.declared.outcome.Answer.TheVariants as answer
 use Rattle.journal_core.specs.declared.step.Refusal.{Refusal}
 use Rattle.journal_core.specs.declared.step.Refusal.TheVariants.{Exhausted}
 use Rattle.journal_core.specs.declared.step.Step.TheVariants.{Close, Enqueue}
+use Rattle.monitor_core.specs.Publishing.{Published}
 use Rattle.sched_core.specs.Engines.{Running}
 use Rattle.sched_core.specs.Schedulers.{IsAdvanced}
 use Rattle.port_core.specs.Lanes.{GivesPackets, LaneView, RingId, Sending, accepted}
 
--- a device: its engine, and its ends of the lanes, in the order of their numbers
+-- a device: its engine, its ends of the lanes, in the order of their numbers, and what it published
 pub record Holding : Type 0 where
   pub engine : Running
   pub lanes : List LaneView
+  pub published : Published
 
 -- the rings, in the order of the lanes
 abbrev pub rings_of : List LaneView → List RingId
@@ -25,6 +28,11 @@ rings_of lanes = map (λ l. l.ring) lanes
 pub record KeepsLanes (events : List Event) (lanes : List LaneView) : Type 0 where
   pub each : (i : ℕ) (d : LaneView) → i < length lanes → (slice_index_or lanes i d).received ≡ accepted i events
   pub no_other : (i : ℕ) → length lanes ≤ i → accepted i events ≡ []
+
+-- What is shown, and what stands in the book of what is shown, is a beginning of the journal.
+pub record BeginsJournal (p : Published) (events : List Event) : Type 0 where
+  pub shown : IsPrefix p.shown events
+  pub reached : IsPrefix p.reached events
 
 -- Why a pump of so many packets is refused, if it is, apart from want of memory: as a close is, and then where fewer
 -- ids are left.
@@ -47,6 +55,7 @@ pub record Takes (old : Holding) (lane now : ℕ) (new : Holding) : Type 0 where
   pub gives : (d : LaneView)
       → GivesPackets (slice_index_or old.lanes lane d) (packet ∷ []) (slice_index_or new.lanes lane d)
   pub others : (i : ℕ) (d : LaneView) → i ≢ lane → slice_index_or new.lanes i d ≡ slice_index_or old.lanes i d
+  pub published : new.published ≡ old.published
 
 -- The next packets of a lane are accepted at the moment, one after the other, by a step each.
 pub record Pumps (old : Holding) (lane now k : ℕ) (new : Holding) : Type 0 where
@@ -58,6 +67,7 @@ pub record Pumps (old : Holding) (lane now k : ℕ) (new : Holding) : Type 0 whe
   pub gives : (d : LaneView)
       → GivesPackets (slice_index_or old.lanes lane d) packets (slice_index_or new.lanes lane d)
   pub others : (i : ℕ) (d : LaneView) → i ≢ lane → slice_index_or new.lanes i d ≡ slice_index_or old.lanes i d
+  pub published : new.published ≡ old.published
   pub params : new.engine.sched.params ≡ old.engine.sched.params
   pub seed : new.engine.sched.seed ≡ old.engine.sched.seed
   pub turns : new.engine.sched.turns ≡ old.engine.sched.turns

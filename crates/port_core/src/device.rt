@@ -1,91 +1,96 @@
 //! The device: it owns an engine and the other end of every sender's lane. No sender waits for it or for another
 //! sender.
 
-ghost use Rattle.std.specs.Prelude.{◌≡◌, ◌≤◌, ◌<◌, [], IfOk};
-ghost use Rattle.sched_core.specs.Engines.{new_engine};
-ghost use Rattle.port_core.specs.Devices.{AreNewEnds, AreNewLanes};
-
+use crate::engine_journal::EngineJournal;
 use crate::lane::Lane;
-use crate::lane_sender::{LaneEnd, LaneSender};
-use packet_core::{Params, Seed};
-use rtrb::RingBuffer;
+use crate::lane_sender::LaneEnd;
+use monitor_core::{BookName, PublishFault, Publisher, Receipt, Screen, Shown};
 use sched_core::{Engine, Event, Keeps, MAX_ACCEPTED, Memory, Refusal, Sent, Step, Stored};
-use std::alloc::{AllocError, Global};
 use std::marker::Model;
 
 /// At most so many lanes.
 pub const MAX_LANES: u32 = 64;
 
-/// A lane has room for at most so many packets.
-pub const MAX_CAPACITY: u32 = 1 << 20;
-
 /// A pump takes at most so many packets.
 pub const MAX_BURST: u64 = 1024;
 
-/// An engine with the device's end of each lane: at every moment the packets that came out of a lane are those that the
-/// engine accepted from it. The engine tells its events and its steps to keepers, which store all of them unless others
-/// are chosen. Contracts see the engine and the lanes.
+/// An engine with the device's end of each lane, and what shows its statistics to monitors. At every moment the packets
+/// that came out of a lane are those that the engine accepted from it, and what is shown is a beginning of its journal.
+/// The engine tells its events and its steps to keepers, which store all of them unless others are chosen. Contracts see
+/// the engine, the lanes and what was published.
 #[derive(Drop)]
-pub struct Device<K: Keeps<Event> = Stored, S: Keeps<Step> = Stored<Step>> {
+pub struct Device<
+    J: BookName,
+    X: Screen<Shown<J>> + Drop,
+    K: Keeps<Event> = Stored,
+    S: Keeps<Step> = Stored<Step>,
+> {
     engine: Engine<K, S>,
     lanes: Vec<Lane>,
+    publisher: Publisher<J, X>,
 }
 
-impl<K: Keeps<Event>, S: Keeps<Step>> Model for Device<K, S> {
+impl<J: BookName, X: Screen<Shown<J>> + Drop, K: Keeps<Event>, S: Keeps<Step>> Model
+    for Device<J, X, K, S> {
     ghost use Rattle.std.specs.Prelude.{◌≤◌, length};
-    ghost use Rattle.port_core.specs.Devices.{Holding, KeepsLanes};
+    ghost use Rattle.port_core.specs.Devices.{BeginsJournal, Holding, KeepsLanes};
     ghost use Rattle.port_core.specs.declared.device.TheConstants.{MAX_LANES};
 
     ghost Value = { Holding };
 
-    ghost view = { λ d. record { engine = d.engine; lanes = d.lanes.items } };
+    ghost view = { λ d. record { engine = d.engine; lanes = d.lanes.items; published = d.publisher } };
 
     ghost invariant = { λ d. KeepsLanes d.engine.sched.standing.events d.lanes.items
-        × (length d.lanes.items ≤ MAX_LANES) };
+        × (length d.lanes.items ≤ MAX_LANES) × BeginsJournal d.publisher d.engine.sched.standing.events };
 }
 
-/// Lanes with both of their ends.
-#[derive(Drop)]
-pub struct Opened<K: Keeps<Event> = Stored, S: Keeps<Step> = Stored<Step>> {
-    /// The senders, in the order of their lanes.
-    pub senders: Vec<LaneSender>,
-    /// The device.
-    pub device: Device<K, S>,
-}
-
-/// Why lanes aren't opened.
-#[derive(Clone, Copy, Debug, PartialEq, Eq)]
-pub enum OpenFault {
-    /// A growth was refused.
-    Memory,
-}
-
-impl From<AllocError> for OpenFault {
-    ghost use Rattle.std.specs.Prelude.{◌≡◌};
-    ghost use Rattle.port_core.specs.declared.device.OpenFault.TheVariants as open_fault;
-
-    ghost from_gives = { λ _ fault. fault ≡ open_fault.Memory };
-
-    fn from(_: AllocError) -> OpenFault {
-        OpenFault::Memory
-    }
-}
-
-impl<K: Keeps<Event>, S: Keeps<Step>> Device<K, S> {
+impl<J: BookName, X: Screen<Shown<J>> + Drop, K: Keeps<Event>, S: Keeps<Step>> Device<J, X, K, S> {
+    ghost use mathlib.Core.List.{IsPrefix};
     ghost use Rattle.std.specs.Prelude.{◌≡◌, ◌≢◌, ◌≤◌, ◌<◌, ◌-◌, ◌++◌, ◌∷◌, [], ℕ, IfErr, IfOk, MatchBool, None, OnErr, OnOk, Some, false, length, max, slice_get, slice_index_or, true};
     ghost use Rattle.journal_core.specs.State.{IsRefusal, refusal_of};
     ghost use Rattle.journal_core.specs.declared.outcome.Answer.TheVariants as answer;
     ghost use Rattle.journal_core.specs.declared.step.Step.TheVariants.{Close, Dequeue};
     ghost use Rattle.sched_core.specs.Schedulers.{ComparesFew, IsAdvanced, IsServed};
-    ghost use Rattle.port_core.specs.Devices.{KeepsLanes, MayAccept, Pumps, Takes, TakesAllLeft, pump_refusal_of, rings_of};
+    ghost use Rattle.port_core.specs.Devices.{BeginsJournal, KeepsLanes, MayAccept, Pumps, Takes, TakesAllLeft, pump_refusal_of, rings_of};
     ghost use Rattle.port_core.specs.Lanes.{LaneView, accepted};
 
-    /// The engine. From each lane it has accepted what the device took out of it, in order.
+    /// A device over an engine without steps and new lanes.
+    #[tactic(auto, using(crate::proofs::DeviceLemmas::begins_nothing))]
+    pub(crate) fn new(
+        engine: Engine<K, S>,
+        lanes: Vec<Lane>,
+        publisher: Publisher<J, X>,
+    ) -> Device<J, X, K, S>
+        requires events { engine.sched.standing.events ≡ [] }
+        requires lanes { KeepsLanes [] lanes.items }
+        requires number { length lanes.items ≤ MAX_LANES }
+        requires published { (publisher.shown ≡ []) × (publisher.reached ≡ []) }
+        ensures { result ≡ record { engine = engine; lanes = lanes.items; published = publisher } }
+    {
+        Device {
+            engine,
+            lanes,
+            publisher,
+        }
+    }
+
+    /// The engine. From each lane it has accepted what the device took out of it, in order, and what is shown is a
+    /// beginning of its journal.
     pub fn engine(&self) -> &Engine<K, S>
         ensures value { result.now ≡ self.now.engine }
         ensures lanes { KeepsLanes result.now.sched.standing.events self.now.lanes }
+        ensures shown { IsPrefix self.now.published.shown result.now.sched.standing.events }
     {
         &self.engine
+    }
+
+    /// The engine, which outlives the device: monitors go on with what was published last.
+    pub fn into_engine(self) -> Engine<K, S>
+        ensures value { result ≡ self.engine }
+        ensures lanes { KeepsLanes result.sched.standing.events self.lanes }
+    {
+        let Device { engine, .. } = self;
+        engine
     }
 
     /// How many lanes there are.
@@ -113,7 +118,7 @@ impl<K: Keeps<Event>, S: Keeps<Step>> Device<K, S> {
 
     /// Gives the packet that is next in turn, as `Engine::dequeue` does.
     pub fn dequeue(&mut self, moment: u64) -> Result<Option<Sent>, Refusal>
-        ensures lanes { self.new.lanes ≡ self.old.lanes }
+        ensures rest { (self.new.lanes ≡ self.old.lanes) × (self.new.published ≡ self.old.published) }
         ensures made { IfOk result (λ sent. IsServed self.old.engine.sched moment sent self.new.engine.sched) }
         ensures steps { OnOk result (self.new.engine.steps ≡ self.old.engine.steps ++ Dequeue moment ∷ []) }
         ensures room { OnOk result (self.new.engine.room ≡ self.old.engine.room - 1) }
@@ -128,9 +133,8 @@ impl<K: Keeps<Event>, S: Keeps<Step>> Device<K, S> {
     }
 
     /// From here on nothing is accepted, as by `Engine::close`. What stands in the lanes then stays there.
-    #[tactic(auto, using(crate::proofs::DeviceLemmas::keeps_close))]
     pub fn close(&mut self, moment: u64) -> Result<(), Refusal>
-        ensures lanes { self.new.lanes ≡ self.old.lanes }
+        ensures rest { (self.new.lanes ≡ self.old.lanes) × (self.new.published ≡ self.old.published) }
         ensures made { OnOk result (IsAdvanced self.old.engine.sched
             (Close moment) answer.Closed self.new.engine.sched) }
         ensures steps { OnOk result (self.new.engine.steps ≡ self.old.engine.steps ++ Close moment ∷ []) }
@@ -145,6 +149,26 @@ impl<K: Keeps<Event>, S: Keeps<Step>> Device<K, S> {
         self.engine.close(moment)
     }
 
+    /// Shows all events so far to the monitors at once, and answers a receipt that stands for them. Where memory is
+    /// refused they are shown what they were shown before, and the events stay due for the next publish. It waits for
+    /// monitors that are just reading, and its cost doesn't grow with the journal.
+    #[tactic(auto, using(crate::proofs::DeviceLemmas::begins_publish))]
+    pub fn publish(&mut self) -> Result<Receipt<J>, PublishFault>
+        ensures shown { OnOk result (self.new.published.shown ≡ self.old.engine.sched.standing.events) }
+        ensures receipt { IfOk result (λ receipt. receipt ≡ self.old.engine.sched.standing.events) }
+        ensures refused { OnErr result (self.new.published.shown ≡ self.old.published.shown) }
+        ensures rest { (self.new.engine ≡ self.old.engine) × (self.new.lanes ≡ self.old.lanes) }
+    {
+        self.publisher.publish(&EngineJournal::new(&self.engine))
+    }
+
+    /// The receipt of the last publish that wasn't refused. It stands for no event before the first.
+    pub fn receipt(&self) -> Receipt<J>
+        ensures shown { result ≡ self.now.published.shown }
+    {
+        self.publisher.receipt()
+    }
+
     /// Settles a lane by its sender's end, and answers how many packets are left in it: what was submitted is what was
     /// accepted, and then what is left. From here until the close each pump that isn't refused takes as many of them as
     /// its burst allows.
@@ -157,7 +181,7 @@ impl<K: Keeps<Event>, S: Keeps<Step>> Device<K, S> {
         ensures settled { (d : LaneView) → (slice_index_or self.new.lanes lane d).settled ≡ true }
         ensures others { (i : ℕ) (d : LaneView) → i ≢ lane
             → slice_index_or self.new.lanes i d ≡ slice_index_or self.old.lanes i d }
-        ensures engine { self.new.engine ≡ self.old.engine }
+        ensures rest { (self.new.engine ≡ self.old.engine) × (self.new.published ≡ self.old.published) }
         ensures rings { rings_of self.new.lanes ≡ rings_of self.old.lanes }
     {
         self.lanes[lane as usize].settle(end)
@@ -233,79 +257,4 @@ impl<K: Keeps<Event>, S: Keeps<Step>> Device<K, S> {
         };
         true
     }
-}
-
-/// Both ends of a lane.
-fn new_lane(alloc: Global, lane: u32, capacity: u32) -> Result<(LaneSender, Lane), AllocError>
-    ensures { IfOk result (λ ends. AreNewEnds ends.0 ends.1 lane) }
-{
-    let (producer, consumer) = RingBuffer::new(alloc, capacity as usize)?;
-    Ok((LaneSender::new(lane, producer), Lane::new(consumer)))
-}
-
-/// Both ends of so many lanes, in the order of their numbers.
-#[tactic(auto, using(crate::proofs::LaneLemmas::lanes_none))]
-fn new_lanes(
-    alloc: Global,
-    number: u32,
-    capacity: u32,
-) -> Result<(Vec<LaneSender>, Vec<Lane>), AllocError>
-    ensures { IfOk result (λ ends. AreNewLanes ends.0.items ends.1.items number) }
-{
-    let mut senders = Vec::new(alloc);
-    let mut lanes = Vec::new(alloc);
-    for next in 0..number {
-        let (sender, lane) = new_lane(alloc, next, capacity)?;
-        senders.push(sender)?;
-        lanes.push(lane)?;
-    }
-    Ok((senders, lanes))
-}
-
-/// Opens so many lanes, 1 to 64, each with room for so many packets, 1 to 1,048,576: a sender for each, and a device
-/// whose engine has made no step. It fails for want of memory alone.
-pub fn lanes(
-    alloc: Global,
-    params: Params,
-    seed: Seed,
-    number: u32,
-    capacity: u32,
-) -> Result<Opened, OpenFault>
-    requires number { (0 < number) × (number ≤ MAX_LANES) }
-    requires capacity { (0 < capacity) × (capacity ≤ MAX_CAPACITY) }
-    ensures engine { IfOk result (λ o. o.device.engine ≡ new_engine params seed) }
-    ensures lanes { IfOk result (λ o. AreNewLanes o.senders.items o.device.lanes number) }
-{
-    lanes_with_keepers(
-        alloc,
-        params,
-        seed,
-        number,
-        capacity,
-        Stored::new(alloc),
-        Stored::new(alloc),
-    )
-}
-
-/// The same with a device whose engine tells its events and its steps to keepers that were told none.
-pub fn lanes_with_keepers<K: Keeps<Event>, S: Keeps<Step>>(
-    alloc: Global,
-    params: Params,
-    seed: Seed,
-    number: u32,
-    capacity: u32,
-    events: K,
-    steps: S,
-) -> Result<Opened<K, S>, OpenFault>
-    requires number { (0 < number) × (number ≤ MAX_LANES) }
-    requires capacity { (0 < capacity) × (capacity ≤ MAX_CAPACITY) }
-    requires events { K.told events ≡ [] }
-    requires steps { S.told steps ≡ [] }
-    ensures engine { IfOk result (λ o. o.device.engine ≡ new_engine params seed) }
-    ensures lanes { IfOk result (λ o. AreNewLanes o.senders.items o.device.lanes number) }
-{
-    let engine = Engine::try_with_keepers(alloc, params, seed, events, steps)?;
-    let (senders, lanes) = new_lanes(alloc, number, capacity)?;
-    let device = Device { engine, lanes };
-    Ok(Opened { senders, device })
 }

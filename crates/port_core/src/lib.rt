@@ -10,20 +10,24 @@
 #![tactic(auto)]
 
 mod device;
+mod engine_journal;
 mod front;
 mod gate;
 mod lane;
 mod lane_sender;
+mod opening;
 mod port;
 mod seat;
 mod sender;
 mod settling;
 
-pub use device::{
-    Device, MAX_BURST, MAX_CAPACITY, MAX_LANES, OpenFault, Opened, lanes, lanes_with_keepers,
-};
+pub use device::{Device, MAX_BURST, MAX_LANES};
 pub use gate::{Gate, Open, Stop};
 pub use lane_sender::{LaneDone, LaneEnd, LaneFull, LaneSender, send_lane};
+pub use monitor_core::{
+    BookBlank, BookName, LeftRight, Monitor, OpenFault, PublishFault, Receipt, Screen, Seen, Shown,
+};
+pub use opening::{Layout, MAX_CAPACITY, MAX_MONITORS, Opened, lanes, lanes_with_keepers};
 pub use port::{LockedPort, Unsettled, Why};
 pub use seat::{MAX_SEATS, PortSeat};
 pub use sender::{LockedDone, send_locked};

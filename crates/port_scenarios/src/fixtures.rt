@@ -4,7 +4,9 @@ ghost use Rattle.std.specs.Prelude.{◌≡◌, ◌≤◌, ◌<◌};
 ghost use Rattle.port_core.specs.Devices.{rings_of};
 
 use packet_core::{Classify, Ecn, FiveTuple, Ip, Packet, ParamFields, Params, Seed};
-use port_core::{Device, LaneFull, LaneSender, LockedPort, MAX_BURST, PortSeat};
+use port_core::{
+    BookName, Device, LaneFull, LaneSender, LockedPort, MAX_BURST, PortSeat, Screen, Shown,
+};
 use sched_core::{Admitted, Engine, Event, Keeps, Refusal, Step, Totals};
 use std::process::Abort;
 use std::sync::Wait;
@@ -103,9 +105,15 @@ pub(crate) fn submits<R: Abort>(
 }
 
 /// The device's pump of the lane at `now` is answered like that.
-pub(crate) fn pumps<K: Keeps<Event>, S: Keeps<Step>, R: Abort>(
+pub(crate) fn pumps<
+    J: BookName,
+    X: Screen<Shown<J>> + Drop,
+    K: Keeps<Event>,
+    S: Keeps<Step>,
+    R: Abort,
+>(
     rt: &R,
-    device: &mut Device<K, S>,
+    device: &mut Device<J, X, K, S>,
     lane: u32,
     now: u64,
     burst: u64,
@@ -119,9 +127,9 @@ pub(crate) fn pumps<K: Keeps<Event>, S: Keeps<Step>, R: Abort>(
 }
 
 /// Those packets were accepted and no other, told by their lanes and their destination ports, in order.
-pub(crate) fn are_accepted<R: Abort>(
+pub(crate) fn are_accepted<J: BookName, X: Screen<Shown<J>> + Drop, R: Abort>(
     rt: &R,
-    device: &Device,
+    device: &Device<J, X>,
     wanted: &[(u32, u16)],
 ) -> Result<(), Fail> {
     let mut met = 0;

@@ -14,6 +14,7 @@ use Rattle.journal_core.specs.declared.step.Step.{Step}
 use Rattle.journal_core.specs.declared.step.Step.TheVariants.{Close}
 use Rattle.journal_core.specs.Runs.{IsRunOf}
 use Rattle.fair_core.specs.FqCodel.{fq_codel}
+use Rattle.sched_core.specs.Engines.{Running}
 use Rattle.sched_core.specs.Schedulers.{IsAdvanced, IsServed, discipline_of}
 use Rattle.port_core.proofs.LaneLemmas.{stays_closed, stays_served}
 use Rattle.port_core.specs.Devices.{AreNewLanes, Holding, KeepsLanes, Pumps, TakesAllLeft, rings_of}
@@ -22,7 +23,7 @@ use Rattle.port_core.specs.declared.gate.Stop.TheVariants as stop
 use Rattle.port_core.specs.declared.lane_sender.LaneDone.{LaneDone}
 use Rattle.trace_core.specs.declared.journal_report.SenderRow.{SenderRow}
 use Rattle.program_core.proofs.JournalLemmas.{member}
-use Rattle.program_core.specs.Journals.{AreCalls, AreLanesJournal, IsLaneDone, IsLaneRow, IsSameDevice, IsSent, calls_of, submitted_of}
+use Rattle.program_core.specs.Journals.{AreCalls, AreLaneRows, AreLanesJournal, IsLaneDone, IsLaneRow, IsSameDevice, IsSent, calls_of, submitted_of}
 
 -- a device with the same rings has as many lanes
 pub same_by : (old new : Holding) → rings_of new.lanes ≡ rings_of old.lanes → new.engine.sched.params ≡ old.engine.sched.params → new.engine.sched.seed ≡ old.engine.sched.seed → IsSameDevice old new
@@ -54,6 +55,9 @@ pub closed_same : (old new : Holding) (now : ℕ) (r : Result Unit Refusal) → 
 closed_same old new now (Ok _) made lanes same = same_by old new (ap rings_of lanes) made.params made.seed
 closed_same old new now (Err why) made lanes same = same_unchanged old new same
 
+pub published_same : (old new : Holding) → (new.engine ≡ old.engine) × (new.lanes ≡ old.lanes) → IsSameDevice old new
+published_same old new stays = same_by old new (ap rings_of stays.1) (ap (λ (e : Running). e.sched.params) stays.0) (ap (λ (e : Running). e.sched.seed) stays.0)
+
 pub served_accepts : (old new : Holding) (now : ℕ) (r : Result (Option Sent) Refusal) → IfOk r (λ sent. IsServed old.engine.sched now sent new.engine.sched) → OnErr r (new ≡ old)
     → (lane : ℕ) → accepted lane new.engine.sched.standing.events ≡ accepted lane old.engine.sched.standing.events
 served_accepts old new now (Ok sent) made same lane = stays_served (discipline_of old.engine.sched) old.engine.sched.standing new.engine.sched.standing now sent made.gives lane
@@ -64,7 +68,7 @@ pub closed_accepts : (old new : Holding) (now : ℕ) (r : Result Unit Refusal) �
 closed_accepts old new now (Ok _) made same lane = stays_closed (discipline_of old.engine.sched) old.engine.sched.standing new.engine.sched.standing now made.advances lane
 closed_accepts old new now (Err why) made same lane = ap (λ (h : Holding). accepted lane h.engine.sched.standing.events) same
 
-pub ruleset device_goes_on = (same_still, same_more, pumped_same, served_same, closed_same, served_accepts, closed_accepts)
+pub ruleset device_goes_on = (same_still, same_more, pumped_same, served_same, closed_same, published_same, served_accepts, closed_accepts)
 
 -- A settled lane, of which so many packets are left, since the device was another.
 pub record Emptying (old : Holding) (lane left : ℕ) (new : Holding) : Type 0 where
@@ -229,37 +233,49 @@ pub lists_number : (p : ParamFields) (seed : Seed) (n : ℕ) (steps : List Step)
 lists_number p seed n steps calls lists are listed =
     sym (length-map lists (λ (v : Vec PacketParts Global). v.items)) ∙ ap length listed ∙ length-map calls (λ (v : Vec (ℕ × PacketParts) Global). map (λ call. call.1) v.items) ∙ are.number
 
--- the journal of a run through lanes, by what its senders did and by its rows
-pub lanes_journal : (p : ParamFields) (seed : Seed) (n : ℕ) (steps : List Step) (calls : List (Vec (ℕ × PacketParts) Global)) (lists : List (Vec PacketParts Global)) (rings : List RingId)
-    (done : List LaneDone) (rows : List SenderRow) (device : Holding)
-    → AreCalls p seed n steps calls → map (λ l. l.items) lists ≡ map (λ l. map (λ call. call.1) l.items) calls
+-- the rows of the lanes, by what their senders did
+pub lane_rows : (lists : List (Vec PacketParts Global)) (rings : List RingId) (done : List LaneDone) (rows : List SenderRow) (device : Holding)
     → ((i : ℕ) (d : LaneDone) (l : Vec PacketParts Global) → i < length lists → IsSent rings i (slice_index_or lists i l).items (slice_index_or done i d))
     → length done ≡ length lists → length rows ≡ length done → All (λ d. (d.stop ≡ stop.Done) × (d.end ≢ None)) done
     → ((i : ℕ) (r : SenderRow) (d : LaneDone) → i < length done → IsLaneRow i (submitted_of (slice_index_or done i d).end) device.engine.sched.standing.events (slice_index_or rows i r))
-    → device.engine.sched.params ≡ p → device.engine.sched.seed ≡ seed → IsRunOf (discipline_of device.engine.sched) device.engine.steps device.engine.sched.standing
     → KeepsLanes device.engine.sched.standing.events device.lanes → length device.lanes ≡ length lists
-    → AreLanesJournal p seed n steps device.engine.sched.standing.events rows
-lanes_journal p seed n steps calls lists rings done rows device are listed sent done_number rows_number all each params_are seed_is run keeps lanes_number = record {
-  made = device.engine.steps;
-  standing = device.engine.sched.standing;
-  run = subst (λ (s : Seed). IsRunOf (fq_codel p s) device.engine.steps device.engine.sched.standing) seed_is
-      (subst (λ (q : ParamFields). IsRunOf (fq_codel q device.engine.sched.seed) device.engine.steps device.engine.sched.standing) params_are run);
+    → AreLaneRows lists device.engine.sched.standing.events rows
+lane_rows lists rings done rows device sent done_number rows_number all each keeps lanes_number = record {
+  number = rows_number ∙ done_number;
+  each = λ i r l less.
+      let finished : i < length done = omega (arith, less, done_number) in
+      let d = member done i finished in
+      let is_whole = all i d finished in
+      let packets : submitted_of (slice_index_or done i d).end ≡ (slice_index_or lists i l).items =
+      submitted_whole (slice_index_or done i d).end (slice_index_or lists i l).items is_whole.1 ((sent i d l less).whole is_whole.0) in
+      subst (λ ps. IsLaneRow i ps device.engine.sched.standing.events (slice_index_or rows i r)) packets (each i r d finished);
+  no_other = λ i past. keeps.no_other i (omega (arith, past, lanes_number));
+}
+
+-- the journal of a run through lanes, by its rows
+pub lanes_journal : (p : ParamFields) (seed : Seed) (n : ℕ) (steps : List Step) (calls : List (Vec (ℕ × PacketParts) Global)) (lists : List (Vec PacketParts Global))
+    (engine : Running) (rows : List SenderRow)
+    → AreCalls p seed n steps calls → map (λ l. l.items) lists ≡ map (λ l. map (λ call. call.1) l.items) calls
+    → AreLaneRows lists engine.sched.standing.events rows
+    → engine.sched.params ≡ p → engine.sched.seed ≡ seed → IsRunOf (discipline_of engine.sched) engine.steps engine.sched.standing
+    → AreLanesJournal p seed n steps engine.sched.standing.events rows
+lanes_journal p seed n steps calls lists engine rows are listed told params_are seed_is run = record {
+  made = engine.steps;
+  standing = engine.sched.standing;
+  run = subst (λ (s : Seed). IsRunOf (fq_codel p s) engine.steps engine.sched.standing) seed_is
+      (subst (λ (q : ParamFields). IsRunOf (fq_codel q engine.sched.seed) engine.steps engine.sched.standing) params_are run);
   journal = refl;
-  number = omega (arith, rows_number, done_number, as_many);
+  number = told.number ∙ as_many;
   each = λ i r less.
       let within : i < length lists = omega (arith, less, as_many) in
       let called : i < length calls = omega (arith, less, are.number) in
-      let finished : i < length done = omega (arith, within, done_number) in
       let l = member lists i within in
       let c = member calls i called in
-      let d = member done i finished in
-      let is_whole = all i d finished in
-      let packets : submitted_of (slice_index_or done i d).end ≡ map (λ call. call.1) (calls_of p seed n i steps) =
-      submitted_whole (slice_index_or done i d).end (slice_index_or lists i l).items is_whole.1 ((sent i d l within).whole is_whole.0)
-      ∙ sym (get_or-map (λ (v : Vec PacketParts Global). v.items) lists i l [] within) ∙ ap (λ xs. get_or xs i []) listed
+      let packets : (slice_index_or lists i l).items ≡ map (λ call. call.1) (calls_of p seed n i steps) =
+      sym (get_or-map (λ (v : Vec PacketParts Global). v.items) lists i l [] within) ∙ ap (λ xs. get_or xs i []) listed
       ∙ get_or-map (λ (v : Vec (ℕ × PacketParts) Global). map (λ call. call.1) v.items) calls i c [] called ∙ ap (map (λ call. call.1)) (are.each i c less) in
-      subst (λ ps. IsLaneRow i ps device.engine.sched.standing.events (slice_index_or rows i r)) packets (each i r d finished);
-  no_other = λ i past. keeps.no_other i (omega (arith, past, lanes_number, as_many));
+      subst (λ ps. IsLaneRow i ps engine.sched.standing.events (slice_index_or rows i r)) packets (told.each i r l within);
+  no_other = λ i past. told.no_other i (omega (arith, past, as_many));
 }
   where
     as_many : length lists ≡ n

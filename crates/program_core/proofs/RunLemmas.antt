@@ -78,3 +78,8 @@ answers_senders Are words input old new (Err e) seed_words given n seed_is given
 pub answers_so : {X E : Type 0} (r : Result X E) (A B : Type 0) → (A → B) → OnOk r A → OnOk r B
 answers_so (Ok x) A B so a = so a
 answers_so (Err e) A B so a = tt
+
+-- what holds anyway holds where there is no fault
+pub on_ok : {X E : Type 0} (r : Result X E) (P : Type 0) → P → OnOk r P
+on_ok (Ok x) P h = h
+on_ok (Err e) P h = tt

@@ -14,6 +14,7 @@ use Rattle.journal_core.specs.declared.step.Step.{Step}
 use Rattle.journal_core.specs.declared.step.Step.TheVariants.{Enqueue, Dequeue, Close}
 use Rattle.fair_core.specs.FairQueues.{FairQueues}
 use Rattle.fair_core.specs.FqCodel.{fq_codel}
+use Rattle.sched_core.specs.Engines.{Running}
 use Rattle.port_core.specs.Devices.{Holding, rings_of}
 use Rattle.port_core.specs.Lanes.{RingId, Sending, accepted}
 use Rattle.port_core.specs.Ports.{Seat, of_lane}
@@ -121,6 +122,21 @@ pub record IsLaneRow (lane : ℕ) (packets : List PacketParts) (events : List Ev
   pub submitted : row.submitted ≡ length packets
   pub accepted : accepted lane events ≡ take row.accepted packets
   pub left : row.accepted + row.left ≡ row.submitted
+
+-- The rows are those of the lanes to which these packets were submitted, a list for each. All that was accepted came out
+-- of one of them.
+pub record AreLaneRows (lists : List (Vec PacketParts Global)) (events : List Event) (rows : List SenderRow) : Type 0 where
+  pub number : length rows ≡ length lists
+  pub each : (i : ℕ) (r : SenderRow) (l : Vec PacketParts Global) → i < length lists
+      → IsLaneRow i (slice_index_or lists i l).items events (slice_index_or rows i r)
+  pub no_other : (i : ℕ) → length lists ≤ i → accepted i events ≡ []
+
+-- The engine is that of a device at its end, to whose lanes these packets were submitted, and the rows are theirs.
+pub record IsLanesRunOf (device : Holding) (lists : List (Vec PacketParts Global)) (engine : Running)
+    (told : List SenderRow) : Type 0 where
+  pub params : engine.sched.params ≡ device.engine.sched.params
+  pub seed : engine.sched.seed ≡ device.engine.sched.seed
+  pub rows : AreLaneRows lists engine.sched.standing.events told
 
 -- The events are those of some run with that seed and those parameters, into which a device took the packets of the
 -- steps from the lanes of so many senders, and the rows are theirs. All that was accepted came out of some lane.

@@ -5,7 +5,7 @@ use Rattle.packet_core.specs.Words.{params_of_words}
 use Rattle.packet_core.specs.declared.flow.Seed.{Seed}
 use Rattle.packet_core.specs.declared.params.ParamFields.{ParamFields}
 use Rattle.trace_core.specs.Report.{IsReportOf}
-use Rattle.command_core.specs.CommandLine.{AsksForHelp, AsksForLanes, AsksForLocked, AsksForTrace, IsSenderCount, parameter_words, seed_text, senders_text}
+use Rattle.command_core.specs.CommandLine.{AsksForHelp, AsksForLanes, AsksForLocked, AsksForTrace, IsMonitorCount, IsSenderCount, monitors_text, parameter_words, seed_text, senders_text}
 use Rattle.program_core.specs.Journals.{AreLanesJournal, AreLockedJournal, IsJournalOf, Journals}
 use Rattle.command_core.specs.Seeds.{seed_given}
 
@@ -88,3 +88,7 @@ Begins words input old new =
     ⊎ (AsksForLocked words × BeginsSenders AreLockedJournal words input old new)
     ⊎ (AsksForLanes words × BeginsSenders AreLanesJournal words input old new)
     ⊎ BeginsHelp words old new
+
+-- The words ask for no monitors: none is the only number of them that they say.
+abbrev pub IsUnwatched : List (List ℕ) → Type 0
+IsUnwatched words = (monitors : ℕ) → IsMonitorCount (monitors_text words) monitors → monitors ≡ 0

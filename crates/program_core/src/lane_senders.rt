@@ -2,7 +2,7 @@
 ghost use Rattle.std.specs.Prelude.{◌≡◌, ◌≤◌, ◌<◌, ℕ, IfErr, IfOk, length, map, slice_index_or};
 ghost use denote.Param.Send.{IsSync};
 ghost use Rattle.command_core.specs.declared.command_line.TheConstants.{MAX_SENDERS};
-ghost use Rattle.port_core.specs.declared.device.TheConstants.{MAX_CAPACITY};
+ghost use Rattle.port_core.specs.declared.opening.TheConstants.{MAX_CAPACITY};
 ghost use Rattle.program_core.specs.Faults.{IsLanesRunFault};
 ghost use Rattle.program_core.specs.Journals.{IsLaneDone};
 

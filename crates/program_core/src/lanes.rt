@@ -1,121 +1,229 @@
 //! The run of a trace by senders that are threads, through lanes into a device.
 ghost use Rattle.std.specs.Prelude.{◌≡◌, ◌≢◌, ◌≤◌, ◌<◌, ◌++◌, ◌⊎◌, ℕ, All, IfErr, IfOk, None, OnOk, length, map, option_map, slice_index_or, true};
 ghost use Rattle.std.specs.Io.KnownBytes.{Appends, Keeps};
-ghost use Rattle.command_core.specs.declared.command_line.TheConstants.{MAX_SENDERS};
-ghost use Rattle.port_core.specs.Devices.{rings_of};
+ghost use denote.Param.Send.{IsSync};
+ghost use Rattle.command_core.specs.declared.command_line.TheConstants.{MAX_MONITORS, MAX_SENDERS};
+ghost use Rattle.port_core.specs.Devices.{AreNewLanes, rings_of};
 ghost use Rattle.port_core.specs.Lanes.{LaneView, accepted};
 ghost use Rattle.port_core.specs.declared.gate.Stop.TheVariants as stop;
+ghost use Rattle.port_core.specs.declared.opening.TheConstants.{MAX_CAPACITY};
 ghost use Rattle.program_core.specs.Faults.{IsLanesFault, IsLanesRunFault};
-ghost use Rattle.program_core.specs.Journals.{AreLanesJournal, FitsLane, IsLaneRow, IsSameDevice, IsSent, submitted_of};
+ghost use Rattle.program_core.specs.Journals.{AreLaneRows, AreLanesJournal, FitsLane, IsLaneRow, IsLanesRunOf, IsSameDevice, submitted_of};
 ghost use Rattle.program_core.specs.Runs.{IsSendersRunFor};
 ghost use Rattle.program_core.specs.declared.program_run.ProgramFault.TheVariants as program_fault;
 
 use crate::lane_senders::{capacity_of, packets_of, start_lanes};
+use crate::monitors::{read_all, tell_seen};
 use crate::program_run::{ProgramFault, seed_given};
 use crate::senders::lists_of;
-use command_core::{MAX_SENDERS, SendersRequest};
+use command_core::{LanesRequest, MAX_MONITORS, MAX_SENDERS};
 use packet_core::{Packet, Params, Seed, read_params};
-use port_core::{Device, LaneDone, Open, Opened, Stop, lanes};
-use sched_core::{Refusal, Step};
-use std::alloc::Global;
+use port_core::{
+    BookBlank, BookName, Device, LaneDone, LaneSender, Layout, MAX_CAPACITY, Open, Opened,
+    PublishFault, Screen, Seen, Shown, Stop, lanes,
+};
+use sched_core::{Engine, Refusal, Step};
+use std::alloc::{AllocError, Global};
 use std::io::{Read, Write};
-use std::thread::Threads;
+use std::marker::{Brand, Send, Sync};
+use std::sync::Wait;
+use std::sync::atomic::{AtomicBool, Ordering};
+use std::thread::{self, Threads};
 use trace_core::{SenderRow, read_trace, write_journal};
 
 /// At each dequeue of the trace at most so many packets are taken from each lane.
 const BURST: u64 = 64;
 
 /// Reads a trace, makes its run through lanes, with the seed and the parameters that were asked for, and writes the
-/// journal. The seed is read first, then the parameters, then the trace.
-pub fn simulate_lanes<H: Threads + Sync, R: Read, W: Write>(
+/// journal; on `told` it tells what each monitor saw. The seed is read first, then the parameters, then the trace.
+pub fn simulate_lanes<H: Threads + Wait + Sync, R: Read, W: Write, F: Write>(
     rt: &H,
     alloc: Global,
-    request: &SendersRequest<'_>,
+    request: &LanesRequest<'_>,
     reader: &mut R,
     writer: &mut W,
+    told: &mut F,
 ) -> Result<(), ProgramFault>
-    requires { (0 < request.now.senders) × (request.now.senders ≤ MAX_SENDERS) }
-    ensures journal { OnOk result (IsSendersRunFor AreLanesJournal (option_map (λ s. s.now) request.now.run.seed)
-        (map (λ w. w.now) request.now.run.parameters.items) request.now.senders (R.remaining reader.old)
+    requires senders { (0 < request.now.by.senders) × (request.now.by.senders ≤ MAX_SENDERS) }
+    requires monitors { request.now.monitors ≤ MAX_MONITORS }
+    ensures journal { OnOk result (IsSendersRunFor AreLanesJournal (option_map (λ s. s.now) request.now.by.run.seed)
+        (map (λ w. w.now) request.now.by.run.parameters.items) request.now.by.senders (R.remaining reader.old)
         (λ text. Appends (W.contents writer.old) (W.contents writer.new) text)) }
-    ensures fault { IfErr result (IsLanesFault (option_map (λ s. s.now) request.now.run.seed)
-        (map (λ w. w.now) request.now.run.parameters.items) request.now.senders (R.remaining reader.old)
+    ensures fault { IfErr result (IsLanesFault (option_map (λ s. s.now) request.now.by.run.seed)
+        (map (λ w. w.now) request.now.by.run.parameters.items) request.now.by.senders (R.remaining reader.old)
         (W.contents writer.old) (W.contents writer.new)) }
     ensures untouched { IfErr result (λ fault. (fault ≢ program_fault.Write)
         → Keeps (W.contents writer.old) (W.contents writer.new)) }
+    ensures quiet { request.now.monitors ≡ 0 → Keeps (F.contents told.old) (F.contents told.new) }
 {
-    let seed = seed_given(request.run.seed)?;
-    let params = read_params(&request.run.parameters)?;
+    let run = &request.by.run;
+    let seed = seed_given(run.seed)?;
+    let params = read_params(&run.parameters)?;
     let steps = read_trace(alloc, reader)?;
-    let (device, rows) = run_lanes(rt, alloc, params, seed, request.senders, &steps)?;
-    Ok(write_journal(alloc, writer, device.engine(), &rows)?)
+    let (engine, rows, seen) = run_lanes(rt, alloc, params, seed, request, &steps)?;
+    write_journal(alloc, writer, &engine, &rows)?;
+    tell_seen(told, &seen);
+    Ok(())
 }
 
-/// Makes the steps by so many senders and this thread, which is the device's.
-fn run_lanes<H: Threads + Sync>(
+/// Makes the steps by senders with a lane each and a device, while monitors read, as many as were asked for. It gives the
+/// engine, the rows of the lanes, and what each monitor saw last.
+fn run_lanes<H: Threads + Wait + Sync>(
     rt: &H,
     alloc: Global,
     params: Params,
     seed: Seed,
-    senders: u32,
+    request: &LanesRequest<'_>,
     steps: &[Step],
-) -> Result<(Device, Vec<SenderRow>), ProgramFault>
-    requires { (0 < senders) × (senders ≤ MAX_SENDERS) }
-    ensures journal { IfOk result (λ r. AreLanesJournal params seed senders steps.now
-        r.0.engine.sched.standing.events r.1.items) }
-    ensures fault { IfErr result (IsLanesRunFault senders) }
+) -> Result<(Engine, Vec<SenderRow>, Vec<Seen>), ProgramFault>
+    requires senders { (0 < request.now.by.senders) × (request.now.by.senders ≤ MAX_SENDERS) }
+    requires monitors { request.now.monitors ≤ MAX_MONITORS }
+    ensures journal { IfOk result (λ r. AreLanesJournal params seed request.now.by.senders steps.now
+        r.0.sched.standing.events r.1.items) }
+    ensures seen { IfOk result (λ r. length r.2.items ≡ request.now.monitors) }
+    ensures fault { IfErr result (IsLanesRunFault request.now.by.senders) }
 {
-    let calls = lists_of(alloc, &params, &seed, senders, steps)?;
+    let calls = lists_of(alloc, &params, &seed, request.by.senders, steps)?;
     let lists = packets_of(alloc, &calls)?;
     drop(calls);
-    let (mut device, done) = sent(rt, alloc, params, seed, steps, &lists)?;
+    let layout = Layout {
+        lanes: lists.len() as u32,
+        capacity: capacity_of(&lists)?,
+        monitors: request.monitors,
+    };
+    let blank = BookBlank::new();
+    let run = run_in_book::<Brand, _>(rt, alloc, blank, params, seed, layout, steps, &lists)?;
+    run.0.run_of_steps();
+    Ok(run)
+}
+
+/// Opens a lane for each list, and monitors, which read what the device notes in that book, and makes the run.
+fn run_in_book<J: BookName + Send + Sync, H: Threads + Wait + Sync>(
+    rt: &H,
+    alloc: Global,
+    blank: BookBlank,
+    params: Params,
+    seed: Seed,
+    layout: Layout,
+    steps: &[Step],
+    lists: &[Vec<Packet>],
+) -> Result<(Engine, Vec<SenderRow>, Vec<Seen>), ProgramFault>
+    requires book { blank ≡ J.book }
+    requires lanes { (layout.lanes ≡ length lists.now) × (0 < layout.lanes) × (layout.lanes ≤ MAX_SENDERS) }
+    requires capacity { (0 < layout.capacity) × (layout.capacity ≤ MAX_CAPACITY) }
+    requires monitors { layout.monitors ≤ MAX_MONITORS }
+    ensures params { IfOk result (λ r. (r.0.sched.params ≡ params) × (r.0.sched.seed ≡ seed)) }
+    ensures rows { IfOk result (λ r. AreLaneRows lists.now r.0.sched.standing.events r.1.items) }
+    ensures seen { IfOk result (λ r. length r.2.items ≡ layout.monitors) }
+    ensures fault { IfErr result (IsLanesRunFault (length lists.now)) }
+{
+    let opened = lanes::<J, _>(rt, alloc, blank, params, seed, layout)?;
+    run_opened(rt, alloc, opened, steps, lists)
+}
+
+/// Makes the run through lanes that were just opened. Its monitors read in threads of their own until it has ended. The
+/// run comes first: where no thread can be made, it has ended before the first of them reads.
+fn run_opened<
+    J: BookName + Send + Sync,
+    X: Screen<Shown<J>> + Drop + Send,
+    H: Threads + Wait + Sync,
+>(
+    rt: &H,
+    alloc: Global,
+    opened: Opened<J, X>,
+    steps: &[Step],
+    lists: &[Vec<Packet>],
+) -> Result<(Engine, Vec<SenderRow>, Vec<Seen>), ProgramFault>
+    requires lanes { AreNewLanes opened.senders.items opened.device.lanes (length lists.now) }
+    requires number { length lists.now ≤ MAX_SENDERS }
+    ensures params { IfOk result (λ r. (r.0.sched.params ≡ opened.device.engine.sched.params)
+        × (r.0.sched.seed ≡ opened.device.engine.sched.seed)) }
+    ensures rows { IfOk result (λ r. AreLaneRows lists.now r.0.sched.standing.events r.1.items) }
+    ensures seen { IfOk result (λ r. length r.2.items ≡ length opened.monitors.items) }
+    ensures fault { IfErr result (IsLanesRunFault (length lists.now)) }
+{
+    let Opened {
+        senders,
+        device,
+        monitors,
+    } = opened;
+    let readers = monitors.len();
+    let ended = AtomicBool::new(false);
+    let over = &ended;
+    let run = move || -> Result<(Device<J, X>, Vec<SenderRow>), ProgramFault>
+        requires { IsSync H.row × AreNewLanes senders.items device.lanes (length lists.now)
+            × (length lists.now ≤ MAX_SENDERS) }
+        ensures { IfOk result (λ r. IsLanesRunOf device lists.entry.now r.0.engine r.1.items)
+            × IfErr result (IsLanesRunFault (length lists.entry.now)) }
+    {
+        let made = run_device(rt, alloc, senders, device, steps, lists, readers);
+        over.store(true, Ordering::SeqCst);
+        made
+    };
+    let read = move || -> Result<Vec<Seen>, AllocError>
+        requires { IsSync H.row }
+        ensures { IfOk result (λ seen. length seen.items ≡ length monitors.items) }
+    { read_all(rt, monitors, over) };
+    let (made, seen) = thread::join(rt, run, read);
+    // The device is there until each monitor has read for the last time.
+    let (device, rows) = made?;
+    Ok((device.into_engine(), rows, seen?))
+}
+
+/// Has the packets of each list sent to its lane by a thread of its own and the other steps made by this one, and gives
+/// the device and the rows of its lanes. Where somebody reads, the statistics are published at each dequeue of the steps
+/// and at the end.
+fn run_device<J: BookName, X: Screen<Shown<J>> + Drop, H: Threads + Sync>(
+    rt: &H,
+    alloc: Global,
+    senders: Vec<LaneSender>,
+    device: Device<J, X>,
+    steps: &[Step],
+    lists: &[Vec<Packet>],
+    readers: usize,
+) -> Result<(Device<J, X>, Vec<SenderRow>), ProgramFault>
+    requires lanes { AreNewLanes senders.items device.lanes (length lists.now) }
+    requires number { length lists.now ≤ MAX_SENDERS }
+    ensures made { IfOk result (λ r. IsLanesRunOf device lists.now r.0.engine r.1.items) }
+    ensures fault { IfErr result (IsLanesRunFault (length lists.now)) }
+{
+    let gates = vec![in alloc; Open; lists.len()]?;
+    let part = move || -> Result<Device<J, X>, ProgramFault>
+        ensures { IfOk result (λ d. IsSameDevice device d)
+            × IfErr result (λ why. why ≡ program_fault.Memory) }
+    { device_part(device, steps, readers) };
+    let (done, device) = start_lanes(rt, alloc, senders, lists, &gates, part)?;
+    let mut device = device?;
     let rows = ended(alloc, &mut device, done, steps.len())?;
+    publish(&mut device, readers)?;
     device.engine().run_of_steps();
     Ok((device, rows))
 }
 
-/// Opens a lane for each list, has its packets sent there by a thread of its own and the other steps made by this one,
-/// and gives the device and what each sender did.
-fn sent<H: Threads + Sync>(
-    rt: &H,
-    alloc: Global,
-    params: Params,
-    seed: Seed,
-    steps: &[Step],
-    lists: &[Vec<Packet>],
-) -> Result<(Device, Vec<LaneDone>), ProgramFault>
-    requires number { (0 < length lists.now) × (length lists.now ≤ MAX_SENDERS) }
-    ensures params { IfOk result (λ r. (r.0.engine.sched.params ≡ params) × (r.0.engine.sched.seed ≡ seed)) }
-    ensures number { IfOk result (λ r. (length r.0.lanes ≡ length lists.now)
-        × (length r.1.items ≡ length lists.now)) }
-    ensures each { IfOk result (λ r. (i : ℕ) (d : _) (l : _) → i < length lists.now
-        → IsSent (rings_of r.0.lanes) i (slice_index_or lists.now i l).items (slice_index_or r.1.items i d)) }
-    ensures fault { IfErr result (IsLanesRunFault (length lists.now)) }
-{
-    let capacity = capacity_of(lists)?;
-    let Opened { senders, device } = lanes(alloc, params, seed, lists.len() as u32, capacity)?;
-    let gates = vec![in alloc; Open; lists.len()]?;
-    let part = move || -> Result<Device, Refusal>
-        ensures { IfOk result (λ d. IsSameDevice device d) }
-    { device_part(device, steps) };
-    let (done, device) = start_lanes(rt, alloc, senders, lists, &gates, part)?;
-    Ok((device?, done))
-}
-
 /// The device's part: it makes the dequeues and closes of the steps, and gives the device back.
-fn device_part(device: Device, steps: &[Step]) -> Result<Device, Refusal>
-    ensures { IfOk result (λ d. IsSameDevice device d) }
+fn device_part<J: BookName, X: Screen<Shown<J>> + Drop>(
+    device: Device<J, X>,
+    steps: &[Step],
+    readers: usize,
+) -> Result<Device<J, X>, ProgramFault>
+    ensures same { IfOk result (λ d. IsSameDevice device d) }
+    ensures fault { IfErr result (λ why. why ≡ program_fault.Memory) }
 {
     let mut device = device;
-    serve(&mut device, steps)?;
+    serve(&mut device, steps, readers)?;
     Ok(device)
 }
 
-/// Makes the dequeues and closes of the steps, in their order. Before each dequeue it takes packets from the lanes. The
-/// device's moment never falls, and a close behind another one is passed over.
+/// Makes the dequeues and closes of the steps, in their order. Before each dequeue it takes packets from the lanes, and
+/// publishes behind it. The device's moment never falls, and a close behind another one is passed over.
 #[tactic(auto, using(crate::proofs::LaneRunLemmas::device_goes_on))]
-fn serve(device: &mut Device, steps: &[Step]) -> Result<(), Refusal>
-    ensures { IsSameDevice device.old device.new }
+fn serve<J: BookName, X: Screen<Shown<J>> + Drop>(
+    device: &mut Device<J, X>,
+    steps: &[Step],
+    readers: usize,
+) -> Result<(), ProgramFault>
+    ensures same { IsSameDevice device.old device.new }
+    ensures fault { IfErr result (λ why. why ≡ program_fault.Memory) }
 {
     let mut now = 0;
     for step in steps {
@@ -125,6 +233,7 @@ fn serve(device: &mut Device, steps: &[Step]) -> Result<(), Refusal>
                 now = moment.max(now);
                 pump_all(device, now)?;
                 device.dequeue(now)?;
+                publish(device, readers)?;
             }
             Step::Close { moment } => {
                 now = moment.max(now);
@@ -135,9 +244,28 @@ fn serve(device: &mut Device, steps: &[Step]) -> Result<(), Refusal>
     Ok(())
 }
 
+/// Publishes the statistics, unless nobody reads.
+#[tactic(auto, using(crate::proofs::LaneRunLemmas::device_goes_on))]
+fn publish<J: BookName, X: Screen<Shown<J>> + Drop>(
+    device: &mut Device<J, X>,
+    readers: usize,
+) -> Result<(), PublishFault>
+    ensures same { IsSameDevice device.old device.new }
+    ensures engine { device.new.engine ≡ device.old.engine }
+    ensures lanes { device.new.lanes ≡ device.old.lanes }
+{
+    if readers > 0 {
+        device.publish()?;
+    }
+    Ok(())
+}
+
 /// Takes packets from each lane, by rising number, unless there was a close.
 #[tactic(auto, using(crate::proofs::LaneRunLemmas::device_goes_on))]
-fn pump_all(device: &mut Device, now: u64) -> Result<(), Refusal>
+fn pump_all<J: BookName, X: Screen<Shown<J>> + Drop>(
+    device: &mut Device<J, X>,
+    now: u64,
+) -> Result<(), Refusal>
     ensures { IsSameDevice device.old device.new }
 {
     if device.engine().is_closed() {
@@ -151,7 +279,10 @@ fn pump_all(device: &mut Device, now: u64) -> Result<(), Refusal>
 
 /// Closes, unless there was a close.
 #[tactic(auto, using(crate::proofs::LaneRunLemmas::device_goes_on))]
-fn close(device: &mut Device, now: u64) -> Result<(), Refusal>
+fn close<J: BookName, X: Screen<Shown<J>> + Drop>(
+    device: &mut Device<J, X>,
+    now: u64,
+) -> Result<(), Refusal>
     ensures same { IsSameDevice device.old device.new }
     ensures accepted { (lane : ℕ) → accepted lane device.new.engine.sched.standing.events
         ≡ accepted lane device.old.engine.sched.standing.events }
@@ -165,9 +296,9 @@ fn close(device: &mut Device, now: u64) -> Result<(), Refusal>
 /// What is done behind the last step of a trace, and the rows of the lanes: the lanes are settled and emptied, and then
 /// packets are taken, at most so many, until none waits.
 #[tactic(auto, using(crate::proofs::LaneRunLemmas::same_more))]
-fn ended(
+fn ended<J: BookName, X: Screen<Shown<J>> + Drop>(
     alloc: Global,
-    device: &mut Device,
+    device: &mut Device<J, X>,
     done: Vec<LaneDone>,
     most: usize,
 ) -> Result<Vec<SenderRow>, ProgramFault>
@@ -189,9 +320,9 @@ fn ended(
 
 /// The rows of the lanes, by rising number: each is settled, and then its packets are taken until none is left, unless
 /// there was a close.
-fn rows_of(
+fn rows_of<J: BookName, X: Screen<Shown<J>> + Drop>(
     alloc: Global,
-    device: &mut Device,
+    device: &mut Device<J, X>,
     done: Vec<LaneDone>,
 ) -> Result<Vec<SenderRow>, ProgramFault>
     requires number { (length done.items ≡ length device.old.lanes) × (length done.items ≤ MAX_SENDERS) }
@@ -215,7 +346,11 @@ fn rows_of(
 }
 
 /// The row of a lane.
-fn row_of(device: &mut Device, lane: u32, done: LaneDone) -> Result<SenderRow, ProgramFault>
+fn row_of<J: BookName, X: Screen<Shown<J>> + Drop>(
+    device: &mut Device<J, X>,
+    lane: u32,
+    done: LaneDone,
+) -> Result<SenderRow, ProgramFault>
     requires lane { lane < length device.old.lanes }
     requires fits { FitsLane (rings_of device.old.lanes) lane done }
     ensures same { IsSameDevice device.old device.new }
@@ -247,7 +382,11 @@ fn row_of(device: &mut Device, lane: u32, done: LaneDone) -> Result<SenderRow, P
 }
 
 /// Takes the packets that are left in a settled lane, unless there was a close, and answers how many are left then.
-fn emptied(device: &mut Device, lane: u32, left: u64) -> Result<u64, Refusal>
+fn emptied<J: BookName, X: Screen<Shown<J>> + Drop>(
+    device: &mut Device<J, X>,
+    lane: u32,
+    left: u64,
+) -> Result<u64, Refusal>
     requires lane { lane < length device.old.lanes }
     requires settled { (d : LaneView) → (slice_index_or device.old.lanes lane d).settled ≡ true }
     requires left { (d : LaneView) → left ≡ length (slice_index_or device.old.lanes lane d).known }
@@ -269,7 +408,10 @@ fn emptied(device: &mut Device, lane: u32, left: u64) -> Result<u64, Refusal>
 
 /// Closes, unless there was a close, and takes packets, at most so many, at the last moment, until none waits.
 #[tactic(auto, using(crate::proofs::LaneRunLemmas::device_goes_on))]
-fn finish(device: &mut Device, most: usize) -> Result<(), Refusal>
+fn finish<J: BookName, X: Screen<Shown<J>> + Drop>(
+    device: &mut Device<J, X>,
+    most: usize,
+) -> Result<(), Refusal>
     ensures same { IsSameDevice device.old device.new }
     ensures accepted { (lane : ℕ) → accepted lane device.new.engine.sched.standing.events
         ≡ accepted lane device.old.engine.sched.standing.events }

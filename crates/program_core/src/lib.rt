@@ -5,6 +5,7 @@
 mod lane_senders;
 mod lanes;
 mod locked;
+mod monitors;
 mod program_run;
 mod senders;
 

@@ -5,7 +5,7 @@ ghost use Rattle.std.specs.IoError.{error_kind};
 ghost use Rattle.std.specs.Io.KnownBytes.{Appends, Keeps};
 ghost use Rattle.packet_core.specs.Words.{params_of_words};
 ghost use Rattle.program_core.specs.Faults.{IsFaultOn, IsRunFault, command_fault_told, run_fault_told, status_of, trace_status};
-ghost use Rattle.program_core.specs.Runs.{Answers, IsRunFor};
+ghost use Rattle.program_core.specs.Runs.{Answers, IsRunFor, IsUnwatched};
 ghost use Rattle.command_core.specs.Seeds.{seed_given};
 ghost use Rattle.program_core.specs.declared.program_run.ProgramFault.{ProgramFault};
 ghost use Rattle.program_core.specs.declared.program_run.ProgramFault.TheVariants as program_fault;
@@ -14,7 +14,7 @@ use crate::lanes::simulate_lanes;
 use crate::locked::simulate_locked;
 use command_core::{CommandFault, Request, ZERO_SEED, parse, read_seed};
 use packet_core::{ParamFault, Seed, read_params};
-use port_core::OpenFault;
+use port_core::{OpenFault, PublishFault};
 use sched_core::Refusal;
 use std::alloc::{AllocError, AllocFailed, Global};
 use std::io::{self, ErrorKind, Read, Write};
@@ -149,8 +149,17 @@ impl From<OpenFault> for ProgramFault {
 
     fn from(fault: OpenFault) -> ProgramFault {
         match fault {
-            OpenFault::Memory => ProgramFault::Memory,
+            OpenFault::Memory | OpenFault::NoPlace => ProgramFault::Memory,
         }
+    }
+}
+
+/// Why statistics aren't published.
+impl From<PublishFault> for ProgramFault {
+    ghost from_gives = { λ _ e. e ≡ program_fault.Memory };
+
+    fn from(_: PublishFault) -> ProgramFault {
+        ProgramFault::Memory
     }
 }
 
@@ -186,8 +195,8 @@ impl From<io::Error> for ProgramFault {
 }
 
 /// The whole program over the words behind its name. It reads a trace and writes the report of its run or the journal
-/// of its run by senders, or writes help where the words ask for that, and tells a fault on `faults`. It answers the
-/// status that the program ends with.
+/// of its run by senders, or writes help where the words ask for that, and tells a fault on `faults`, and what monitors
+/// saw. It answers the status that the program ends with.
 pub fn program<H: Threads + Wait + Sync, R: Read, W: Write, F: Write>(
     rt: &H,
     alloc: Global,
@@ -202,8 +211,9 @@ pub fn program<H: Threads + Wait + Sync, R: Read, W: Write, F: Write>(
     ensures answer { result ≡ 0 → Answers (map (λ w. w.now) words.now) (R.remaining reader.old)
         (W.contents writer.old) (W.contents writer.new) }
 
-    // With the status 0 nothing is told.
-    ensures quiet { result ≡ 0 → Keeps (F.contents faults.old) (F.contents faults.new) }
+    // With the status 0 nothing is told, unless the words ask for monitors.
+    ensures quiet { result ≡ 0 → IsUnwatched (map (λ w. w.now) words.now)
+        → Keeps (F.contents faults.old) (F.contents faults.new) }
 
     // Any other status is that of a fault that these words and this input have, by which the writer came from what it
     // held to what it holds: a front of the report, of a journal or of help where a write failed, else what it held.
@@ -216,19 +226,20 @@ pub fn program<H: Threads + Wait + Sync, R: Read, W: Write, F: Write>(
     ensures input_fault { result ≡ 2 → Keeps (W.contents writer.old) (W.contents writer.new) }
     ensures range { result ≤ 2 }
 {
-    match answer(rt, alloc, words, reader, writer) {
+    match answer(rt, alloc, words, reader, writer, faults) {
         Ok(()) => SUCCESS,
         Err(fault) => tell(faults, &fault),
     }
 }
 
-/// Does what the words ask for.
-fn answer<H: Threads + Wait + Sync, R: Read, W: Write>(
+/// Does what the words ask for. What monitors saw is told on `told`.
+fn answer<H: Threads + Wait + Sync, R: Read, W: Write, F: Write>(
     rt: &H,
     alloc: Global,
     words: &[&str],
     reader: &mut R,
     writer: &mut W,
+    told: &mut F,
 ) -> Result<(), ProgramFault>
     ensures answer { OnOk result (Answers (map (λ w. w.now) words.now) (R.remaining reader.old)
         (W.contents writer.old) (W.contents writer.new)) }
@@ -236,11 +247,13 @@ fn answer<H: Threads + Wait + Sync, R: Read, W: Write>(
         (W.contents writer.old) (W.contents writer.new)) }
     ensures untouched { IfErr result (λ fault. (fault ≢ program_fault.Write)
         → Keeps (W.contents writer.old) (W.contents writer.new)) }
+    ensures quiet { OnOk result (IsUnwatched (map (λ w. w.now) words.now)
+        → Keeps (F.contents told.old) (F.contents told.new)) }
 {
     match parse(alloc, words)? {
         Request::Trace(trace) => simulate(alloc, trace.seed, &trace.parameters, reader, writer),
         Request::Locked(senders) => simulate_locked(rt, alloc, &senders, reader, writer),
-        Request::Lanes(senders) => simulate_lanes(rt, alloc, &senders, reader, writer),
+        Request::Lanes(lanes) => simulate_lanes(rt, alloc, &lanes, reader, writer, told),
         Request::Help(text) => show(writer, text.as_str()),
     }
 }

@@ -101,11 +101,15 @@ fn help_on_the_lanes(rt: HostRuntime) -> Result<(), Fail> {
         "'fqsim locked --help'",
         "moments of 'enq' rows aren't used",
         "at most 64 of its packets",
+        "--monitors <M>",
+        "0 to 64",
+        "[default: 0]",
+        "\n  monitor I EVENTS ACCEPTED SENT DROPPED QUEUED\n",
         "'fqsim: lane LANE'",
     ];
     expect_help(&rt, &["lanes", "--help"], &texts)?;
     expect_help(&rt, &["help", "lanes"], &texts)?;
-    expect_help(&rt, &["lanes", "--senders", "3", "--help"], &texts)
+    expect_help(&rt, &["lanes", "--monitors", "3", "--help"], &texts)
 }
 
 #[test]

@@ -3,10 +3,15 @@ ghost use Rattle.std.specs.Prelude.{◌≡◌, IfOk, length};
 
 use crate::packets::packet;
 use packet_core::{Packet, Seed, read_params};
-use port_core::{Device, Gate, LaneDone, LaneSender, Opened, Stop, lanes};
+use port_core::{
+    BookBlank, BookName, Device, Gate, LaneDone, LaneSender, Layout, Opened, Screen, Shown, Stop,
+    lanes,
+};
 use program_core::start_lanes;
 use std::alloc::Global;
+use std::marker::Brand;
 use std::process::Abort;
+use std::sync::Wait;
 use std::sync::atomic::{AtomicU64, Ordering};
 use std::test::Fail;
 use std::thread::{self, Threads};
@@ -14,15 +19,16 @@ use std::thread::{self, Threads};
 /// So often the device looks for a packet.
 const MAX_LOOKS: u32 = 1_000_000;
 
-/// Holds a sender's calls behind the first until it is opened.
+/// Holds a sender's calls, but for so many, until it is opened.
 #[derive(Drop)]
-struct BehindFirst<'a> {
+struct HeldUp<'a> {
+    free: u64,
     open: &'a AtomicU64,
 }
 
-impl Gate for BehindFirst<'_> {
+impl Gate for HeldUp<'_> {
     fn pass(&self, call: u64) -> bool {
-        call < 2 || self.open.load(Ordering::SeqCst) > 0
+        call <= self.free || self.open.load(Ordering::SeqCst) > 0
     }
 }
 
@@ -30,12 +36,24 @@ impl Gate for BehindFirst<'_> {
 /// the other: on one thread the sender would be held up for good, or the device would find nothing.
 #[test]
 fn gate_lanes(rt: HostRuntime) -> Result<(), Fail> {
+    by_gates::<Brand, _>(&rt, rt.alloc(), BookBlank::new())
+}
+
+fn by_gates<J: BookName, R: Threads + Wait + Abort + Sync>(
+    rt: &R,
+    alloc: Global,
+    blank: BookBlank,
+) -> Result<(), Fail>
+    requires { blank ≡ J.book }
+{
     let params = read_params(&["classify", "dport", "flows", "4"])?;
-    let alloc = rt.alloc();
-    let Opened { senders, device } = lanes(alloc, params, Seed([0; 16]), 2, 2)
-        .ok()
-        .ok_or("two lanes")?;
-    send_by_gates(&rt, alloc, senders, device)
+    let layout = Layout {
+        lanes: 2,
+        capacity: 2,
+        monitors: 0,
+    };
+    let opened = lanes::<J, _>(rt, alloc, blank, params, Seed([0; 16]), layout)?;
+    send_by_gates(rt, alloc, opened)
 }
 
 /// Two packets for each of the two senders.
@@ -48,27 +66,58 @@ fn lists(alloc: Global) -> Result<Vec<Vec<Packet>>, Fail>
 }
 
 /// Two senders, the second of which waits for the device.
-fn send_by_gates<R: Threads + Abort + Sync>(
+fn send_by_gates<J: BookName, X: Screen<Shown<J>> + Drop, R: Threads + Abort + Sync>(
     rt: &R,
     alloc: Global,
-    senders: Vec<LaneSender>,
-    device: Device,
+    opened: Opened<J, X>,
 ) -> Result<(), Fail>
-    requires { length senders.items ≡ 2 }
+    requires { length opened.senders.items ≡ 2 }
 {
+    let Opened {
+        senders,
+        device,
+        monitors: _monitors,
+    } = opened;
     let lists = lists(alloc)?;
-    let (always, open) = (AtomicU64::new(1), AtomicU64::new(0));
-    let gates = [BehindFirst { open: &always }, BehindFirst { open: &open }];
+    let open = AtomicU64::new(0);
     let shared = &open;
-    let part = move || takes_one(device, shared);
-    let (done, (device, took)) = start_lanes(rt, alloc, senders, &lists, &gates, part)?;
+    let gates = [
+        HeldUp {
+            free: 2,
+            open: shared,
+        },
+        HeldUp {
+            free: 1,
+            open: shared,
+        },
+    ];
+    let (done, took) = send_held(rt, alloc, senders, device, &lists, &gates, shared)?;
     assert!(rt; took);
-    assert_eq!(rt; device.engine().totals().accepted, 1);
     are_done(rt, done)
 }
 
+/// Starts the senders with these gates, and gives what they did and whether the device accepted the one packet.
+fn send_held<J: BookName, X: Screen<Shown<J>> + Drop, R: Threads + Sync>(
+    rt: &R,
+    alloc: Global,
+    senders: Vec<LaneSender>,
+    device: Device<J, X>,
+    lists: &[Vec<Packet>],
+    gates: &[HeldUp<'_>],
+    open: &AtomicU64,
+) -> Result<(Vec<LaneDone>, bool), Fail>
+    requires { (length lists.now ≡ length senders.items) × (length gates.now ≡ length senders.items) }
+{
+    let part = move || takes_one(device, open);
+    let (done, (device, took)) = start_lanes(rt, alloc, senders, lists, gates, part)?;
+    Ok((done, took && device.engine().totals().accepted == 1))
+}
+
 /// The device's part: it looks for a packet in lane 1 until there is one, and then opens that sender's gate.
-fn takes_one(device: Device, open: &AtomicU64) -> (Device, bool) {
+fn takes_one<J: BookName, X: Screen<Shown<J>> + Drop>(
+    device: Device<J, X>,
+    open: &AtomicU64,
+) -> (Device<J, X>, bool) {
     let mut device = device;
     let took = took_one(&mut device);
     if took {
@@ -78,7 +127,7 @@ fn takes_one(device: Device, open: &AtomicU64) -> (Device, bool) {
 }
 
 /// Whether a packet came through lane 1, which is looked for some time.
-fn took_one(device: &mut Device) -> bool {
+fn took_one<J: BookName, X: Screen<Shown<J>> + Drop>(device: &mut Device<J, X>) -> bool {
     for _look in 0..MAX_LOOKS {
         if device.lanes() > 1 && device.pump(1, 0, 1) == Ok(1) {
             return true;

@@ -1,5 +1,6 @@
 -- How an acceptance, a dequeue and a close keep the flows and their journal.
 use Rattle.std.proofs.Common.{◌≡◌, ℕ, zero, suc, ◌+◌, ◌-◌, ◌<◌, ◌≤◌, ◌^◌, Bool, true, false, not, All, List, [], ◌∷◌, ◌++◌, map, get_or, length, sum_by, Option, Some, None, option_map, refl, sym, ap, subst, ◌∙◌, inl, inr, arith, append_assoc, append-nil, length-append}
+use mir.Val.{bool_byte}
 use Rattle.std.specs.List.{AllByRecursion, flat_map}
 use Rattle.std.proofs.Math.Nat.{mul_comm, one-le-pow, pow-suc}
 use Rattle.std.proofs.lemmas.Bool.{cases_lt, eq-eqb}
@@ -44,6 +45,7 @@ use Rattle.fair_core.specs.Turns.{Service, service_in}
 use Rattle.flow_core.proofs.NodeLemmas.{levels_least}
 use Rattle.flow_core.proofs.ReadLemmas.{length-at}
 use Rattle.journal_core.proofs.CountLemmas.{counts_accept, counts_close, counts_drops, counts_send}
+use Rattle.sched_core.proofs.EventCounts.{number_of_events}
 use Rattle.journal_core.proofs.EventLemmas.{all_found}
 use Rattle.journal_core.proofs.HistoryEvents.{history_accepts}
 use Rattle.journal_core.proofs.HistoryRuns.{keeps_makes}
@@ -394,3 +396,9 @@ seen_waits s v e h = rw (← e) (waits_of_history (fq_codel s.params s.seed).flo
 
 pub seen_queued : {K : Type 0} (s : Inside K) (v : Scheduler) → scheduler_of s ≡ v → IsKept s → (statistics v.standing.events).queued ≡ waiting_in (flows_of v).lists
 seen_queued s v e h = rw (← e) (sym (waits_at s.params s.seed ((scheduler_of s).standing.state) s.journal.events h.some h.flows h.history))
+
+pub seen_number : {K : Type 0} (s : Inside K) (v : Scheduler) → scheduler_of s ≡ v → IsKept s
+    → s.journal.counts.accepted + (s.journal.counts.sent + s.journal.counts.dropped_codel + s.journal.counts.dropped_overflow) + bool_byte s.is_closed ≡ length v.standing.events
+seen_number s v e h = rw (← e) (
+    omega (arith, number_of_events s.journal.events h.history.closed_for_good, h.counts.accepted, h.counts.fates, ap (λ b. bool_byte b) h.history.close)
+    )

@@ -1,3 +1,4 @@
+pub mod EventCounts
 pub mod KeptScheduler
 pub mod FqCodelRuns
 pub mod ShortPackets

@@ -1,6 +1,6 @@
 //! The engine: a scheduler with the list of its steps.
 
-ghost use Rattle.std.specs.Prelude.{◌≡◌, ◌≢◌, ◌+◌, ◌-◌, ◌<◌, ◌≤◌, ◌++◌, ◌∷◌, [], All, max, None, IfOk, IfErr, OnOk, OnErr};
+ghost use Rattle.std.specs.Prelude.{◌≡◌, ◌≢◌, ◌+◌, ◌-◌, ◌<◌, ◌≤◌, ◌++◌, ◌∷◌, [], All, max, None, IfOk, IfErr, OnOk, OnErr, length};
 
 use crate::sched::{MAX_ACCEPTED, Sched};
 use fair_core::FlowView;
@@ -263,6 +263,13 @@ impl<K: Keeps<Event>, S: Keeps<Step>> Engine<K, S> {
             ≡ result.sent + result.dropped_codel + result.dropped_overflow + result.queued }
     {
         self.sched.totals()
+    }
+
+    /// How many events the journal has, whether they are stored or not.
+    pub fn event_count(&self) -> u64
+        ensures { result ≡ length self.now.sched.standing.events }
+    {
+        self.sched.event_count()
     }
 
     /// How many packets wait.

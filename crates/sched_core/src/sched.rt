@@ -1,6 +1,6 @@
 //! The scheduler: each call makes one step, or refuses it and changes nothing, and the journal keeps what came of it.
 
-ghost use Rattle.std.specs.Prelude.{◌≡◌, ◌≢◌, ◌+◌, ◌-◌, ◌<◌, ◌≤◌, [], max, All, Some, None, IfOk, IfErr, IsOk, MatchResult, OnOk, OnErr};
+ghost use Rattle.std.specs.Prelude.{◌≡◌, ◌≢◌, ◌+◌, ◌-◌, ◌<◌, ◌≤◌, [], max, All, Some, None, IfOk, IfErr, IsOk, MatchResult, OnOk, OnErr, length};
 ghost use Rattle.journal_core.specs.State.{moment_fault_of, Tests};
 ghost use Rattle.journal_core.specs.declared.outcome.Answer.TheVariants as answer;
 ghost use Rattle.journal_core.specs.declared.step.Refusal.TheVariants as refusal;
@@ -345,6 +345,16 @@ impl<K: Keeps<Event>> Sched<K> {
             queued_bytes: counts.accepted_bytes - (counts.sent_bytes + counts.dropped_bytes),
             closed: self.is_closed,
         }
+    }
+
+    /// How many events the journal has, whether they are stored or not.
+    #[tactic(auto, using(crate::proofs::KeptScheduler::seen_number))]
+    pub fn event_count(&self) -> u64
+        ensures { result ≡ length self.now.standing.events }
+    {
+        let counts = self.journal.counts();
+        let fates = counts.sent + counts.dropped_codel + counts.dropped_overflow;
+        counts.accepted + fates + u64::from(self.is_closed)
     }
 
     /// How many packets wait.

@@ -2,7 +2,7 @@ use Rattle.std.proofs.Common.{ap, subst, sym, codes, map, option_map, unwrap_or,
 use Rattle.std.proofs.lemmas.Result.{IfErr-weaker, IfOk-weaker}
 use Rattle.clap.specs.Words.{App, Text, all_of, app_of, fault_of, first_of, is_simple, is_simple_and_free, one_of, subcommand_name_of, subcommand_of}
 use Rattle.clap.specs.Walk.{Row}
-use Rattle.command_core.specs.CommandLine.{IsSenderCount, program_line, rows_behind, rows_of_entered, run_name, run_rows}
+use Rattle.command_core.specs.CommandLine.{IsMonitorCount, IsSenderCount, program_line, rows_behind, rows_of_entered, run_name, run_rows}
 use Rattle.command_core.proofs.CommandLineLemmas.{help_asked_of, line_is_free, line_is_simple, memory_is_no_mistake, mistake_made_in, name_beside}
 use Rattle.command_core.proofs.command_line.parse.Goals.{In-Ok}
 use Rattle.command_core.proofs.command_line.parse.Goals as goal
@@ -89,7 +89,12 @@ returns-in_ok-request_of-in-Ok-clause-lanes_parameters c lanes same =
 pub returns-in_ok-request_of-in-Ok-clause-lanes_senders : goal.returns-in_ok-request_of-in-Ok-clause-lanes_senders
 returns-in_ok-request_of-in-Ok-clause-lanes_senders c lanes same =
     let rows = rows_read (goal.at.returns-in_ok-request_of-in-Ok-clause-lanes_senders c).In-Ok in
-    subst (λ (r : List Row). IsSenderCount (one_of (codes "senders") r) lanes.senders) rows (c.in_ok-request_of-in-Ok.ensures.lanes lanes same).2
+    subst (λ (r : List Row). IsSenderCount (one_of (codes "senders") r) lanes.by.senders) rows (c.in_ok-request_of-in-Ok.ensures.lanes lanes same).2
+
+pub returns-in_ok-request_of-in-Ok-clause-monitors : goal.returns-in_ok-request_of-in-Ok-clause-monitors
+returns-in_ok-request_of-in-Ok-clause-monitors c lanes same =
+    let rows = rows_read (goal.at.returns-in_ok-request_of-in-Ok-clause-monitors c).In-Ok in
+    subst (λ (r : List Row). IsMonitorCount (one_of (codes "monitors") r) lanes.monitors) rows (c.in_ok-request_of-in-Ok.ensures.lanes lanes same).3
 
 pub returns-in-Err-clause-help : goal.returns-in-Err-clause-help
 returns-in-Err-clause-help c =

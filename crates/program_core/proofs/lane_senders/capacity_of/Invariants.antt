@@ -1,5 +1,5 @@
 use Rattle.std.proofs.Common.{◌≤◌, ◌<◌}
-use Rattle.port_core.specs.declared.device.TheConstants.{MAX_CAPACITY}
+use Rattle.port_core.specs.declared.opening.TheConstants.{MAX_CAPACITY}
 use Rattle.program_core.proofs.lane_senders.capacity_of.Given as goal
 
 abbrev pub invariant-loop-lane : goal.invariant-loop-lane

@@ -3,22 +3,23 @@ use Rattle.port_core.specs.Devices.{Holding}
 use Rattle.port_core.specs.Lanes.{accepted}
 use Rattle.program_core.proofs.LaneRunLemmas.{Emptying, emptying_more}
 use Rattle.program_core.proofs.lanes.emptied.Goals as goal
+use Rattle.program_core.proofs.lanes.emptied.Given.{Over}
 use Rattle.program_core.proofs.lanes.emptied.Goals.{In_ok-left}
 
 -- a pump has taken some of what is left
-taken : (c : In_ok-left) → (c.in_ok-left.field-0 ≤ c.loop-left.left) × (0 < c.loop-left.left → 0 < c.in_ok-left.field-0)
+taken : (g : Over) (c : In_ok-left g) → (c.in_ok-left.field-0 ≤ c.loop-left.left) × (0 < c.loop-left.left → 0 < c.in_ok-left.field-0)
     × Emptying c.args.device.now c.args.lane (c.loop-left.left - c.in_ok-left.field-0) c.pump.new.self
-taken c = emptying_more c.args.device.now c.loop-left.device c.pump.new.self c.args.lane c.last_moment-now.result c.loop-left.left c.in_ok-left.field-0
+taken g c = emptying_more c.args.device.now c.loop-left.device c.pump.new.self c.args.lane c.last_moment-now.result c.loop-left.left c.in_ok-left.field-0
     (omega (arith, c.requires.lane, c.loop-left.invariant.same.number)) c.loop-left.invariant c.in_ok-left.ensures.pumped c.in_ok-left.ensures.left c.in_ok-left.ensures.rings
 
 pub returns-in_err-left-clause-others : goal.returns-in_err-left-clause-others
-returns-in_err-left-clause-others c i apart = ap (λ (h : Holding). accepted i h.engine.sched.standing.events) c.in_err-left.ensures.unchanged ∙ c.loop-left.invariant.others i apart
+returns-in_err-left-clause-others g c i apart = ap (λ (h : Holding). accepted i h.engine.sched.standing.events) c.in_err-left.ensures.unchanged ∙ c.loop-left.invariant.others i apart
 
 pub overflow_sub-left : goal.overflow_sub-left
-overflow_sub-left c = (taken (goal.at.overflow_sub-left c).In_ok-left).0
+overflow_sub-left g c = (taken g (goal.at.overflow_sub-left g c).In_ok-left).0
 
 pub loop-left-smaller : goal.loop-left-smaller
-loop-left-smaller c = let t = taken (goal.at.loop-left-smaller c).In_ok-left in omega (arith, t.0, t.1 c.loop-left-test.true, c.loop-left-test.true)
+loop-left-smaller g c = let t = taken g (goal.at.loop-left-smaller g c).In_ok-left in omega (arith, t.0, t.1 c.loop-left-test.true, c.loop-left-test.true)
 
 pub loop-left-preserved : goal.loop-left-preserved
-loop-left-preserved c = (taken (goal.at.loop-left-preserved c).In_ok-left).2
+loop-left-preserved g c = (taken g (goal.at.loop-left-preserved g c).In_ok-left).2

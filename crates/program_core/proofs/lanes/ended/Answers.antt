@@ -4,6 +4,6 @@ use Rattle.program_core.proofs.LaneRunLemmas.{row_still}
 use Rattle.program_core.proofs.lanes.ended.Goals as goal
 
 pub returns-clause-rows : goal.returns-clause-rows
-returns-clause-rows c i r d less =
+returns-clause-rows g c i r d less =
     row_still i (submitted_of (slice_index_or c.args.done.items i d).end) c.rows_of.new.device.engine.sched.standing.events c.finish.new.device.engine.sched.standing.events
     (slice_index_or c.in_ok-rows.rows.items i r) (c.finish.ensures.accepted i) (c.in_ok-rows.ensures.rows i r d less)

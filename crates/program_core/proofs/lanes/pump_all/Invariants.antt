@@ -2,4 +2,4 @@ use Rattle.program_core.specs.Journals.{IsSameDevice}
 use Rattle.program_core.proofs.lanes.pump_all.Given as goal
 
 abbrev pub invariant-loop-lane : goal.invariant-loop-lane
-invariant-loop-lane l = IsSameDevice l.fn.device l.device
+invariant-loop-lane g l = IsSameDevice l.fn.device l.device

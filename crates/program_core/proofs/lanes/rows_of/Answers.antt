@@ -3,24 +3,25 @@ use Rattle.std.specs.Vec.Iter.{into_iter_items, into_iter_len}
 use Rattle.port_core.specs.declared.lane_sender.LaneDone.{LaneDone}
 use Rattle.program_core.proofs.LaneRunLemmas.{done_more, drop_ended, drop_next, rows_more, same_more}
 use Rattle.program_core.proofs.lanes.rows_of.Goals as goal
+use Rattle.program_core.proofs.lanes.rows_of.Given.{Over}
 use Rattle.program_core.proofs.lanes.rows_of.Goals.{In-Some}
 
 -- the next sender is that of the next lane
-next : (c : In-Some) → (c.loop-one.lane < length c.args.done.items) × ((d : LaneDone) → get_or c.args.done.items c.loop-one.lane d ≡ c.in-Some.one)
+next : (g : Over) (c : In-Some g) → (c.loop-one.lane < length c.args.done.items) × ((d : LaneDone) → get_or c.args.done.items c.loop-one.lane d ≡ c.in-Some.one)
     × (drop (c.loop-one.lane + 1) c.args.done.items ≡ into_iter_items c.next.new.self)
-next c =
+next g c =
     let rest = into_iter_items c.next.new.self in
     let cut : into_iter_items c.loop-one.one-iterator ≡ c.in-Some.one ∷ rest = search rules in
     drop_next c.args.done.items c.loop-one.lane c.in-Some.one rest (sym c.loop-one.invariant.0 ∙ cut)
 
 pub row_of-requires-clause-fits : goal.row_of-requires-clause-fits
-row_of-requires-clause-fits c =
-    let n = next (goal.at.row_of-requires-clause-fits c).In-Some in
+row_of-requires-clause-fits g c =
+    let n = next g (goal.at.row_of-requires-clause-fits g c).In-Some in
     rw (c.loop-one.invariant.4.rings, ← (n.1 c.in-Some.one)) (c.requires.each c.loop-one.lane c.in-Some.one n.0)
 
 pub loop-one-preserved : goal.loop-one-preserved
-loop-one-preserved c =
-    let n = next (goal.at.loop-one-preserved c).In-Some in
+loop-one-preserved g c =
+    let n = next g (goal.at.loop-one-preserved g c).In-Some in
     let kept = c.loop-one.invariant in
     let row = c.in_ok-row_of.field-0 in (
       sym n.2,
@@ -34,7 +35,7 @@ loop-one-preserved c =
     )
 
 pub returns-clause-rows : goal.returns-clause-rows
-returns-clause-rows c i r d less =
+returns-clause-rows g c i r d less =
     let ended : into_iter_len c.loop-one.one-iterator ≡ 0 = search rules in
     let none : length (drop c.loop-one.lane c.args.done.items) ≡ 0 = ap length (sym c.loop-one.invariant.0) ∙ sym c.loop-one.invariant.1 ∙ ended in
     c.loop-one.invariant.5 i r d (omega (arith, less, drop_ended c.args.done.items c.loop-one.lane none))

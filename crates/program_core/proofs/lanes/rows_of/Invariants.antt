@@ -7,7 +7,7 @@ use Rattle.program_core.specs.Journals.{IsLaneRow, IsSameDevice, submitted_of}
 use Rattle.program_core.proofs.lanes.rows_of.Given as goal
 
 abbrev pub invariant-loop-one : goal.invariant-loop-one
-invariant-loop-one l =
+invariant-loop-one g l =
     (into_iter_items l.one-iterator ≡ drop l.lane l.fn.done.items)
     × (into_iter_len l.one-iterator ≡ length (into_iter_items l.one-iterator))
     × (l.lane ≤ length l.fn.done.items)

@@ -8,19 +8,19 @@ use Rattle.program_core.proofs.lanes.simulate_lanes.Goals as goal
 pub returns-in_err-write_journal-clause-fault : goal.returns-in_err-write_journal-clause-fault
 returns-in_err-write_journal-clause-fault g c =
     let fault = c.in_err-write_journal.field-0.0 in
-    let params_read : params_of_words (map (λ w. w.now) c.args.request.now.run.parameters.items) ≡ Ok c.in_ok-params.params = search rules in
-    let made : AreLanesJournal c.in_ok-params.params c.in_ok-seed.seed c.args.request.now.senders c.in_ok-steps.steps.items c.engine.result.now.sched.standing.events c.deref-3.result.now = search rules in
+    let params_read : params_of_words (map (λ w. w.now) c.args.request.now.by.run.parameters.items) ≡ Ok c.in_ok-params.params = search rules in
+    let made : AreLanesJournal c.in_ok-params.params c.in_ok-seed.seed c.args.request.now.by.senders c.in_ok-steps.steps.items c.in_ok-engine.engine.sched.standing.events c.deref-3.result.now = search rules in
     err_told c.from_residual-in_err-write_journal.result (run_fault_told fault) _ c.from_residual-in_err-write_journal.ensures.1
-    (lanes_fault (option_map (λ s. s.now) c.args.request.now.run.seed) (map (λ w. w.now) c.args.request.now.run.parameters.items)
-    c.args.request.now.senders (g.R.Read.remaining c.args.reader.now) (g.W.Write.contents c.args.writer.now) (g.W.Write.contents c.write_journal.new.writer) fault
+    (lanes_fault (option_map (λ s. s.now) c.args.request.now.by.run.seed) (map (λ w. w.now) c.args.request.now.by.run.parameters.items)
+    c.args.request.now.by.senders (g.R.Read.remaining c.args.reader.now) (g.W.Write.contents c.args.writer.now) (g.W.Write.contents c.write_journal.new.writer) fault
     (λ is.
-    senders_run AreLanesJournal (option_map (λ s. s.now) c.args.request.now.run.seed) _ _ _ _ c.in_ok-seed.seed c.in_ok-params.params c.in_ok-steps.steps.items c.engine.result.now.sched.standing.events c.deref-3.result.now
+    senders_run AreLanesJournal (option_map (λ s. s.now) c.args.request.now.by.run.seed) _ _ _ _ c.in_ok-seed.seed c.in_ok-params.params c.in_ok-steps.steps.items c.in_ok-engine.engine.sched.standing.events c.deref-3.result.now
     c.in_ok-seed.ensures.ok params_read c.in_ok-steps.ensures.steps made (c.in_err-write_journal.ensures.front is))
     c.in_err-write_journal.ensures.memory c.in_err-write_journal.ensures.untouched)
 
 pub returns-clause-journal : goal.returns-clause-journal
 returns-clause-journal g c =
-    let params_read : params_of_words (map (λ w. w.now) c.args.request.now.run.parameters.items) ≡ Ok c.in_ok-params.params = search rules in
-    let made : AreLanesJournal c.in_ok-params.params c.in_ok-seed.seed c.args.request.now.senders c.in_ok-steps.steps.items c.engine.result.now.sched.standing.events c.deref-3.result.now = search rules in
-    senders_run AreLanesJournal (option_map (λ s. s.now) c.args.request.now.run.seed) _ _ _ _ c.in_ok-seed.seed c.in_ok-params.params c.in_ok-steps.steps.items c.engine.result.now.sched.standing.events c.deref-3.result.now
+    let params_read : params_of_words (map (λ w. w.now) c.args.request.now.by.run.parameters.items) ≡ Ok c.in_ok-params.params = search rules in
+    let made : AreLanesJournal c.in_ok-params.params c.in_ok-seed.seed c.args.request.now.by.senders c.in_ok-steps.steps.items c.in_ok-engine.engine.sched.standing.events c.deref-3.result.now = search rules in
+    senders_run AreLanesJournal (option_map (λ s. s.now) c.args.request.now.by.run.seed) _ _ _ _ c.in_ok-seed.seed c.in_ok-params.params c.in_ok-steps.steps.items c.in_ok-engine.engine.sched.standing.events c.deref-3.result.now
     c.in_ok-seed.ensures.ok params_read c.in_ok-steps.ensures.steps made c.in_ok-write_journal.ensures.text

@@ -16,6 +16,7 @@ pub invariant_of-self : goal.invariant_of-self
 invariant_of-self g c = let lanes = c.self.inside.lanes.items in (
   keeps_look c.self.inside.engine.sched.standing.events lanes c.args.lane c.settle.new.self c.index_mut.result.now (there g c) c.self.invariant.0 (received g c),
   omega (arith, length-set lanes c.args.lane c.settle.new.self, c.self.invariant.1),
+  c.self.invariant.2,
 )
 
 pub returns-clause-left : goal.returns-clause-left
