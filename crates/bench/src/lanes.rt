@@ -67,19 +67,21 @@ pub fn params() -> Result<Params, Fault> {
     })?)
 }
 
-/// So many lanes, each with room for all packets, to a device without monitors.
-fn open<'a, J: BookName, R: AllocGlobal + Wait>(
+/// So many lanes, each with room for all packets, to a device with so many monitors.
+pub fn open<'a, J: BookName, R: AllocGlobal + Wait>(
     rt: &'a R,
     blank: BookBlank,
     number: u32,
+    monitors: u32,
 ) -> Result<Opened<J, LeftRight<Shown<J>, &'a R>>, Fault>
     requires book { blank ≡ J.book }
     requires number { (0 < number) × (number ≤ 4) }
+    requires monitors { monitors ≤ 4 }
 {
     let layout = Layout {
         lanes: number,
         capacity: ROUNDS,
-        monitors: 0,
+        monitors,
     };
     lanes(rt, rt.alloc(), blank, params()?, SEED, layout)
         .ok()
@@ -112,7 +114,7 @@ fn submitting<J: BookName, R: AllocGlobal + Clock + Wait>(
 ) -> Result<u128, Fault>
     requires { blank ≡ J.book }
 {
-    submitting_to(rt, open::<J, R>(rt, blank, 1)?, packet)
+    submitting_to(rt, open::<J, R>(rt, blank, 1, 0)?, packet)
 }
 
 /// The same, to the first of lanes that were opened.
@@ -127,16 +129,16 @@ fn submitting_to<J: BookName, X: Screen<Shown<J>> + Drop, R: Clock>(
         monitors: _monitors,
     } = opened;
     let begun = now(rt);
-    let is_done = submit_all(&mut senders, packet);
+    let is_done = submit_all(&mut senders, packet, ROUNDS);
     nanoseconds_since(rt, begun, is_done)
 }
 
-/// Submits the packets by the first sender. It answers whether all found room.
-fn submit_all(senders: &mut Vec<LaneSender>, packet: Packet) -> bool {
+/// Submits so many packets by the first sender. It answers whether all found room.
+pub fn submit_all(senders: &mut Vec<LaneSender>, packet: Packet, packets: u32) -> bool {
     let Some(sender) = senders.first_mut() else {
         return false;
     };
-    for _ in 0..ROUNDS {
+    for _ in 0..packets {
         if sender.submit(packet).is_err() {
             return false;
         }
@@ -152,7 +154,7 @@ fn pumping<J: BookName, R: AllocGlobal + Clock + Wait>(
 ) -> Result<u128, Fault>
     requires { blank ≡ J.book }
 {
-    pumping_from(rt, open::<J, R>(rt, blank, 1)?, packet)
+    pumping_from(rt, open::<J, R>(rt, blank, 1, 0)?, packet)
 }
 
 /// The same, out of the first of lanes that were opened.
@@ -166,7 +168,7 @@ fn pumping_from<J: BookName, X: Screen<Shown<J>> + Drop, R: Clock>(
         mut device,
         monitors: _monitors,
     } = opened;
-    let submitted = submit_all(&mut senders, packet);
+    let submitted = submit_all(&mut senders, packet, ROUNDS);
     let begun = now(rt);
     let is_done = submitted && pump_out(&mut device);
     nanoseconds_since(rt, begun, is_done)
@@ -183,7 +185,7 @@ fn pump_out<J: BookName, X: Screen<Shown<J>> + Drop>(device: &mut Device<J, X>) 
 }
 
 /// Pumps that lane once. It answers whether there is such a lane, and memory.
-fn pump_one<J: BookName, X: Screen<Shown<J>> + Drop, K: Keeps<Event>, S: Keeps<Step>>(
+pub fn pump_one<J: BookName, X: Screen<Shown<J>> + Drop, K: Keeps<Event>, S: Keeps<Step>>(
     device: &mut Device<J, X, K, S>,
     lane: u32,
 ) -> bool {
@@ -234,7 +236,7 @@ fn opened_lanes<J: BookName, R: AllocGlobal + Clock + Threads + Wait + Sync>(
     requires book { blank ≡ J.book }
     requires number { (0 < senders) × (senders ≤ 4) }
 {
-    through_lanes(rt, open::<J, R>(rt, blank, senders)?, packets)
+    through_lanes(rt, open::<J, R>(rt, blank, senders, 0)?, packets)
 }
 
 /// The time in which each sender's packets go through its lane and out of the device.
@@ -277,7 +279,7 @@ fn send_all<R: Threads + Sync>(
 }
 
 /// Whether all packets of a repetition were sent.
-fn has_sent_all<J: BookName, X: Screen<Shown<J>> + Drop>(device: &Device<J, X>) -> bool {
+pub fn has_sent_all<J: BookName, X: Screen<Shown<J>> + Drop>(device: &Device<J, X>) -> bool {
     device.engine().totals().sent == u64::from(ROUNDS)
 }
 
@@ -296,7 +298,7 @@ pub fn take_all<J: BookName, X: Screen<Shown<J>> + Drop, K: Keeps<Event>, S: Kee
 }
 
 /// Pumps each lane once, and sends what waits then. It answers whether nothing was refused.
-fn take_some<J: BookName, X: Screen<Shown<J>> + Drop, K: Keeps<Event>, S: Keeps<Step>>(
+pub fn take_some<J: BookName, X: Screen<Shown<J>> + Drop, K: Keeps<Event>, S: Keeps<Step>>(
     device: &mut Device<J, X, K, S>,
 ) -> bool {
     for lane in 0..device.lanes() {

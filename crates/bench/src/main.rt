@@ -1,11 +1,12 @@
-//! Times the scheduler: how long a round of enqueues and dequeues takes under a workload, and what a locked port and
-//! lanes take.
+//! Times the scheduler: how long a round of enqueues and dequeues takes under a workload, and what a locked port, lanes
+//! and monitors take.
 #![tactic(auto)]
 
 ghost use Rattle.std.specs.Prelude.{◌<◌, ◌≤◌, IfSome};
 
 mod device;
 mod lanes;
+mod monitors;
 mod sending;
 mod settling;
 mod timing;
@@ -13,6 +14,7 @@ mod unstored;
 mod workload;
 
 use crate::lanes::{LanePart, least_of_part, least_through_lanes};
+use crate::monitors::{Beside, PUBLISHES, least_of_publishes, least_of_reads, least_while_read};
 use crate::sending::least_sending;
 use crate::settling::{SETTLED, least_settling};
 use crate::timing::{Fault, least_nanoseconds};
@@ -66,7 +68,16 @@ fn measure<R: AllocGlobal + Clock + Print + Threads + Wait + Sync + Clone + Drop
         return tell_passing(rt);
     }
     if let Some(part) = lane_part_of(name) {
-        return tell_each(rt, name, least_of_part(rt, part)?);
+        return tell_each(rt, name, ROUNDS, least_of_part(rt, part)?);
+    }
+    if let Some(events) = events_of(name) {
+        return tell_each(rt, name, PUBLISHES, least_of_publishes(rt, events)?);
+    }
+    if let Some(beside) = reads_of(name) {
+        return tell_each(rt, name, ROUNDS, least_of_reads(rt, beside)?);
+    }
+    if let Some(monitors) = monitors_of(name) {
+        return tell_rate(rt, name, least_while_read(rt, monitors)?);
     }
     if let Some(senders) = senders_of(name, "senders_") {
         return tell_rate(rt, name, least_sending(rt, senders)?);
@@ -75,13 +86,13 @@ fn measure<R: AllocGlobal + Clock + Print + Threads + Wait + Sync + Clone + Drop
         return tell_rate(rt, name, least_through_lanes(rt, senders)?);
     }
     let workload = named(name).ok_or(Fault::UnknownWorkload)?;
-    tell_each(rt, workload.name, least_nanoseconds(rt, workload)?)
+    tell_each(rt, workload.name, ROUNDS, least_nanoseconds(rt, workload)?)
 }
 
 /// Tells how long each of the rounds took, in nanoseconds.
-fn tell_each(rt: &impl Print, name: &str, nanoseconds: u128) -> Result<(), Fault> {
-    let tenths = nanoseconds.saturating_mul(10) / u128::from(ROUNDS);
-    println!(rt; "{name},{ROUNDS},{}.{}", tenths / 10, tenths % 10)?;
+fn tell_each(rt: &impl Print, name: &str, rounds: u32, nanoseconds: u128) -> Result<(), Fault> {
+    let tenths = nanoseconds.saturating_mul(10) / u128::from(rounds.max(1));
+    println!(rt; "{name},{rounds},{}.{}", tenths / 10, tenths % 10)?;
     Ok(())
 }
 
@@ -132,6 +143,37 @@ fn lane_part_of(name: &str) -> Option<LanePart> {
     }
 }
 
+/// The number of new events behind which the word asks for publishes.
+fn events_of(name: &str) -> Option<u32> {
+    match name {
+        "publish_0" => Some(0),
+        "publish_1" => Some(1),
+        "publish_1000" => Some(1_000),
+        _ => None,
+    }
+}
+
+/// What the device does while a monitor reads, where the word asks for reads.
+fn reads_of(name: &str) -> Option<Beside> {
+    match name {
+        "monitor_alone" => Some(Beside::Nothing),
+        "monitor_beside" => Some(Beside::Publishes),
+        _ => None,
+    }
+}
+
+/// The number of monitors that the word asks for.
+fn monitors_of(name: &str) -> Option<u32>
+    ensures { IfSome result (λ n. n ≤ 4) }
+{
+    match name {
+        "monitors_0" => Some(0),
+        "monitors_1" => Some(1),
+        "monitors_4" => Some(4),
+        _ => None,
+    }
+}
+
 /// The workload of that name.
 fn named(name: &str) -> Option<&'static Workload> {
     WORKLOADS.iter().find(|workload| workload.name == name)
@@ -155,6 +197,15 @@ fn tell_workloads(rt: &impl Print) -> Result<(), Fault> {
         "senders_1, senders_2, senders_4: so many threads send through a locked port and one takes; it prints name,packets,packets a second"
     )?;
     println!(rt; "lanes_1, lanes_2, lanes_4: the same through lanes")?;
+    println!(rt;
+        "publish_0, publish_1, publish_1000: a publish behind so many new events, with a look at the clock"
+    )?;
+    println!(rt;
+        "monitor_alone, monitor_beside: a monitor's read, alone and while a device publishes all the time"
+    )?;
+    println!(rt;
+        "monitors_0, monitors_1, monitors_4: packets that a device takes out of a lane, with a publish behind each 64, while so many monitors read all the time; it prints name,packets,packets a second"
+    )?;
     println!(rt;
         "{UNSTORED}: 5,000,000 packets through two lanes, where neither events nor steps are stored; it prints name,accepted,sent,queued"
     )?;

@@ -21,12 +21,11 @@ const MAX_LOOKS: u32 = 1_000_000;
 /// So many publishes are made while a monitor reads.
 const PUBLISHES: u64 = 1_000;
 
-/// What is opened for a test: a lane with room for one packet, and monitors.
+/// What is opened for a test: a lane with room for one packet, and its device, which monitors watch.
 #[derive(Drop)]
 struct Watched<J: BookName, X: Screen<Shown<J>> + Drop> {
     sender: LaneSender,
     device: Device<J, X>,
-    monitors: Vec<Monitor<J>>,
 }
 
 impl<J: BookName, X: Screen<Shown<J>> + Drop> Watched<J, X> {
@@ -69,21 +68,19 @@ fn open<'a, J: BookName, R: Wait>(
     Ok(opened)
 }
 
-/// What was opened, with its sender apart.
+/// What was opened, and its monitors.
 fn watched_by<J: BookName, X: Screen<Shown<J>> + Drop>(
     opened: Opened<J, X>,
-) -> Result<Watched<J, X>, Fail> {
+) -> Result<(Watched<J, X>, Vec<Monitor<J>>), Fail> {
     let Opened {
         mut senders,
         device,
         monitors,
     } = opened;
-    let sender = senders.pop().ok_or("a sender")?;
-    Ok(Watched {
-        sender,
-        device,
-        monitors,
-    })
+    let Some(sender) = senders.pop() else {
+        return Err(Fail::from("a sender"));
+    };
+    Ok((Watched { sender, device }, monitors))
 }
 
 /// A monitor has seen no event at first. Behind an acceptance, a publish and its receipt it sees one.
@@ -102,13 +99,21 @@ fn sees_one<J: BookName, X: Screen<Shown<J>> + Drop, R: Abort>(
     rt: &R,
     opened: Opened<J, X>,
 ) -> Result<(), Fail> {
-    let mut watched = watched_by(opened)?;
-    let mut monitor = watched.monitors.pop().ok_or("a monitor")?;
+    let (mut watched, mut monitors) = watched_by(opened)?;
+    let mut monitor = monitors.pop().ok_or("a monitor")?;
+    sees_one_of(rt, &mut watched, &mut monitor)
+}
+
+fn sees_one_of<J: BookName, X: Screen<Shown<J>> + Drop, R: Abort>(
+    rt: &R,
+    watched: &mut Watched<J, X>,
+    monitor: &mut Monitor<J>,
+) -> Result<(), Fail> {
     assert_eq!(rt; watched.device.receipt().events(), 0);
-    sees(rt, &mut monitor, 0);
+    sees(rt, monitor, 0);
     let receipt = watched.publishes(rt, 1)?;
     monitor.learn(&receipt);
-    sees(rt, &mut monitor, 1);
+    sees(rt, monitor, 1);
     Ok(())
 }
 
@@ -139,18 +144,28 @@ fn sees_two_of_three<J: BookName, X: Screen<Shown<J>> + Drop, R: Abort>(
     rt: &R,
     opened: Opened<J, X>,
 ) -> Result<(), Fail> {
-    let mut watched = watched_by(opened)?;
-    let mut other = watched.monitors.pop().ok_or("monitor 1")?;
-    let mut monitor = watched.monitors.pop().ok_or("monitor 0")?;
+    let (mut watched, mut monitors) = watched_by(opened)?;
+    let (Some(mut other), Some(mut monitor)) = (monitors.pop(), monitors.pop()) else {
+        return Err(Fail::from("two monitors"));
+    };
+    sees_two_by(rt, &mut watched, &mut monitor, &mut other)
+}
+
+fn sees_two_by<J: BookName, X: Screen<Shown<J>> + Drop, R: Abort>(
+    rt: &R,
+    watched: &mut Watched<J, X>,
+    monitor: &mut Monitor<J>,
+    other: &mut Monitor<J>,
+) -> Result<(), Fail> {
     let first = watched.publishes(rt, 1)?;
     let second = watched.publishes(rt, 2)?;
     watched.admits(rt)?;
     monitor.learn(&second);
     other.learn(&first);
-    sees(rt, &mut monitor, 2);
-    assert!(rt; is_seen(&mut other, 2));
+    sees(rt, monitor, 2);
+    assert!(rt; is_seen(other, 2));
     other.learn(&second);
-    sees(rt, &mut other, 2);
+    sees(rt, other, 2);
     assert_eq!(rt; watched.device.engine().events().len(), 3);
     Ok(())
 }
@@ -192,20 +207,16 @@ fn reads_beside<
     X: Screen<Shown<J>> + Drop,
     R: Threads + Wait + Abort + Sync,
 >(rt: &R, opened: Opened<J, X>) -> Result<(), Fail> {
-    let mut watched = watched_by(opened)?;
-    let monitor = watched.monitors.pop().ok_or("a monitor")?;
+    // The device is there until the monitor has read for the last time.
+    let (mut watched, mut monitors) = watched_by(opened)?;
+    let monitor = monitors.pop().ok_or("a monitor")?;
+    let device = &mut watched;
     let ended = AtomicBool::new(false);
     let over = &ended;
-    let part = move || {
-        let published = publish_often(rt, watched);
-        over.store(true, Ordering::SeqCst);
-        published
-    };
-    let (grows, published) = thread::join(rt, move || only_grows(rt, monitor, over), part);
-    // The device is there until the monitor has read for the last time.
-    let _watched = published?;
+    let read = move || only_grows(rt, monitor, over);
+    let (grows, published) = thread::join(rt, read, move || publish_often(rt, device, over));
     assert!(rt; grows);
-    Ok(())
+    published
 }
 
 /// Reads until the publishes have ended, and says whether no read showed less than the one before it and the last of
@@ -228,16 +239,25 @@ fn only_grows<J: BookName, R: Wait>(rt: &R, monitor: Monitor<J>, ended: &AtomicB
     unreachable!()
 }
 
-/// Accepts a packet and publishes it, so many times, and gives back what was opened.
+/// Accepts a packet and publishes it, so many times, and says so when it has ended.
 fn publish_often<J: BookName, X: Screen<Shown<J>> + Drop, R: Abort>(
     rt: &R,
-    watched: Watched<J, X>,
-) -> Result<Watched<J, X>, Fail> {
-    let mut watched = watched;
+    watched: &mut Watched<J, X>,
+    ended: &AtomicBool,
+) -> Result<(), Fail> {
+    let published = publish_all(rt, watched);
+    ended.store(true, Ordering::SeqCst);
+    published
+}
+
+fn publish_all<J: BookName, X: Screen<Shown<J>> + Drop, R: Abort>(
+    rt: &R,
+    watched: &mut Watched<J, X>,
+) -> Result<(), Fail> {
     for round in 1..=PUBLISHES {
         watched.publishes(rt, round)?;
     }
-    Ok(watched)
+    Ok(())
 }
 
 /// As many monitors as there may be see one publish.
@@ -260,10 +280,18 @@ fn all_see_one<J: BookName, X: Screen<Shown<J>> + Drop, R: Abort>(
     rt: &R,
     opened: Opened<J, X>,
 ) -> Result<(), Fail> {
-    let mut watched = watched_by(opened)?;
+    let (mut watched, mut monitors) = watched_by(opened)?;
+    all_see_by(rt, &mut watched, &mut monitors)
+}
+
+fn all_see_by<J: BookName, X: Screen<Shown<J>> + Drop, R: Abort>(
+    rt: &R,
+    watched: &mut Watched<J, X>,
+    monitors: &mut Vec<Monitor<J>>,
+) -> Result<(), Fail> {
     let receipt = watched.publishes(rt, 1)?;
-    assert_eq!(rt; watched.monitors.len(), MAX_MONITORS as usize);
-    for monitor in &mut watched.monitors {
+    assert_eq!(rt; monitors.len(), MAX_MONITORS as usize);
+    for monitor in monitors {
         monitor.learn(&receipt);
         sees(rt, monitor, 1);
     }

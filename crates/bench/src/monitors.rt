@@ -1,0 +1,267 @@
+//! How long a publish and a monitor's read take, and how fast a device is while monitors read.
+
+ghost use Rattle.std.specs.Prelude.{◌≡◌, ◌≤◌};
+ghost use denote.Param.Send.{IsSync};
+
+use crate::lanes::{has_sent_all, open, pump_one, submit_all, take_some};
+use crate::timing::{Fault, REPETITIONS, nanoseconds_since, now, packet_to};
+use crate::workload::ROUNDS;
+use packet_core::{Ecn, Packet};
+use port_core::{BookBlank, BookName, Device, LaneSender, Monitor, Opened, Screen, Shown};
+use std::alloc::AllocError;
+use std::marker::{Brand, Send, Sync};
+use std::rt::Clock;
+use std::sync::Wait;
+use std::sync::atomic::{AtomicBool, Ordering};
+use std::thread::{self, Threads};
+
+/// How many publishes a repetition has.
+pub const PUBLISHES: u32 = 1_000;
+
+/// The least time that the publishes took, each behind so many new events, in nanoseconds. A look at the clock is part
+/// of each.
+pub fn least_of_publishes<R: AllocGlobal + Clock + Wait>(
+    rt: &R,
+    events: u32,
+) -> Result<u128, Fault> {
+    let packet = packet_to(0, Ecn::NotEct)?;
+    let mut least = u128::MAX;
+    for _ in 0..REPETITIONS {
+        least = least.min(publishing::<Brand, _>(rt, BookBlank::new(), packet, events)?);
+    }
+    Ok(least)
+}
+
+/// The time that they took once, on a device with one monitor.
+fn publishing<J: BookName, R: AllocGlobal + Clock + Wait>(
+    rt: &R,
+    blank: BookBlank,
+    packet: Packet,
+    events: u32,
+) -> Result<u128, Fault>
+    requires { blank ≡ J.book }
+{
+    publishing_on(rt, open::<J, R>(rt, blank, 1, 1)?, packet, events)
+}
+
+/// The same, on a device that was opened.
+fn publishing_on<J: BookName, X: Screen<Shown<J>> + Drop, R: Clock>(
+    rt: &R,
+    opened: Opened<J, X>,
+    packet: Packet,
+    events: u32,
+) -> Result<u128, Fault> {
+    let Opened {
+        mut senders,
+        mut device,
+        monitors: _monitors,
+    } = opened;
+    publish_often(rt, &mut senders, &mut device, packet, events)
+}
+
+/// Accepts so many packets and publishes them, over and over, and gives the time that the publishes took.
+fn publish_often<J: BookName, X: Screen<Shown<J>> + Drop, R: Clock>(
+    rt: &R,
+    senders: &mut Vec<LaneSender>,
+    device: &mut Device<J, X>,
+    packet: Packet,
+    events: u32,
+) -> Result<u128, Fault> {
+    let mut took = 0_u128;
+    for _ in 0..PUBLISHES {
+        for _ in 0..events {
+            if !submit_all(senders, packet, 1) || !pump_one(device, 0) {
+                return Err(Fault::Refused);
+            }
+        }
+        let begun = now(rt);
+        let is_done = device.publish().is_ok();
+        took = took.saturating_add(nanoseconds_since(rt, begun, is_done)?);
+    }
+    Ok(took)
+}
+
+/// Whether a device publishes while a monitor reads.
+#[derive(Clone, Copy, Debug, PartialEq, Eq)]
+pub enum Beside {
+    /// It doesn't.
+    Nothing,
+    /// It does nothing else.
+    Publishes,
+}
+
+/// The least time that a repetition of a monitor's reads took, in nanoseconds.
+pub fn least_of_reads<R: AllocGlobal + Clock + Threads + Wait + Sync>(
+    rt: &R,
+    beside: Beside,
+) -> Result<u128, Fault> {
+    let mut least = u128::MAX;
+    for _ in 0..REPETITIONS {
+        least = least.min(reading::<Brand, _>(rt, BookBlank::new(), beside)?);
+    }
+    Ok(least)
+}
+
+/// The time that they took once.
+fn reading<J: BookName + Send + Sync, R: AllocGlobal + Clock + Threads + Wait + Sync>(
+    rt: &R,
+    blank: BookBlank,
+    beside: Beside,
+) -> Result<u128, Fault>
+    requires { blank ≡ J.book }
+{
+    reading_of(rt, open::<J, R>(rt, blank, 1, 1)?, beside)
+}
+
+/// The same, of what a device that was opened shows.
+fn reading_of<
+    J: BookName + Send + Sync,
+    X: Screen<Shown<J>> + Drop + Send,
+    R: Clock + Threads + Wait + Sync,
+>(rt: &R, opened: Opened<J, X>, beside: Beside) -> Result<u128, Fault> {
+    let Opened {
+        senders: _senders,
+        device,
+        mut monitors,
+    } = opened;
+    let monitor = monitors.pop();
+    let ended = AtomicBool::new(beside == Beside::Nothing);
+    let over = &ended;
+    let read = move || {
+        let took = read_often(rt, monitor);
+        over.store(true, Ordering::SeqCst);
+        took
+    };
+    let (took, _device) = thread::join(rt, read, move || publish_on(rt, device, over));
+    took
+}
+
+/// The time of a repetition of reads.
+fn read_often<J: BookName, R: Clock>(rt: &R, monitor: Option<Monitor<J>>) -> Result<u128, Fault> {
+    let Some(mut monitor) = monitor else {
+        return Err(Fault::Refused);
+    };
+    let begun = now(rt);
+    let is_done = read_all(&mut monitor);
+    nanoseconds_since(rt, begun, is_done)
+}
+
+/// Reads so often. It answers whether no read showed less than the one before it.
+fn read_all<J: BookName>(monitor: &mut Monitor<J>) -> bool {
+    let mut before = 0;
+    for _ in 0..ROUNDS {
+        let events = monitor.totals().events;
+        if events < before {
+            return false;
+        }
+        before = events;
+    }
+    true
+}
+
+/// Publishes until the reads have ended, and gives the device back.
+fn publish_on<J: BookName, X: Screen<Shown<J>> + Drop, R: Wait>(
+    rt: &R,
+    device: Device<J, X>,
+    ended: &AtomicBool,
+) -> Device<J, X> {
+    let mut device = device;
+    for _ in rt.forever() {
+        if ended.load(Ordering::SeqCst) || device.publish().is_err() {
+            break;
+        }
+    }
+    device
+}
+
+/// The least time that a device took for the packets of a repetition while so many monitors read all the time, in
+/// nanoseconds.
+pub fn least_while_read<R: AllocGlobal + Clock + Threads + Wait + Sync>(
+    rt: &R,
+    monitors: u32,
+) -> Result<u128, Fault>
+    requires { monitors ≤ 4 }
+{
+    let packet = packet_to(0, Ecn::NotEct)?;
+    let mut least = u128::MAX;
+    for _ in 0..REPETITIONS {
+        least = least.min(while_read::<Brand, _>(rt, BookBlank::new(), packet, monitors)?);
+    }
+    Ok(least)
+}
+
+/// The time that it took once.
+fn while_read<J: BookName + Send + Sync, R: AllocGlobal + Clock + Threads + Wait + Sync>(
+    rt: &R,
+    blank: BookBlank,
+    packet: Packet,
+    monitors: u32,
+) -> Result<u128, Fault>
+    requires book { blank ≡ J.book }
+    requires monitors { monitors ≤ 4 }
+{
+    while_read_on(rt, open::<J, R>(rt, blank, 1, monitors)?, packet)
+}
+
+/// The same, of a device that was opened. All packets stand in its lane before.
+fn while_read_on<
+    J: BookName + Send + Sync,
+    X: Screen<Shown<J>> + Drop + Send,
+    R: Clock + Threads + Wait + Sync,
+>(rt: &R, opened: Opened<J, X>, packet: Packet) -> Result<u128, Fault> {
+    let Opened {
+        mut senders,
+        device,
+        monitors,
+    } = opened;
+    let submitted = submit_all(&mut senders, packet, ROUNDS);
+    let ended = AtomicBool::new(false);
+    let over = &ended;
+    let part = move || {
+        let begun = now(rt);
+        let device = pass_all(device);
+        let took = nanoseconds_since(rt, begun, submitted && has_sent_all(&device));
+        over.store(true, Ordering::SeqCst);
+        (device, took)
+    };
+    let read = move || -> Result<Vec<u64>, AllocError>
+        requires { IsSync R.row }
+    { read_each(rt, monitors, over) };
+    let ((_device, took), read) = thread::join(rt, part, read);
+    let _ = read?;
+    took
+}
+
+/// Pumps the packets of the lane, sends what waits and publishes, until no packet is left or it is refused.
+fn pass_all<J: BookName, X: Screen<Shown<J>> + Drop>(device: Device<J, X>) -> Device<J, X> {
+    let mut device = device;
+    for _ in 0..ROUNDS {
+        if has_sent_all(&device) || !take_some(&mut device) || device.publish().is_err() {
+            break;
+        }
+    }
+    device
+}
+
+/// Each monitor reads in a thread of its own until the packets have passed.
+fn read_each<J: BookName + Send + Sync, R: Threads + Wait + Sync>(
+    rt: &R,
+    monitors: Vec<Monitor<J>>,
+    ended: &AtomicBool,
+) -> Result<Vec<u64>, AllocError> {
+    let read = move |monitor: Monitor<J>| read_on(rt, monitor, ended);
+    thread::map_vec(rt, monitors, &read)
+}
+
+/// Reads until the packets have passed, and gives the events that were seen last.
+fn read_on<J: BookName, R: Wait>(rt: &R, monitor: Monitor<J>, ended: &AtomicBool) -> u64 {
+    let mut monitor = monitor;
+    let mut events = 0;
+    for _ in rt.forever() {
+        events = monitor.totals().events;
+        if ended.load(Ordering::SeqCst) {
+            break;
+        }
+    }
+    events
+}
