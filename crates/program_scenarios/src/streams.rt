@@ -62,6 +62,68 @@ impl Write for NarrowWriter {
     }
 }
 
+/// A stream that is interrupted so often before it is read or written.
+#[derive(Drop)]
+struct Interrupted<T> {
+    stream: T,
+    left: u32,
+}
+
+impl<T> Interrupted<T> {
+    /// It is interrupted once more, if at all.
+    fn interrupt(&mut self) -> io::Result<()> {
+        if self.left == 0 {
+            return Ok(());
+        }
+        self.left -= 1;
+        Err(io::Error::from(ErrorKind::Interrupted))
+    }
+}
+
+impl Read for Interrupted<&[u8]> {
+    fn read(&mut self, buf: &mut [u8]) -> io::Result<usize> {
+        self.interrupt()?;
+        self.stream.read(buf)
+    }
+}
+
+impl Write for Interrupted<Vec<u8>> {
+    fn write(&mut self, buf: &[u8]) -> io::Result<usize> {
+        self.interrupt()?;
+        self.stream.write(buf)
+    }
+
+    fn flush(&mut self) -> io::Result<()> {
+        Ok(())
+    }
+}
+
+/// Runs the program on a trace of one dequeue with a reader and a writer that are interrupted so often, and compares
+/// what it writes and how it ends.
+fn expect_interrupted(
+    rt: &(impl Abort + AllocGlobal + Threads + Wait + Sync),
+    reads: u32,
+    writes: u32,
+    status: u8,
+    report: &str,
+    faults: &str,
+) -> Result<(), Fail> {
+    let mut reader = Interrupted {
+        stream: "deq,0\n".as_bytes(),
+        left: reads,
+    };
+    let mut writer = Interrupted {
+        stream: Vec::new(rt.alloc()),
+        left: writes,
+    };
+    let mut told = Vec::new(rt.alloc());
+    let ended = program(rt, rt.alloc(), &WORDS, &mut reader, &mut writer, &mut told);
+    assert_eq!(rt; str::from_utf8(&told)?, faults);
+    assert_eq!(rt; str::from_utf8(&writer.stream)?, report);
+    assert_eq!(rt; ended, status);
+    Ok(())
+}
+
 /// Runs the program on a trace that comes from a reader, and compares what it writes and how it ends.
 fn expect_from<R: Read>(
     rt: &(impl Abort + AllocGlobal + Threads + Wait + Sync),
@@ -118,12 +180,11 @@ fn failed_reads_refused(rt: HostRuntime) -> Result<(), Fail> {
 }
 
 #[test]
-fn interrupted_reads_refused(rt: HostRuntime) -> Result<(), Fail> {
-    let mut reader = CutReader {
-        text: b"deq,0\n",
-        failure: ErrorKind::Interrupted,
-    };
-    expect_from(&rt, &mut reader, 1, "", "fqsim: row 0: Read\n")
+fn interruptions_are_tried_again(rt: HostRuntime) -> Result<(), Fail> {
+    let report = "idle\ntotals,0,0,0,0,0,0,0,0,0,0,open\n";
+    expect_interrupted(&rt, 1_000, 1_000, 0, report, "")?;
+    expect_interrupted(&rt, 1_001, 0, 1, "", "fqsim: row 0: Read\n")?;
+    expect_interrupted(&rt, 0, 1_001, 1, "", "fqsim: write\n")
 }
 
 #[test]

@@ -3,10 +3,12 @@
 #![tactic(auto)]
 
 mod faults;
+mod interruptions;
 mod reader;
 mod row;
 mod streams;
 
 pub use faults::{MAX_BYTES, MAX_ROWS, TraceFault, TraceFaultKind};
+pub use interruptions::{Interruptions, MAX_INTERRUPTIONS};
 pub use reader::{Next, TraceRows, read_text, read_trace, read_trace_from};
 pub use streams::{Source, Watched};

@@ -1,10 +1,14 @@
 //! The reading of a trace: its bytes, the records that `csv` cuts off them, and the rows and steps of these.
-ghost use Rattle.std.specs.Prelude.{◌≡◌, ◌<◌, ◌≤◌, ◌⊎◌, ◌∷◌, [], ℕ, ◌++◌, IfErr, IfOk, IfSome, IsErrOf, List, Ok, false, length, true, vec_len};
+ghost use Rattle.std.specs.Prelude.{◌≡◌, ◌<◌, ◌≤◌, ◌⊎◌, ◌∷◌, [], ℕ, ◌+◌, ◌++◌, IfErr, IfOk, IfSome, IsErrOf, List, Ok, OnErr, OnOk, false, length, true, vec_len};
 ghost use Rattle.csv.specs.Reading.{default_config, error_kind, records, strip_bom};
 ghost use Rattle.csv.specs.Records.{fields_of};
+ghost use Rattle.std.specs.Io.{ReadsAtMost};
+ghost use Rattle.std.specs.Io.KnownBytes.{ReadConsumes};
+ghost use Rattle.row_core.specs.Streams.{GaveUp, WentOn};
 ghost use Rattle.row_core.specs.Traces as Traces;
 
 use crate::faults::{MAX_BYTES, MAX_ROWS, TraceFault, TraceFaultKind};
+use crate::interruptions::{Interruptions, MAX_INTERRUPTIONS};
 use crate::row::{field, read_row};
 use crate::streams::{Source, Watched};
 use csv::{ByteRecord, ErrorKind, ReaderBuilder};
@@ -26,28 +30,34 @@ pub fn read_trace<R: Read>(alloc: Global, reader: &mut R) -> Result<Vec<Step>, T
 }
 
 /// The same as `read_trace`, of the trace that a source gives, which tells whether it has failed. `Read` at row 0 is
-/// answered only where it has, and `Read` at a later row only where the reader of `csv` over its text has failed.
+/// answered only where it has or was interrupted more than `MAX_INTERRUPTIONS` times, and `Read` at a later row only
+/// where the reader of `csv` over its text has failed.
 pub fn read_trace_from<S: Source>(alloc: Global, source: &mut S) -> Result<Vec<Step>, TraceFault>
     ensures steps { IfOk result (λ steps.
         IfSome (S.remaining source.old) (λ bytes. Traces.trace_of bytes ≡ Ok steps.items)) }
     ensures fault { IfErr result (λ fault. IfSome (S.remaining source.old) (λ bytes. Traces.IsFaultOf bytes fault)) }
 
-    // Read comes only where the source or `csv`'s reader of its text has failed.
+    // Read comes only where the source was given up or `csv`'s reader of its text has failed.
     ensures read { IfErr result (λ fault. fault.what ≡ TraceFaultKind.Read
-        → Traces.ReadFails (S.remaining source.old) (S.HasFailed source.new) fault.row) }
+        → Traces.ReadFails (S.remaining source.old)
+        (GaveUp (S.HasFailed source.new) (S.interruptions source.old) (S.interruptions source.new)) fault.row) }
+    ensures went_on { OnOk result (WentOn (S.interruptions source.old) (S.interruptions source.new)) }
 {
     let text = read_text(alloc, source)?;
     all_steps(alloc, &mut TraceRows::new(alloc, &text))
 }
 
 /// The text of the trace that a source gives: all its bytes, of which there are at most `MAX_BYTES`. A fault stands at
-/// row 0, and `Read` is answered only where the source has failed.
+/// row 0, and `Read` is answered only where the source has failed or was interrupted more than `MAX_INTERRUPTIONS`
+/// times.
 pub fn read_text<S: Source>(alloc: Global, source: &mut S) -> Result<Vec<u8>, TraceFault>
     ensures whole { IfOk result (λ text. IfSome (S.remaining source.old) (λ bytes. text.items ≡ bytes)) }
     ensures bound { IfOk result (λ text. vec_len text ≤ MAX_BYTES) }
     ensures fault { IfErr result (λ fault. IfSome (S.remaining source.old) (λ bytes. Traces.IsFaultOf bytes fault)) }
     ensures row { IfErr result (λ fault. fault.row ≡ 0) }
-    ensures read { IfErr result (λ fault. fault.what ≡ TraceFaultKind.Read → S.HasFailed source.new) }
+    ensures read { IfErr result (λ fault. fault.what ≡ TraceFaultKind.Read
+        → GaveUp (S.HasFailed source.new) (S.interruptions source.old) (S.interruptions source.new)) }
+    ensures went_on { OnOk result (WentOn (S.interruptions source.old) (S.interruptions source.new)) }
 {
     match read_bytes(alloc, source) {
         Ok(text) => Ok(text),
@@ -64,13 +74,16 @@ fn read_bytes<S: Source>(alloc: Global, source: &mut S) -> Result<Vec<u8>, Trace
         → IfSome (S.remaining source.old) (λ bytes. MAX_BYTES < length bytes) }
     ensures fault { IfErr result (λ fault.
         (fault ≡ TraceFaultKind.Read) ⊎ (fault ≡ TraceFaultKind.TooLarge) ⊎ (fault ≡ TraceFaultKind.Memory)) }
-    ensures read { IsErrOf result TraceFaultKind.Read → S.HasFailed source.new }
+    ensures read { IsErrOf result TraceFaultKind.Read
+        → GaveUp (S.HasFailed source.new) (S.interruptions source.old) (S.interruptions source.new) }
+    ensures went_on { OnOk result (WentOn (S.interruptions source.old) (S.interruptions source.new)) }
 {
     let mut text = Vec::new(alloc);
     let mut chunk = [0u8; CHUNK];
+    let mut interruptions = Interruptions::none();
     // Each turn that isn't the last one takes a byte or more.
     for _turn in 0..=MAX_BYTES {
-        let Ok(count) = source.read(&mut chunk) else {
+        let Ok(count) = read_some(source, &mut chunk, &mut interruptions) else {
             return Err(TraceFaultKind::Read);
         };
         if count == 0 {
@@ -84,6 +97,39 @@ fn read_bytes<S: Source>(alloc: Global, source: &mut S) -> Result<Vec<u8>, Trace
         }
     }
     Err(TraceFaultKind::TooLarge)
+}
+
+/// The source was given up.
+#[derive(Drop)]
+struct Unread;
+
+/// Fills the front of a buffer, and says how many bytes of it. It asks again where the source is interrupted.
+fn read_some<S: Source>(
+    source: &mut S,
+    buffer: &mut [u8],
+    interruptions: &mut Interruptions,
+) -> Result<usize, Unread>
+    requires { interruptions.old.count ≤ MAX_INTERRUPTIONS }
+    ensures bound { ReadsAtMost result buffer.new }
+    ensures bytes { ReadConsumes (S.remaining source.old) (S.remaining source.new) result buffer.new }
+    ensures count { OnOk result ((interruptions.new.count ≤ MAX_INTERRUPTIONS)
+        × (S.interruptions source.new + interruptions.old.count
+        ≡ S.interruptions source.old + interruptions.new.count)) }
+    ensures unread { OnErr result ((S.HasFailed source.new)
+        ⊎ (S.interruptions source.new + interruptions.old.count ≡ S.interruptions source.old + 1001)) }
+{
+    // Each turn that isn't the last one is an interruption more.
+    for _turn in 0..=MAX_INTERRUPTIONS {
+        match source.read(buffer) {
+            Ok(count) => return Ok(count),
+            Err(why) => {
+                if !interruptions.retries(&why) {
+                    return Err(Unread);
+                }
+            }
+        }
+    }
+    Err(Unread)
 }
 
 /// What stands next in a text.

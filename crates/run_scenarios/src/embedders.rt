@@ -43,16 +43,18 @@ impl Source for Intake<'_> {
 
     ghost HasFailed = { λ intake. intake.has_failed ≡ true };
 
+    ghost interruptions = { λ _. 0 };
+
     fn read(&mut self, buffer: &mut [u8]) -> io::Result<usize> {
         if self.overran && self.bytes.is_empty() {
             self.has_failed = true;
             return Err(io::Error::from(ErrorKind::UnexpectedEof));
         }
-        let answer = self.bytes.read(buffer);
-        if answer.is_err() {
+        let Ok(count) = self.bytes.read(buffer) else {
             self.has_failed = true;
-        }
-        answer
+            return Err(io::Error::from(ErrorKind::Other));
+        };
+        Ok(count)
     }
 }
 
@@ -71,6 +73,8 @@ impl Sink for Page {
     ghost Wrote = { λ a text b. b.bytes.items ≡ a.bytes.items ++ text };
 
     ghost HasFailed = { λ page. page.is_full ≡ true };
+
+    ghost interruptions = { λ _. 0 };
 
     ghost wrote_none = { λ a. sym (append-nil a.bytes.items) };
 

@@ -1,6 +1,7 @@
 //! The text of an engine's journal, with what each of its senders did.
 ghost use Rattle.std.specs.Prelude.{◌≡◌, ◌≢◌, ℕ, IfErr, OnOk, take};
 ghost use Rattle.std.specs.Io.KnownBytes.{Appends, Keeps};
+ghost use Rattle.row_core.specs.Streams.{GaveUp, WentOn};
 ghost use Rattle.trace_core.specs.Report.{journal_text};
 ghost use Rattle.trace_core.specs.declared.trace_run.RunFault.TheVariants as RunFault;
 
@@ -48,7 +49,7 @@ pub fn write_journal<W: Write>(
 }
 
 /// The same as `write_journal`, to a sink, which tells whether it has failed. For a caller whose writer can tell
-/// that: `Write` is answered only where the sink has failed.
+/// that: `Write` is answered only where the sink has failed or was interrupted more than `MAX_INTERRUPTIONS` times.
 pub fn write_journal_to<K: Sink>(
     alloc: Global,
     sink: &mut K,
@@ -62,8 +63,10 @@ pub fn write_journal_to<K: Sink>(
     ensures memory { IfErr result (λ fault. (fault ≢ RunFault.Write) → fault ≡ RunFault.Memory) }
     ensures untouched { IfErr result (λ fault. (fault ≢ RunFault.Write) → sink.new ≡ sink.old) }
 
-    // Write comes only where the sink has failed.
-    ensures write { IfErr result (λ fault. fault ≡ RunFault.Write → K.HasFailed sink.new) }
+    // Write comes only where the sink was given up.
+    ensures write { IfErr result (λ fault. fault ≡ RunFault.Write
+        → GaveUp (K.HasFailed sink.new) (K.interruptions sink.old) (K.interruptions sink.new)) }
+    ensures went_on { OnOk result (WentOn (K.interruptions sink.old) (K.interruptions sink.new)) }
 {
     let text = Rows::new(alloc).journal(engine, senders)?;
     write_text(sink, &text)

@@ -1,11 +1,12 @@
 //! The run of a trace: its steps are made as its rows are read, and the report is written.
-ghost use Rattle.std.specs.Prelude.{◌≡◌, ◌≢◌, ◌≤◌, ℕ, List, IfErr, IfOk, IfSome, OnErr, OnOk, [], length, take};
+ghost use Rattle.std.specs.Prelude.{◌≡◌, ◌≢◌, ◌≤◌, ◌<◌, ◌+◌, ◌⊎◌, ℕ, List, IfErr, IfOk, IfSome, OnErr, OnOk, [], length, take};
 ghost use Rattle.std.specs.Result.{IsOkUnless};
 ghost use Rattle.std.specs.Io.KnownBytes.{Appends, Keeps};
 ghost use Rattle.packet_core.specs.declared.flow.Seed.{Seed};
 ghost use Rattle.packet_core.specs.declared.params.ParamFields.{ParamFields};
 ghost use Rattle.sched_core.specs.Schedulers.{new_scheduler};
 ghost use Rattle.trace_core.specs.Report.{IsReportOf, RunsStep, RunsText};
+ghost use Rattle.row_core.specs.Streams.{GaveUp, WentOn};
 ghost use Rattle.row_core.specs.Traces.{HasTaken, IsFaultOf, IsRowsFault, ReadFails, TextReader, reader_of};
 ghost use Rattle.row_core.specs.declared.faults.TraceFault.{TraceFault};
 ghost use Rattle.row_core.specs.declared.faults.TraceFaultKind.TheVariants as kind;
@@ -15,7 +16,8 @@ use crate::report::Rows;
 use crate::streams::Sink;
 use packet_core::{Params, Seed};
 use row_core::{
-    MAX_BYTES, Next, Source, TraceFault, TraceFaultKind, TraceRows, Watched, read_text,
+    Interruptions, MAX_BYTES, MAX_INTERRUPTIONS, Next, Source, TraceFault, TraceFaultKind,
+    TraceRows, Watched, read_text,
 };
 use sched_core::{Memory, Sched, Step};
 use std::alloc::{AllocError, Global};
@@ -81,8 +83,9 @@ pub fn run<R: Read, W: Write>(
 }
 
 /// The same as `run`, from a source to a sink, which tell whether they have failed. For a caller whose reader or
-/// writer can tell that: `Read` at row 0 is answered only where the source has failed, `Read` at a later row only
-/// where the reader of `csv` over its text has, and `Write` only where the sink has.
+/// writer can tell that: `Read` at row 0 is answered only where the source has failed or was interrupted more than
+/// `MAX_INTERRUPTIONS` times, `Read` at a later row only where the reader of `csv` over its text has failed, and
+/// `Write` only where the sink has failed or was interrupted more than `MAX_INTERRUPTIONS` times.
 pub fn run_between<S: Source, K: Sink>(
     alloc: Global,
     source: &mut S,
@@ -99,10 +102,15 @@ pub fn run_between<S: Source, K: Sink>(
         → IfSome (S.remaining source.old) (λ bytes. IsFaultOf bytes why)) }
     ensures untouched { IfErr result (λ fault. (fault ≢ RunFault.Write) → sink.new ≡ sink.old) }
 
-    // Read comes only where the source or `csv`'s reader of its text has failed, and Write only where the sink has.
+    // Read comes only where the source was given up or `csv`'s reader of its text has failed, and Write only where the
+    // sink was given up.
     ensures read { IfErr result (λ fault. (why : TraceFault) → fault ≡ RunFault.Trace why → why.what ≡ kind.Read
-        → ReadFails (S.remaining source.old) (S.HasFailed source.new) why.row) }
-    ensures write { IfErr result (λ fault. fault ≡ RunFault.Write → K.HasFailed sink.new) }
+        → ReadFails (S.remaining source.old)
+        (GaveUp (S.HasFailed source.new) (S.interruptions source.old) (S.interruptions source.new)) why.row) }
+    ensures write { IfErr result (λ fault. fault ≡ RunFault.Write
+        → GaveUp (K.HasFailed sink.new) (K.interruptions sink.old) (K.interruptions sink.new)) }
+    ensures read_on { OnOk result (WentOn (S.interruptions source.old) (S.interruptions source.new)) }
+    ensures wrote_on { OnOk result (WentOn (K.interruptions sink.old) (K.interruptions sink.new)) }
 {
     let text = read_text(alloc, source)?;
     let report = run_text(alloc, &text, params, seed)?;
@@ -166,23 +174,62 @@ fn run_step(sched: &mut Sched, step: &Step, report: &mut Rows) -> Result<(), Mem
     report.step(answer, &sched.events()[first..])
 }
 
-/// Writes the whole of a text. Where the sink fails, the front of the text is written.
+/// Writes the whole of a text. Where the sink is given up, the front of the text is written.
 pub(crate) fn write_text<S: Sink>(sink: &mut S, text: &[u8]) -> Result<(), RunFault>
     ensures whole { OnOk result (S.Wrote sink.old text.now sink.new) }
     ensures front { OnErr result ((count : ℕ) × S.Wrote sink.old (take count text.now) sink.new) }
-    ensures failed { OnErr result (S.HasFailed sink.new) }
+    ensures gave_up { OnErr result
+        (GaveUp (S.HasFailed sink.new) (S.interruptions sink.old) (S.interruptions sink.new)) }
+    ensures went_on { OnOk result (WentOn (S.interruptions sink.old) (S.interruptions sink.new)) }
     ensures fault { IsOkUnless result RunFault.Write }
 {
     let mut done = 0;
+    let mut interruptions = Interruptions::none();
     // Each turn takes a byte or more.
     for _turn in 0..text.len() {
         if done == text.len() {
             return Ok(());
         }
-        match sink.write(&text[done..]) {
+        match write_some(sink, &text[done..], &mut interruptions) {
             Ok(count) => done += count,
             Err(_) => return Err(RunFault::Write),
         }
     }
     Ok(())
+}
+
+/// The sink was given up.
+#[derive(Drop)]
+struct Unwritten;
+
+/// Writes the front of a text that isn't empty, and says how many bytes of it. It tries again where the sink is
+/// interrupted.
+fn write_some<S: Sink>(
+    sink: &mut S,
+    text: &[u8],
+    interruptions: &mut Interruptions,
+) -> Result<usize, Unwritten>
+    requires text { 0 < length text.now }
+    requires few { interruptions.old.count ≤ MAX_INTERRUPTIONS }
+    ensures bound { IfOk result (λ count. (0 < count) × (count ≤ length text.now)) }
+    ensures bytes { IfOk result (λ count. S.Wrote sink.old (take count text.now) sink.new) }
+    ensures nothing { OnErr result (S.Wrote sink.old [] sink.new) }
+    ensures count { OnOk result ((interruptions.new.count ≤ MAX_INTERRUPTIONS)
+        × (S.interruptions sink.new + interruptions.old.count
+        ≡ S.interruptions sink.old + interruptions.new.count)) }
+    ensures unwritten { OnErr result ((S.HasFailed sink.new)
+        ⊎ (S.interruptions sink.new + interruptions.old.count ≡ S.interruptions sink.old + 1001)) }
+{
+    // Each turn that isn't the last one is an interruption more.
+    for _turn in 0..=MAX_INTERRUPTIONS {
+        match sink.write(text) {
+            Ok(count) => return Ok(count),
+            Err(why) => {
+                if !interruptions.retries(&why) {
+                    return Err(Unwritten);
+                }
+            }
+        }
+    }
+    Err(Unwritten)
 }

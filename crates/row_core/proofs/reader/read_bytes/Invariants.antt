@@ -1,4 +1,4 @@
-use Rattle.std.proofs.Common.{◌≤◌, length}
+use Rattle.std.proofs.Common.{◌≡◌, ◌≤◌, ◌+◌, length}
 use Rattle.std.specs.Io.KnownBytes.{Consumes}
 use Rattle.row_core.proofs.reader.read_bytes.Given as goal
 
@@ -7,4 +7,6 @@ invariant-loop-turn g l = record {
   turns : l._turn ≤ length l.text.items;
   within : length l.text.items ≤ 134217728;
   consumed : Consumes (g.S.Source.remaining l.initial.source) (g.S.Source.remaining l.source) l.text.items;
+  few : l.interruptions.count ≤ 1000;
+  counted : g.S.Source.interruptions l.source ≡ g.S.Source.interruptions l.initial.source + l.interruptions.count;
 }

@@ -6,7 +6,7 @@ use Rattle.trace_core.proofs.trace_run.write_text.Goals as goal
 pub returns-in-Err-clause-front : goal.returns-in-Err-clause-front
 returns-in-Err-clause-front g c =
     let front = take c.loop-turn.done c.args.text.now in
-    let wrote = g.met.S.Sink.wrote_more _ _ _ front [] c.loop-turn.invariant.wrote c.in-Err.ensures.failed.0 in
+    let wrote = g.met.S.Sink.wrote_more _ _ _ front [] c.loop-turn.invariant.wrote c.in-Err.ensures.nothing in
     (c.loop-turn.done, rw (append-nil front) at wrote)
 
 pub loop-turn-preserved : goal.loop-turn-preserved
@@ -17,5 +17,7 @@ loop-turn-preserved g c =
     record {
       turns = grind arith;
       within = grind arith;
+      few = grind arith;
+      counted = grind arith;
       wrote = rw (take-add c.loop-turn.done c.in-Ok.count text) wrote;
     }
