@@ -13,3 +13,6 @@ pub mod ServedChains
 pub mod OverflowLemmas
 pub mod FqCodelPolicy
 pub mod OneRun
+pub mod OldFlows
+pub mod ChainShares
+pub mod CreditRanges

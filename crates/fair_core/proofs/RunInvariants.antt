@@ -52,6 +52,10 @@ module _ {Q : Type 0} (d : Discipline Q) (Keeps : Q → Type 0) (Fits : PacketPa
   accepted_fits old new (Dequeue moment) said made accepts m = tt
   accepted_fits old new (Close moment) said made accepts m = tt
 
+  -- a step that accepts such a packet, if any
+  pub makes_accepting : (old new : State Q) (step : Step) (said : Answer) (made : List Event) → AcceptsFitting Fits made → Makes d old step said made new → Keeps old.queues → Keeps new.queues
+  makes_accepting old new step said made accepts m h = makes_keep old new step said made m (accepted_fits old new step said made accepts m) h
+
   pub runs_keep : (old new : State Q) (steps : List Step) (made : List Made) → Runs d old steps made new → AcceptsFitting Fits (journal_of made) → Keeps old.queues → Keeps new.queues
   runs_keep old new [] [] r accepts h = rw r h
   runs_keep old new [] (m ∷ made) r accepts h = absurd r

@@ -20,13 +20,13 @@ use Rattle.fair_core.proofs.TurnBoundLemmas.{one_owed_less, owed_once, quanta_ow
 use Rattle.fair_core.proofs.TurnLemmas.{turn_once, turn_there}
 
 -- A listed head is a flow, and stands in no list behind it.
-record HeadFits (s : FairQueues) (head : Head) : Type 0 where
-  within : head.flow < length s.lists.queues
-  apart : All (λ other. other ≢ head.flow) (others s.lists head)
-  rest_within : All (λ flow. flow < length s.lists.queues) (others s.lists head)
-  rest_once : AreDistinct (others s.lists head)
+pub record HeadFits (s : FairQueues) (head : Head) : Type 0 where
+  pub within : head.flow < length s.lists.queues
+  pub apart : All (λ other. other ≢ head.flow) (others s.lists head)
+  pub rest_within : All (λ flow. flow < length s.lists.queues) (others s.lists head)
+  pub rest_once : AreDistinct (others s.lists head)
 
-head_fits : (s : FairQueues) (head : Head) → AreSound s → IsHead s.lists head → HeadFits s head
+pub head_fits : (s : FairQueues) (head : Head) → AreSound s → IsHead s.lists head → HeadFits s head
 head_fits s head sound at =
     let e = listed_from_head s.lists head at in
     let within = subst (λ flows. All (λ flow. flow < length s.lists.queues) flows) e sound.listed.within in

@@ -8,3 +8,4 @@ pub mod NewFlows
 pub mod FqCodel
 pub mod Backlogs
 pub mod Shown
+pub mod Credits

@@ -1,5 +1,5 @@
 //! Senders in threads of their own, each with a lane.
-ghost use Rattle.std.specs.Prelude.{◌≡◌, IfOk, length};
+ghost use Rattle.std.specs.Prelude.{◌≡◌, ◌<◌, ◌≤◌, length};
 
 use crate::packets::packet;
 use packet_core::{Packet, Seed, read_params};
@@ -36,19 +36,27 @@ impl Gate for HeldUp<'_> {
 /// the other: on one thread the sender would be held up for good, or the device would find nothing.
 #[test]
 fn gate_lanes(rt: HostRuntime) -> Result<(), Fail> {
-    by_gates::<Brand, _>(&rt, rt.alloc(), BookBlank::new())
+    by_gates::<Brand, _>(&rt, rt.alloc(), BookBlank::new(), 2)
+}
+
+/// The same while 62 other senders send as they like.
+#[test]
+fn gate_lanes_of_64_senders(rt: HostRuntime) -> Result<(), Fail> {
+    by_gates::<Brand, _>(&rt, rt.alloc(), BookBlank::new(), 64)
 }
 
 fn by_gates<J: BookName, R: Threads + Wait + Abort + Sync>(
     rt: &R,
     alloc: Global,
     blank: BookBlank,
+    senders: u32,
 ) -> Result<(), Fail>
-    requires { blank ≡ J.book }
+    requires book { blank ≡ J.book }
+    requires senders { (0 < senders) × (senders ≤ 64) }
 {
     let params = read_params(&["classify", "dport", "flows", "4"])?;
     let layout = Layout {
-        lanes: 2,
+        lanes: senders,
         capacity: 2,
         monitors: 0,
     };
@@ -56,44 +64,46 @@ fn by_gates<J: BookName, R: Threads + Wait + Abort + Sync>(
     send_by_gates(rt, alloc, opened)
 }
 
-/// Two packets for each of the two senders.
-fn lists(alloc: Global) -> Result<Vec<Vec<Packet>>, Fail>
-    ensures { IfOk result (λ lists. length lists.items ≡ 2) }
-{
-    let even = vec![in alloc; packet(2)?, packet(2)?]?;
-    let odd = vec![in alloc; packet(1)?, packet(1)?]?;
-    Ok(vec![in alloc; even, odd]?)
+/// Two packets for each of so many senders.
+fn lists(alloc: Global, senders: usize) -> Result<Vec<Vec<Packet>>, Fail> {
+    let mut lists = Vec::new(alloc);
+    for _ in 0..senders {
+        lists.push(vec![in alloc; packet(1)?, packet(2)?]?)?;
+    }
+    Ok(lists)
 }
 
-/// Two senders, the second of which waits for the device.
+/// The gates of so many senders, of which the second is held up behind its first call.
+fn gates<'a>(alloc: Global, senders: usize, open: &'a AtomicU64) -> Result<Vec<HeldUp<'a>>, Fail> {
+    let mut gates = Vec::new(alloc);
+    for sender in 0..senders {
+        let free = if sender == 1 { 1 } else { 2 };
+        gates.push(HeldUp { free, open })?;
+    }
+    Ok(gates)
+}
+
+/// Senders, the second of which waits for the device.
 fn send_by_gates<J: BookName, X: Screen<Shown<J>> + Drop, R: Threads + Abort + Sync>(
     rt: &R,
     alloc: Global,
     opened: Opened<J, X>,
-) -> Result<(), Fail>
-    requires { length opened.senders.items ≡ 2 }
-{
+) -> Result<(), Fail> {
     let Opened {
         senders,
         device,
         monitors: _monitors,
     } = opened;
-    let lists = lists(alloc)?;
     let open = AtomicU64::new(0);
-    let shared = &open;
-    let gates = [
-        HeldUp {
-            free: 2,
-            open: shared,
-        },
-        HeldUp {
-            free: 1,
-            open: shared,
-        },
-    ];
-    let (done, took) = send_held(rt, alloc, senders, device, &lists, &gates, shared)?;
+    let count = senders.len();
+    let lists = lists(alloc, count)?;
+    let gates = gates(alloc, count, &open)?;
+    if lists.len() != count || gates.len() != count {
+        return Err("as many lists and gates as senders".into());
+    }
+    let (done, took) = send_held(rt, alloc, senders, device, &lists, &gates, &open)?;
     assert!(rt; took);
-    are_done(rt, done)
+    are_done(rt, count, done)
 }
 
 /// Starts the senders with these gates, and gives what they did and whether the device accepted the one packet.
@@ -137,9 +147,9 @@ fn took_one<J: BookName, X: Screen<Shown<J>> + Drop>(device: &mut Device<J, X>) 
     false
 }
 
-/// Each sender submitted both of its packets, and its lane has an end.
-fn are_done<R: Abort>(rt: &R, done: Vec<LaneDone>) -> Result<(), Fail> {
-    assert_eq!(rt; done.len(), 2);
+/// Each of so many senders submitted both of its packets, and its lane has an end.
+fn are_done<R: Abort>(rt: &R, senders: usize, done: Vec<LaneDone>) -> Result<(), Fail> {
+    assert_eq!(rt; done.len(), senders);
     for sender in done {
         assert_eq!(rt; (sender.submitted, sender.stop), (2, Stop::Done));
         assert!(rt; sender.end.is_some());

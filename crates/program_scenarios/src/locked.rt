@@ -1,5 +1,5 @@
 //! Senders in threads of their own.
-ghost use Rattle.std.specs.Prelude.{◌≡◌, IfOk, length};
+ghost use Rattle.std.specs.Prelude.{◌≡◌, ◌+◌, ◌<◌, ◌≤◌};
 
 use crate::packets::packet;
 use packet_core::{Packet, Seed, read_params};
@@ -34,37 +34,78 @@ impl Gate for Side<'_> {
 /// So neither list can be sent behind the other: on one thread a gate would stay closed.
 #[test]
 fn gate_locked(rt: HostRuntime) -> Result<(), Fail> {
-    at_three_seats::<Brand, Brand, _>(&rt, rt.alloc(), Blank::new(3), Blank::new(3))
+    at_gates::<Brand, Brand, _>(&rt, rt.alloc(), 2, Blank::new(3), Blank::new(3))
 }
 
-fn at_three_seats<
-    A: Ledger + Send + Sync,
-    S: Ledger + Send + Sync,
-    R: Threads + Wait + Abort + Sync,
->(rt: &R, alloc: Global, accepted: Blank, sent: Blank) -> Result<(), Fail>
-    requires accepted { (accepted.name ≡ A.name) × (accepted.parts ≡ A.parts) × (A.parts ≡ 3) }
-    requires sent { (sent.name ≡ S.name) × (sent.parts ≡ S.parts) × (S.parts ≡ 3) }
+/// The same while 62 other senders send as they like.
+#[test]
+fn gate_locked_of_64_senders(rt: HostRuntime) -> Result<(), Fail> {
+    at_gates::<Brand, Brand, _>(&rt, rt.alloc(), 64, Blank::new(65), Blank::new(65))
+}
+
+/// So many senders and the device, of which the first two wait for one another.
+fn at_gates<A: Ledger + Send + Sync, S: Ledger + Send + Sync, R: Threads + Wait + Abort + Sync>(
+    rt: &R,
+    alloc: Global,
+    senders: u32,
+    accepted: Blank,
+    sent: Blank,
+) -> Result<(), Fail>
+    requires few { (0 < senders) × (senders ≤ 64) }
+    requires accepted { (accepted.name ≡ A.name) × (accepted.parts ≡ A.parts) × (A.parts ≡ senders + 1) }
+    requires sent { (sent.name ≡ S.name) × (sent.parts ≡ S.parts) × (S.parts ≡ senders + 1) }
 {
     let params = read_params(&["classify", "dport", "flows", "4"])?;
     let seed = Seed([0; 16]);
-    let (port, mut seats) = LockedPort::<A, S>::start(alloc, params, seed, 3, accepted, sent)?;
+    let (port, mut seats) = LockedPort::<A, S>::start(
+        alloc,
+        params,
+        seed,
+        senders + 1,
+        accepted,
+        sent,
+    )?;
     let device = seats.pop().ok_or("the device's seat")?;
     let seats = send_by_gates(rt, alloc, &port, seats, device)?;
     let engine = port.settle(seats).ok().ok_or("it settles")?;
-    assert_eq!(rt; engine.totals().accepted, 4);
+    assert_eq!(rt; engine.totals().accepted, 2 * u64::from(senders));
     Ok(())
 }
 
-/// Two packets for each of the two senders.
-fn lists(alloc: Global) -> Result<Vec<Vec<(u64, Packet)>>, Fail>
-    ensures { IfOk result (λ lists. length lists.items ≡ 2) }
-{
-    let even = vec![in alloc; (0u64, packet(2)?), (1, packet(2)?)]?;
-    let odd = vec![in alloc; (0u64, packet(1)?), (1, packet(1)?)]?;
-    Ok(vec![in alloc; even, odd]?)
+/// Two packets for each of so many senders.
+fn lists(alloc: Global, senders: usize) -> Result<Vec<Vec<(u64, Packet)>>, Fail> {
+    let mut lists = Vec::new(alloc);
+    for _ in 0..senders {
+        lists.push(vec![in alloc; (0u64, packet(1)?), (1, packet(2)?)]?)?;
+    }
+    Ok(lists)
 }
 
-/// Two senders that wait for one another's answers, while the device asks for a packet. Gives their seats and its own.
+/// The gates of so many senders: the first two hold one another, and the others are open.
+fn sides<'a>(
+    alloc: Global,
+    senders: usize,
+    zero: &'a AtomicU64,
+    one: &'a AtomicU64,
+    others: &'a AtomicU64,
+) -> Result<Vec<Side<'a>>, Fail> {
+    let mut sides = Vec::new(alloc);
+    for sender in 0..senders {
+        let (first_held, answered, answered_there) = match sender {
+            0 => (1, zero, one),
+            1 => (2, one, zero),
+            _ => (u64::MAX, others, others),
+        };
+        sides.push(Side {
+            first_held,
+            answered,
+            answered_there,
+        })?;
+    }
+    Ok(sides)
+}
+
+/// Senders, two of which wait for one another's answers, while the device asks for a packet. Gives their seats and its own.
 fn send_by_gates<
     A: Ledger + Send + Sync,
     S: Ledger + Send + Sync,
@@ -75,23 +116,13 @@ fn send_by_gates<
     port: &LockedPort<A, S>,
     seats: Vec<PortSeat<A, S>>,
     device: PortSeat<A, S>,
-) -> Result<Vec<PortSeat<A, S>>, Fail>
-    requires { length seats.items ≡ 2 }
-{
-    let lists = lists(alloc)?;
-    let (zero, one) = (AtomicU64::new(0), AtomicU64::new(0));
-    let gates = [
-        Side {
-            first_held: 1,
-            answered: &zero,
-            answered_there: &one,
-        },
-        Side {
-            first_held: 2,
-            answered: &one,
-            answered_there: &zero,
-        },
-    ];
+) -> Result<Vec<PortSeat<A, S>>, Fail> {
+    let lists = lists(alloc, seats.len())?;
+    let (zero, one, others) = (AtomicU64::new(0), AtomicU64::new(0), AtomicU64::new(0));
+    let gates = sides(alloc, seats.len(), &zero, &one, &others)?;
+    if lists.len() != seats.len() || gates.len() != seats.len() {
+        return Err("as many lists and gates as seats".into());
+    }
     let part = move || {
         let mut device = device;
         let _ = port.dequeue(rt, &mut device, 0);

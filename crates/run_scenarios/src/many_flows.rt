@@ -1,27 +1,16 @@
 //! A run over as many flows as there may be.
 
-use crate::packets::{SEED, one_flow};
-use packet_core::{ParamFields, Params};
+use crate::packets::{FLOWS, SEED, greatest};
+use packet_core::Params;
 use std::alloc::{AllocError, Global};
 use std::str;
 use std::test::Fail;
 use trace_core::run;
 
-/// The most flows that there may be.
-const FLOWS: u32 = 65_536;
-
 /// The length of a packet, and that of all packets, in bytes.
 const LENGTH: u32 = 100;
 
 const BYTES: u32 = FLOWS * LENGTH;
-
-/// The greatest limit and the greatest number of flows.
-fn greatest() -> ParamFields {
-    let mut fields = one_flow();
-    fields.limit = 1_048_576;
-    fields.flows = FLOWS;
-    fields
-}
 
 /// A packet for each flow, then a dequeue for each packet, and one more.
 fn trace_of_flows(alloc: Global) -> Result<String, AllocError> {

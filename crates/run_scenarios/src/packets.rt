@@ -16,6 +16,17 @@ pub(crate) fn one_flow() -> ParamFields {
     fields
 }
 
+/// The most flows that there may be.
+pub(crate) const FLOWS: u32 = 65_536;
+
+/// The greatest limit and the greatest number of flows.
+pub(crate) fn greatest() -> ParamFields {
+    let mut fields = one_flow();
+    fields.limit = 1_048_576;
+    fields.flows = FLOWS;
+    fields
+}
+
 /// Standard parameters for four flows, without marks.
 pub(crate) fn four_flows() -> ParamFields {
     let mut fields = one_flow();

@@ -1,8 +1,8 @@
 //! Runs of lists of steps, and the steps of a trace.
 
-use crate::packets::{SEED, enqueue, one_flow};
-use packet_core::Params;
-use sched_core::{Answer, MomentFault, Outcome, Ran, Refusal, Step, run_steps};
+use crate::packets::{SEED, enqueue, greatest, one_flow, packet};
+use packet_core::{Ecn, Params};
+use sched_core::{Answer, Event, Mark, MomentFault, Outcome, Ran, Refusal, Step, run_steps};
 use std::process::Abort;
 use std::test::Fail;
 use trace_core::{TraceFault, TraceFaultKind, read_trace};
@@ -50,6 +50,37 @@ fn run_steps_gives_own_events(rt: HostRuntime) -> Result<(), Fail> {
         ran.engine.steps(),
         [steps[0], steps[1], steps[3]].as_slice()
     );
+    Ok(())
+}
+
+/// The same steps over the most flows and with the greatest limit: the packet is in the flow of its port.
+#[test]
+fn runs_over_the_most_flows(rt: HostRuntime) -> Result<(), Fail> {
+    let steps = [
+        enqueue(0, 53)?,
+        Step::Close { moment: 1 },
+        enqueue(2, 53)?,
+        Step::Dequeue { moment: 3 },
+        Step::Close { moment: 4 },
+    ];
+    let events = [
+        Event::Accepted {
+            id: 0,
+            moment: 0,
+            lane: 0,
+            flow: 53,
+            packet: packet(53)?,
+        },
+        Event::Closed { moment: 1 },
+        Event::Sent {
+            id: 0,
+            moment: 3,
+            ecn: Ecn::NotEct,
+            mark: Mark::NoMark,
+        },
+    ];
+    let ran = run_steps(rt.alloc(), Params::try_new(greatest())?, SEED, &steps)?;
+    assert_eq!(rt; ran.engine.events(), events.as_slice());
     Ok(())
 }
 

@@ -3,7 +3,7 @@
 use crate::schedulers::{PORT, one_flow, packet, scheduler};
 use codel_core::CodelState;
 use packet_core::{Ecn, EcnUse, Packet, ParamFields};
-use sched_core::{FlowView, Sched};
+use sched_core::{FlowView, MomentFault, Sched};
 use std::process::Abort;
 use std::test::Fail;
 
@@ -136,5 +136,41 @@ fn drop_burst(rt: HostRuntime) -> Result<(), Fail> {
         ..in_time(0, 0, 1_214)
     };
     assert_eq!(rt; view, left);
+    Ok(())
+}
+
+/// So near to the last moment that there may be the intervals of a second still count on: what CoDel keeps is a second
+/// behind that moment, and no dequeue comes at it.
+#[test]
+fn last_moments(rt: HostRuntime) -> Result<(), Fail> {
+    let mut fields = one_flow();
+    fields.target = 0;
+    fields.interval = 1_000_000_000;
+    fields.mtu = 0;
+    expect_at_last_moments(&rt, &mut scheduler(&rt, fields)?)
+}
+
+/// Three packets come a second before the last moment, and go then and at the last moment.
+fn expect_at_last_moments(rt: &impl Abort, sched: &mut Sched) -> Result<(), Fail> {
+    let last = (1 << 60) - 1;
+    let packet = packet(PORT, 100, Ecn::NotEct)?;
+    for _ in 0..3 {
+        sched.enqueue(last - 1_000_000_000, 0, packet)?;
+    }
+    for (moment, given) in [(last - 1_000_000_000, 0), (last, 2)] {
+        let sent = sched.dequeue(moment)?;
+        assert_eq!(rt; sent.map(|sent| sent.id), Some(given));
+    }
+    assert_eq!(rt; sched.totals().dropped_codel, 1);
+    assert_eq!(rt; sched.dequeue(last + 1), Err(MomentFault::TooLarge));
+    assert!(rt; 0 < sched.params().flows());
+    let codel = CodelState {
+        first_above: None,
+        drop_next: last + 1_000_000_000,
+        count: 1,
+        lastcount: 1,
+        dropping: true,
+    };
+    assert_eq!(rt; sched.flow_view(0).codel, codel);
     Ok(())
 }

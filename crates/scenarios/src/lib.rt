@@ -16,4 +16,6 @@ mod refusals;
 #[cfg(test)]
 mod schedulers;
 #[cfg(test)]
+mod shares;
+#[cfg(test)]
 mod turns;

@@ -44,6 +44,24 @@ fn small_quantum_two_flows(rt: HostRuntime) -> Result<(), Fail> {
     expect_turns_of_two(&rt, &mut scheduler(&rt, fields)?)
 }
 
+/// The turns of three new flows with a packet each.
+fn expect_turns_of_three(rt: &impl Abort, sched: &mut Sched) -> Result<(), Fail> {
+    for dport in 1..4 {
+        arrive(sched, dport, 1, 100)?;
+    }
+    // Each new flow has credits, and goes to the old ones once it is empty. So the last dequeue looks at the third as a
+    // new flow, and at each of the three as an old one: as many turns as the bound of one new and two old flows.
+    for (given, turns) in [(Some(0), 1), (Some(1), 2), (Some(2), 2), (None, 4)] {
+        expect_turns(rt, sched, given, turns)?;
+    }
+    Ok(())
+}
+
+#[test]
+fn three_new_flows_meet_the_bound(rt: HostRuntime) -> Result<(), Fail> {
+    expect_turns_of_three(&rt, &mut scheduler(&rt, four_flows())?)
+}
+
 /// The turns of a flow with a quantum of one byte.
 fn expect_many_turns(rt: &impl Abort, sched: &mut Sched) -> Result<(), Fail> {
     arrive(sched, PORT, 2, 65_535)?;

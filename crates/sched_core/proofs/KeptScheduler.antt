@@ -60,7 +60,12 @@ use Rattle.fair_core.proofs.FqCodelPolicy.{policy_drops}
 use Rattle.fair_core.proofs.NewFlowsFirst.{new_flows_first}
 use Rattle.fair_core.proofs.ServingChains.{chain_bound}
 use Rattle.fair_core.proofs.SoundFlows.{makes_as_many}
+use Rattle.fair_core.proofs.CreditRanges.{credits_weaker, makes_credits, short_bound}
+use Rattle.fair_core.proofs.RunInvariants.{AcceptsFitting}
+use Rattle.fair_core.specs.Credits.{AreCreditsKept}
+use Rattle.sched_core.specs.Shares.{longest}
 use Rattle.sched_core.proofs.FqCodelRuns.{flow_below}
+use Rattle.sched_core.proofs.LongestPackets.{longest_grows, longest_least, longest_most}
 
 -- the least number of doublings that gives each flow a leaf
 levels_over : (flows : ℕ) → (levels : ℕ) × IsLevels flows levels
@@ -143,7 +148,15 @@ module _ (p : ParamFields) (seed : Seed) where
         soon = soon;
         history = history;
         counts = counts;
+        credits = makes_credits (fq_codel_policy p) (policy_drops p) (longest (acceptances book'.events)) p.flows d.flow_of old new step said a.made a.makes (fitting a) (credits_weaker p.quantum (longest (acceptances book.events)) (longest (acceptances book'.events)) old.queues (longer a) h.credits);
       }
+    where
+      -- no packet so far was longer than the longest, which grows
+      fitting : (a : Advances (fq_codel p seed) (standing_of old book) step said (standing_of new book')) → AcceptsFitting (λ packet. packet.len ≤ longest (acceptances book'.events)) a.made
+      fitting a = (ByRecursion-parts (λ (x : Acceptance). x.packet.len ≤ longest (acceptances book'.events)) (acceptances book.events) (acceptances a.made) (rw (← filter_map-append acceptance_of book.events a.made, ← a.journal) (longest_most (acceptances book'.events)))).1
+
+      longer : (a : Advances (fq_codel p seed) (standing_of old book) step said (standing_of new book')) → longest (acceptances book.events) ≤ longest (acceptances book'.events)
+      longer a = rw (a.journal, filter_map-append acceptance_of book.events a.made) (longest_grows (acceptances book.events) (acceptances a.made))
 
   -- a close
   pub kept_closes : {s : State FairQueues} {spare room : ℕ} {book : Book} (moment : ℕ) → refusal_of s (Close moment) ≡ None
@@ -335,15 +348,20 @@ module _ (p : ParamFields) (seed : Seed) where
 
   -- what is answered to a dequeue
   pub is_served : (held held' : Held) (book book' : Book) (last moment turns0 turns before after room : ℕ) (closed : Bool) (answer : Option Served) (s : MakesChain p moment held book turns answer held' book')
-      → held'.arrived ≡ held.arrived → AreSound held.queues → 0 < p.quantum → refusal_of (state_of held last closed) (Dequeue moment) ≡ None
+      → held'.arrived ≡ held.arrived → AreSound held.queues → 0 < p.quantum → AreCreditsKept p.quantum (longest (acceptances book.events)) held.queues → refusal_of (state_of held last closed) (Dequeue moment) ≡ None
       → IsServed (seen (state_of held last closed) book turns0 before room) moment (option_map (λ (s : Service). sent_at moment s.given) (service_in s.turns))
       (seen (state_of held' moment closed) (with_sent book' moment answer) turns after room)
-  is_served held held' book book' last moment turns0 turns before after room closed answer s arrived sound some fits =
+  is_served held held' book book' last moment turns0 turns before after room closed answer s arrived sound some credits fits =
       let made = served_events moment (service_in s.turns) in
       record {
         gives = record { fits = fits; given = given_in (service_in s.turns); made = made; serves = served s last closed arrived; journal = journal_is s; told = told (service_in s.turns) };
         turns = s.count_is;
         bound = rw s.count_is (chain_bound (fq_codel_policy p) some moment s.turns held.queues held'.queues sound s.chain);
+        short = λ shorter. rw s.count_is (
+            let bound = chain_bound (fq_codel_policy p) some moment s.turns held.queues held'.queues sound s.chain in
+            let few = short_bound p.quantum (longest (acceptances book.events)) held.queues some (longest_least p.quantum (acceptances book.events) some shorter) credits in
+            omega arith
+            );
         new_first = λ flow first. new_flows_first (fq_codel_policy p) some moment s.turns held.queues held'.queues flow sound first s.chain;
         params = refl;
         seed = refl;

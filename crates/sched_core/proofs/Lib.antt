@@ -5,3 +5,5 @@ pub mod ShortPackets
 pub mod RunExistence
 pub mod EngineRuns
 pub mod LastStepLemmas
+pub mod RunShares
+pub mod LongestPackets

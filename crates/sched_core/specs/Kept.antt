@@ -4,10 +4,13 @@ use Rattle.packet_core.specs.declared.params.ParamFields.{ParamFields}
 use Rattle.flow_core.specs.FlowLists.{waiting_in}
 use Rattle.sched_core.specs.declared.sched.Sched.TheInside.{Inside}
 use Rattle.journal_core.specs.Books.{Book}
+use Rattle.fair_core.specs.Credits.{AreCreditsKept}
 use Rattle.fair_core.specs.FairQueues.{FairQueues, queue_of}
 use Rattle.fair_core.specs.FqCodel.{fq_codel}
+use Rattle.journal_core.specs.Happened.{acceptances}
 use Rattle.journal_core.specs.History.{AreCounts, IsHistory}
 use Rattle.sched_core.specs.Schedulers.{Scheduler}
+use Rattle.sched_core.specs.Shares.{longest}
 use Rattle.journal_core.specs.State.{State}
 
 -- what callers see of a scheduler's fields
@@ -35,7 +38,7 @@ closes_left closed = if closed then 0 else 1
 
 -- What holds of the state, of how many packets more its flows have memory for, of the journal, and of the room that is
 -- reserved: the journal has room for each waiting packet's fate, for the close, and for the acceptances reserved with
--- their fates; and it is a history of the state.
+-- their fates; it is a history of the state; and each flow's credits are in the range of the longest packet so far.
 pub record IsBookKept (p : ParamFields) (seed : Seed) (s : State FairQueues) (spare : ℕ) (book : Book)
     (room : ℕ) : Type 0 where
   pub some : 0 < p.flows
@@ -48,6 +51,7 @@ pub record IsBookKept (p : ParamFields) (seed : Seed) (s : State FairQueues) (sp
   pub soon : s.last < 2 ^ 60
   pub history : IsHistory (fq_codel p seed).flow_of (queue_of s.queues) book.events s.next_id s.last s.closed
   pub counts : AreCounts book.counts book.events
+  pub credits : AreCreditsKept p.quantum (longest (acceptances book.events)) s.queues
 
 -- what holds of a scheduler's fields
 abbrev pub IsKept : {K : Type 0} → Inside K → Type 0

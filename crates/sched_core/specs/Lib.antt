@@ -3,3 +3,4 @@ pub mod AnyStep
 pub mod LastSteps
 pub mod Kept
 pub mod Engines
+pub mod Shares

@@ -1,4 +1,4 @@
-use Rattle.std.specs.Prelude.{◌≡◌, ℕ, ◌-◌, ◌*◌, ◌≤◌, [], length, Option}
+use Rattle.std.specs.Prelude.{◌≡◌, ℕ, ◌+◌, ◌-◌, ◌*◌, ◌≤◌, [], All, length, Option}
 use Rattle.packet_core.specs.declared.flow.Seed.{Seed}
 use Rattle.packet_core.specs.declared.params.ParamFields.{ParamFields}
 use Rattle.flow_core.specs.Winners.{IsLevels}
@@ -7,6 +7,7 @@ use Rattle.journal_core.specs.declared.step.Sent.{Sent}
 use Rattle.journal_core.specs.declared.step.Step.{Step}
 use Rattle.journal_core.specs.Calls.{Advances, Gives, Standing}
 use Rattle.journal_core.specs.Disciplines.{Discipline}
+use Rattle.journal_core.specs.Happened.{acceptances}
 use Rattle.fair_core.specs.FairQueues.{FairQueues, no_queues}
 use Rattle.fair_core.specs.FqCodel.{fq_codel}
 use Rattle.fair_core.specs.NewFlows.{IsFirstReady, SendsFrom}
@@ -52,11 +53,14 @@ pub record IsAdvanced (old : Scheduler) (step : Step) (answer : Answer) (new : S
   pub turns : new.turns ≡ old.turns
 
 -- A dequeue is made: a serving chain, whose turns are told, and whose packet is answered. It has no more turns than the
--- bound, and new flows go first.
+-- bound, which is three for each new flow and two for each old one where no packet so far was longer than a quantum; and
+-- new flows go first.
 pub record IsServed (old : Scheduler) (moment : ℕ) (sent : Option Sent) (new : Scheduler) : Type 0 where
   pub gives : Gives (discipline_of old) old.standing moment sent new.standing
   pub turns : new.turns ≡ length gives.serves.queues.turns
   pub bound : new.turns ≤ turns_at_most old.params.quantum (flows_of old)
+  pub short : All (λ a. a.packet.len ≤ old.params.quantum) (acceptances old.standing.events)
+      → new.turns ≤ 3 * length (flows_of old).lists.new_flows + 2 * length (flows_of old).lists.old_flows
   pub new_first : (flow : ℕ) → IsFirstReady (flows_of old) flow
       → SendsFrom flow (flows_of old).lists.queues (service_in gives.serves.queues.turns) (flows_of new).lists.queues
   pub params : new.params ≡ old.params

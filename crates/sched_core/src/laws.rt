@@ -19,10 +19,13 @@ ghost use Rattle.fair_core.specs.NewFlows.{IsFirstReady, SendsFrom};
 ghost use Rattle.journal_core.specs.Runs.{HasLengthInRange, Made, Runs, given_by_made, journal_of, steps_made};
 ghost use Rattle.journal_core.specs.State.{State, opening_state};
 ghost use Rattle.journal_core.specs.Statistics.{statistics};
+ghost use Rattle.sched_core.specs.Shares.{SharesFairly};
 ghost use Rattle.fair_core.specs.TurnBound.{AreQuantaOwed, quanta_owed, turns_at_most};
 ghost use Rattle.fair_core.specs.Turns.{Chain, TurnMade, service_in};
 
+use crate::engine::Engine;
 use codel_core::one_verdict;
+use journal_core::{Event, Keeps, Step as MadeStep};
 
 /// Of every list of steps: each accepted packet is sent once, dropped once or still queued, the packets of one
 /// five-tuple leave in the order of acceptance, nothing is accepted after the close, and marks are honest.
@@ -123,3 +126,26 @@ pub fn journal_tells_what_waits()
         → Runs (fq_codel p seed) (opening_state (no_queues p.flows)) steps made new
         → (statistics (journal_of made)).queued_bytes ≡ sum_by bytes_of new.queues.lists.queues }
 {}
+
+/// Fair shares: of two flows that stand in the list of old flows at each point from a to b, neither sends more bytes than
+/// the other by more than three quanta and twice what the longest packet has more than one byte, whatever is dropped and
+/// whichever flows are new in between (RFC 8290, section 4.2). A point is a number of steps that the engine made. The
+/// longest packet is that accepted up to b, and bytes are those of the events of the steps between, with lengths as
+/// accepted.
+pub fn fair_shares<K: Keeps<Event>, S: Keeps<MadeStep>>(
+    engine: &Engine<K, S>,
+    a: u64,
+    b: u64,
+    f: u32,
+    g: u32,
+)
+    requires ordered { a ≤ b }
+    requires within { b ≤ length engine.now.steps }
+    requires f { f < engine.now.sched.params.flows }
+    requires g { g < engine.now.sched.params.flows }
+    ensures { SharesFairly engine.now.sched.params engine.now.sched.seed
+        engine.now.steps engine.now.sched.standing.events a b f g }
+{
+    let _ = engine.params().quantum();
+    engine.run_of_steps();
+}

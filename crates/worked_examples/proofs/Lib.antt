@@ -6,3 +6,4 @@ pub mod TurnExamples
 pub mod OverflowExamples
 pub mod CodelExamples
 pub mod HashExamples
+pub mod ShareExamples

@@ -17,7 +17,7 @@ returns-in_default-clause-made g c =
     let chain = rw (c.clear_comparisons.ensures, c.in_default.is) at c.serve-serving.ensures.chain in
     rw (← c.self.view_is, told_none s.params s.seed c.args.moment (service_in chain.turns) chain.answered.given)
     (is_served s.params s.seed (record s.backlog { comparisons = 0 }) c.serve-serving.new.self s.journal c.serve-serving.new.journal s.last_moment c.args.moment s.turns c.serve-serving.result.turns s.backlog.comparisons c.serve-serving.new.self.comparisons s.room s.is_closed None
-    chain (rw c.clear_comparisons.ensures at c.serve-serving.ensures.arrived) (rw c.clear_comparisons.ensures at c.serve-serving.ensures.sound) c.serve-serving.ensures.quantum (ap (option_map Moment) c.in_ok-test_moment.ensures))
+    chain (rw c.clear_comparisons.ensures at c.serve-serving.ensures.arrived) (rw c.clear_comparisons.ensures at c.serve-serving.ensures.sound) c.serve-serving.ensures.quantum c.self.invariant.credits (ap (option_map Moment) c.in_ok-test_moment.ensures))
 
 pub send-requires : goal.send-requires
 send-requires g c =
@@ -39,7 +39,7 @@ returns-clause-made g c =
     let chain = rw (c.clear_comparisons.ensures, c.in-Some.is) at c.serve-serving.ensures.chain in
     rw (← c.self.view_is, c.send.ensures, c.sent_of-sent.ensures, told_some s.params s.seed c.args.moment (service_in chain.turns) c.in-Some.served chain.answered.given)
     (is_served s.params s.seed (record s.backlog { comparisons = 0 }) c.serve-serving.new.self s.journal c.serve-serving.new.journal s.last_moment c.args.moment s.turns c.serve-serving.result.turns s.backlog.comparisons c.serve-serving.new.self.comparisons s.room s.is_closed (Some c.in-Some.served)
-    chain (rw c.clear_comparisons.ensures at c.serve-serving.ensures.arrived) (rw c.clear_comparisons.ensures at c.serve-serving.ensures.sound) c.serve-serving.ensures.quantum (ap (option_map Moment) c.in_ok-test_moment.ensures))
+    chain (rw c.clear_comparisons.ensures at c.serve-serving.ensures.arrived) (rw c.clear_comparisons.ensures at c.serve-serving.ensures.sound) c.serve-serving.ensures.quantum c.self.invariant.credits (ap (option_map Moment) c.in_ok-test_moment.ensures))
 
 pub returns-in_default-clause-few_comparisons : goal.returns-in_default-clause-few_comparisons
 returns-in_default-clause-few_comparisons g c =

@@ -4,6 +4,7 @@ use Rattle.packet_core.specs.declared.packet.FiveTuple.{FiveTuple}
 use Rattle.packet_core.specs.declared.packet.Waiting.{Waiting}
 use Rattle.fair_core.specs.FairQueues.{no_queues, queue_of}
 use Rattle.journal_core.specs.History.{IsHistory}
+use Rattle.fair_core.proofs.CreditRanges.{opening_credits}
 use Rattle.sched_core.proofs.sched.Sched.try_with_keeper.Goals as goal
 
 no_packet : (flows flow : ℕ) → queue_of (no_queues flows) flow ≡ []
@@ -45,4 +46,5 @@ invariant_of-result g c =
       soon = search rules;
       history = rw (held.0, held.1, book.0) (no_history _ c.flows.result);
       counts = search rules;
+      credits = rw (held.0, book.0) (opening_credits _ 1 c.flows.result (omega arith));
     }
