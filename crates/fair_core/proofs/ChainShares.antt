@@ -1,5 +1,5 @@
 -- What a serving chain sends of two flows that stay in the list of old flows.
-use Rattle.std.proofs.Common.{◌≡◌, ◌≢◌, ℕ, ◌+◌, ◌<◌, ◌⊎◌, List, [], ◌∷◌, ◌++◌, cond, eqb, length, get_or, set, drop, Some, None, slice_get, ℤ, pos, ◌+ℤ◌, ◌-ℤ◌, refl, sym, ap, subst, ◌∙◌, inl, inr, arith, append_assoc}
+use Rattle.std.proofs.Common.{◌≡◌, ◌≢◌, ℕ, ◌+◌, ◌<◌, ◌⊎◌, List, [], ◌∷◌, ◌++◌, cond, eqb, length, get_or, drop, Some, None, slice_get, ℤ, pos, ◌+ℤ◌, ◌-ℤ◌, refl, sym, ap, subst, ◌∙◌, inl, inr, arith, append_assoc}
 use Rattle.std.proofs.lemmas.Int.{ints}
 use Rattle.std.proofs.lemmas.Bool.{cases_eq, eq-eqb, ne_eqb}
 use Rattle.std.proofs.lemmas.List.{get_or-set_other, get_or-set_same}
@@ -13,10 +13,10 @@ use Rattle.fair_core.specs.FairQueues.{AreSound, FairQueues, account_at, emptied
 use Rattle.fair_core.specs.Turns.{Chain, Does, Policy, Sends, Service, Turn, TurnKind, TurnMade, service_by, service_in}
 use Rattle.fair_core.specs.Turns.TurnKind.{used_up, emptied, serving}
 use Rattle.fair_core.proofs.FairFifo.{within_from_packet}
-use Rattle.fair_core.proofs.ListedFlowLemmas.{IsHead, by_head, listed_from_head, others}
+use Rattle.fair_core.proofs.ListedFlowLemmas.{IsHead, listed_from_head, others}
 use Rattle.fair_core.proofs.ServingChains.{head_fits, turn_lowers}
 use Rattle.fair_core.proofs.TurnLemmas.{queues_stay, sends_of}
-use Rattle.fair_core.proofs.OldFlows.{Has, Moves, has_cases, has_left, has_once, has_right, lead, moves}
+use Rattle.fair_core.proofs.OldFlows.{Has, Moves, has_cases, has_right, lead, moves}
 use Rattle.fair_core.proofs.OldFlows.Moves.{passes, takes_f, takes_g}
 
 abbrev pub credits_of : FairQueues → ℕ → ℤ
@@ -125,7 +125,7 @@ module _ (p : Policy) (some_quantum : 0 < p.quantum) (now f g : ℕ) (differ : f
 
   turn_sends : (s next : FairQueues) (head : Head) (service : Service) → AreSound s → Sends p now s head service next → Olds f g s
       → Even s (share_of head.flow f service.given.waiting.packet.len) (share_of head.flow g service.given.waiting.packet.len) next
-  turn_sends s next head service sound d olds = rw d.leaves by_head'
+  turn_sends s next head service sound d olds = rw d.leaves balanced
     where
       len : ℕ
       len = service.given.waiting.packet.len
@@ -144,8 +144,8 @@ module _ (p : Policy) (some_quantum : 0 < p.quantum) (now f g : ℕ) (differ : f
       there : (x : ℕ) → head.flow ≢ x → credits_of left x ≡ credits_of s x
       there x other = ap (λ (a : Account). a.credits) (get_or-set_other s.accounts head.flow x account new_account (λ e. other (sym e)))
 
-      by_head' : Even s (share_of head.flow f len) (share_of head.flow g len) left
-      by_head' =
+      balanced : Even s (share_of head.flow f len) (share_of head.flow g len) left
+      balanced =
           elim (cases_eq head.flow f) [
             | inl is_f ↦
                 let not_g : head.flow ≢ g = λ e. differ (sym is_f ∙ e) in

@@ -28,14 +28,14 @@ use Rattle.fair_core.proofs.TurnBoundLemmas.{quanta_owed_is}
 use Rattle.fair_core.specs.Credits.{AreCreditsKept}
 
 -- what holds of each element holds of each where one is set
-set_keeps : {X : Type 0} (P : X → Type 0) (d : X) (xs : List X) (i : ℕ) (v : X) → P v → ((j : ℕ) → P (get_or xs j d)) → (j : ℕ) → P (get_or (set xs i v) j d)
+pub set_keeps : {X : Type 0} (P : X → Type 0) (d : X) (xs : List X) (i : ℕ) (v : X) → P v → ((j : ℕ) → P (get_or xs j d)) → (j : ℕ) → P (get_or (set xs i v) j d)
 set_keeps P d [] i v here all j = all j
 set_keeps P d (x ∷ xs) zero v here all zero = here
 set_keeps P d (x ∷ xs) zero v here all (suc j) = all (suc j)
 set_keeps P d (x ∷ xs) (suc i) v here all zero = all zero
 set_keeps P d (x ∷ xs) (suc i) v here all (suc j) = set_keeps P d xs i v here (λ k. all (suc k)) j
 
-replicate_keeps : {X : Type 0} (P : X → Type 0) (d : X) (n : ℕ) → P d → (j : ℕ) → P (get_or (replicate n d) j d)
+pub replicate_keeps : {X : Type 0} (P : X → Type 0) (d : X) (n : ℕ) → P d → (j : ℕ) → P (get_or (replicate n d) j d)
 replicate_keeps P d zero here j = here
 replicate_keeps P d (suc n) here zero = here
 replicate_keeps P d (suc n) here (suc j) = replicate_keeps P d n here j

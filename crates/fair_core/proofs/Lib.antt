@@ -16,3 +16,7 @@ pub mod OneRun
 pub mod OldFlows
 pub mod ChainShares
 pub mod CreditRanges
+pub mod FlowsAhead
+pub mod PacketsAhead
+pub mod PacketsAheadInTurns
+pub mod ServableFlows

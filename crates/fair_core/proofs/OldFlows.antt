@@ -8,8 +8,8 @@ use Rattle.flow_core.specs.FlowLists.{AreDistinct, FlowLists}
 use Rattle.fair_core.specs.declared.backlog.FlowList.{FlowList}
 use Rattle.fair_core.specs.declared.backlog.FlowList.TheVariants.{New, Old}
 use Rattle.fair_core.specs.declared.backlog.Head.{Head}
-use Rattle.fair_core.specs.FairQueues.{emptied_by, unlisted}
-use Rattle.fair_core.proofs.ListedFlowLemmas.{IsHead, by_head, listed_from_head}
+use Rattle.fair_core.specs.FairQueues.{emptied_by}
+use Rattle.fair_core.proofs.ListedFlowLemmas.{IsHead, by_head}
 
 -- x is one of the flows
 abbrev pub Has : List ℕ → ℕ → Type 0

@@ -123,7 +123,7 @@ module _ (quantum : ℕ) where
         omega arith
 
 -- once a flow without credits got a quantum more, it is owed one less
-raised_owed : (quantum : ℕ) (credits : ℤ) → 0 < quantum → credits ≤ℤ pos 0 → quanta_owed quantum (credits +ℤ pos quantum) + 1 ≡ quanta_owed quantum credits
+pub raised_owed : (quantum : ℕ) (credits : ℤ) → 0 < quantum → credits ≤ℤ pos 0 → quanta_owed quantum (credits +ℤ pos quantum) + 1 ≡ quanta_owed quantum credits
 raised_owed quantum credits some none = go (quanta_owed quantum credits) refl
   where
     go : (n : ℕ) → quanta_owed quantum credits ≡ n → quanta_owed quantum (credits +ℤ pos quantum) + 1 ≡ quanta_owed quantum credits

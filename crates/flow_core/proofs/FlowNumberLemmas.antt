@@ -43,7 +43,7 @@ distinct_permuted : (xs ys : List ℕ) → IsPermutation xs ys → AreDistinct x
 distinct_permuted xs ys moved h = from_IsDistinct ys (IsDistinct-IsPermutation eqb eqb_flips xs ys moved (to_IsDistinct xs h))
 
 -- there are no more of them than flows
-length-le_flows : (n : ℕ) (listed : List ℕ) → AreFlows n listed → length listed ≤ n
+pub length-le_flows : (n : ℕ) (listed : List ℕ) → AreFlows n listed → length listed ≤ n
 length-le_flows n listed are =
     length-le_from_distinct_below listed n (to_IsDistinct listed are.once)
     (λ q h. All-contains (λ (flow : ℕ). flow < n) listed q are.within (Contains-from_any eqb-true q listed h))

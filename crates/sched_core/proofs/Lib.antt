@@ -7,3 +7,5 @@ pub mod EngineRuns
 pub mod LastStepLemmas
 pub mod RunShares
 pub mod LongestPackets
+pub mod QueueLengths
+pub mod PacketsAheadInRuns

@@ -1,5 +1,5 @@
 -- The greatest length that was accepted.
-use Rattle.std.proofs.Common.{ℕ, ◌<◌, ◌≤◌, All, List, [], ◌∷◌, ◌++◌, max, arith}
+use Rattle.std.proofs.Common.{ℕ, ◌<◌, ◌≤◌, All, List, [], ◌∷◌, ◌++◌, arith}
 use Rattle.std.specs.List.{AllByRecursion}
 use Rattle.std.proofs.lemmas.List.Elements.{recursion_from_All}
 use Rattle.journal_core.specs.Happened.{Acceptance}

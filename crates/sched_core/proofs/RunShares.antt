@@ -1,5 +1,5 @@
 -- What a run sends of two flows that stay in the list of old flows, step by step and between two points.
-use Rattle.std.proofs.Common.{◌≡◌, ◌≢◌, ℕ, zero, suc, ◌+◌, ◌-◌, ◌*◌, ◌<◌, ◌≤◌, ◌⊎◌, Bool, true, false, cond, eqb, List, [], ◌∷◌, ◌++◌, drop, filter, get_or, length, map, max, set, take, Option, Some, None, MatchOption, slice_get, ℤ, pos, ◌+ℤ◌, ◌-ℤ◌, ◌<ℤ◌, ◌≤ℤ◌, refl, sym, ap, subst, ◌∙◌, inl, inr, arith, append_assoc, append-nil}
+use Rattle.std.proofs.Common.{◌≡◌, ◌≢◌, ℕ, zero, suc, ◌+◌, ◌-◌, ◌*◌, ◌<◌, ◌≤◌, Bool, cond, eqb, List, [], ◌∷◌, ◌++◌, drop, filter, length, map, take, Option, Some, None, MatchOption, pos, refl, sym, ap, subst, ◌∙◌, inl, inr, arith, append_assoc, append-nil}
 use Rattle.std.proofs.lemmas.Int.{ints}
 use Rattle.std.proofs.lemmas.List.{take-append-drop}
 use Rattle.std.proofs.lemmas.Grind.{flat_map-append}
@@ -19,11 +19,11 @@ use Rattle.journal_core.specs.declared.step.Refusal.{Refusal}
 use Rattle.journal_core.specs.declared.outcome.Answer.TheVariants as answer
 use Rattle.packet_core.specs.Packets.{PacketParts}
 use Rattle.fair_core.specs.declared.account.Account.{Account}
-use Rattle.fair_core.specs.FairQueueing.{Arrives, ServesNext, dropped_in, fair_queueing, given_in, is_listed, with_flow_listed}
+use Rattle.fair_core.specs.FairQueueing.{fair_queueing, is_listed, with_flow_listed}
 use Rattle.fair_core.specs.FairQueues.{AreSound, FairQueues, account_at, new_account, no_queues, queue_of}
 use Rattle.fair_core.specs.FqCodel.{fq_codel, fq_codel_policy}
 use Rattle.fair_core.specs.Policies.{DropsFromHeads}
-use Rattle.fair_core.specs.Turns.{Policy, Service, service_in}
+use Rattle.fair_core.specs.Turns.{Policy}
 use Rattle.fair_core.proofs.FairFifo.{fair_is_fifo}
 use Rattle.fair_core.proofs.FqCodelPolicy.{policy_drops}
 use Rattle.fair_core.proofs.ListedFlowLemmas.{apart_from_any}
@@ -33,15 +33,15 @@ use Rattle.journal_core.proofs.FlowShares.{IsOwn, parts_own}
 use Rattle.journal_core.proofs.HistoryRuns.{Keeps, keeps_opening, keeps_runs, keeps_steps}
 use Rattle.journal_core.proofs.IdLemmas.{Rises-range}
 use Rattle.journal_core.proofs.ListLemmas.{ByRecursion-map, ByRecursion-parts, ByRecursion-weaker}
-use Rattle.journal_core.proofs.Words.{AllByRecursion, cases_Bool, cases_eq, cases_lt, eqb-true, filter-append, filter_map, filter_map-append, find-append, get_or-set_other, sum_by-append, Discipline, Given, Acceptance, acceptance_of, acceptances, named, passes, waiting_of, IsHistory, State, opening_state, refusal_of, Admits, Serves, Makes, Steps, drop_event, sent_events, bytes_named, length_named, sent_of, Made, Runs, journal_of}
+use Rattle.journal_core.proofs.Words.{AllByRecursion, cases_Bool, cases_eq, eqb-true, filter-append, filter_map, filter_map-append, find-append, get_or-set_other, sum_by-append, Discipline, Given, Acceptance, acceptance_of, acceptances, named, passes, waiting_of, IsHistory, State, opening_state, refusal_of, Admits, Serves, Makes, Steps, drop_event, sent_events, bytes_named, length_named, sent_of, Made, Runs, journal_of}
 use Rattle.journal_core.specs.Calls.{Standing}
 use Rattle.journal_core.specs.Runs.{IsRunOf}
-use Rattle.sched_core.specs.Shares.{IsOldAt, SharesFairly, StaysOld, bytes_between, bytes_sent, longest, sent_from}
+use Rattle.sched_core.specs.Shares.{SharesFairly, StaysOld, bytes_between, bytes_sent, longest}
 use Rattle.fair_core.specs.Credits.{AreCreditsKept}
 use Rattle.fair_core.proofs.ChainShares.{Balanced, Olds, chain_shares, credits_of, share_of}
 use Rattle.fair_core.proofs.CreditRanges.{at_place, opening_credits, runs_credits}
 use Rattle.sched_core.proofs.LongestPackets.{longest_most, some_longest}
-use Rattle.fair_core.proofs.OldFlows.{Has, has_contained, has_differs, has_right, lead, lead_most}
+use Rattle.fair_core.proofs.OldFlows.{Has, has_contained, has_differs, has_right, lead_most}
 
 -- whether an acceptance is of the flow
 abbrev into : ℕ → Acceptance → Bool

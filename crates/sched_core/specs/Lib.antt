@@ -4,3 +4,4 @@ pub mod LastSteps
 pub mod Kept
 pub mod Engines
 pub mod Shares
+pub mod Starvation

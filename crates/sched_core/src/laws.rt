@@ -1,7 +1,7 @@
 //! What holds of every run of FQ-CoDel, whatever its parameters and its seed, as contracts of functions that
 //! do nothing.
 
-ghost use Rattle.std.specs.Prelude.{◌≡◌, ℕ, ◌+◌, ◌*◌, ◌≤◌, ◌<◌, All, List, [], length, sum_by, ℤ};
+ghost use Rattle.std.specs.Prelude.{◌≡◌, ℕ, ◌+◌, ◌-◌, ◌*◌, ◌/◌, ◌≤◌, ◌<◌, All, List, [], length, sum_by, take, ℤ};
 ghost use Rattle.std.specs.Bool.{Decides};
 ghost use Rattle.packet_core.specs.Packets.{same_tuple};
 ghost use Rattle.packet_core.specs.Params.{AreInRange};
@@ -19,7 +19,8 @@ ghost use Rattle.fair_core.specs.NewFlows.{IsFirstReady, SendsFrom};
 ghost use Rattle.journal_core.specs.Runs.{HasLengthInRange, Made, Runs, given_by_made, journal_of, steps_made};
 ghost use Rattle.journal_core.specs.State.{State, opening_state};
 ghost use Rattle.journal_core.specs.Statistics.{statistics};
-ghost use Rattle.sched_core.specs.Shares.{SharesFairly};
+ghost use Rattle.sched_core.specs.Shares.{SharesFairly, longest};
+ghost use Rattle.sched_core.specs.Starvation.{WaitsAt, dequeues_between, fates_between};
 ghost use Rattle.fair_core.specs.TurnBound.{AreQuantaOwed, quanta_owed, turns_at_most};
 ghost use Rattle.fair_core.specs.Turns.{Chain, TurnMade, service_in};
 
@@ -149,3 +150,17 @@ pub fn fair_shares<K: Keeps<Event>, S: Keeps<MadeStep>>(
     let _ = engine.params().quantum();
     engine.run_of_steps();
 }
+
+/// No flow starves: while a packet of a flow waits and none of the flow is sent or dropped, there are at most
+/// 2 * q * (flows - 1) * ((L - 1) / q + 2) dequeues, whatever arrives; q is the quantum, and L the longest packet so far.
+/// So behind one dequeue more it has sent or lost a packet. In each round the flow gets a quantum, and each other flow
+/// sends one as an old flow and one as a new flow (RFC 8290, section 4.2). The bound takes each packet as one byte.
+pub fn no_flow_starves()
+    ensures { (p : ParamFields) (seed : Seed) → AreInRange p
+        → (steps : List Step) (made : List Made) (new : State FairQueues) → All HasLengthInRange steps
+        → Runs (fq_codel p seed) (opening_state (no_queues p.flows)) steps made new
+        → (a b flow : ℕ)
+        → WaitsAt (fq_codel p seed) steps a flow → fates_between made a b flow ≡ []
+        → dequeues_between made a b
+        ≤ 2 * p.quantum * (p.flows - 1) * ((longest (acceptances (journal_of (take a made))) - 1) / p.quantum + 2) }
+{}

@@ -1,4 +1,5 @@
--- Worked examples of fair shares, by computation: the bytes of a flow between two points, and the longest packet so far.
+-- Worked examples of what happens between two points of a run, by computation: the bytes of a flow, the longest packet so
+-- far, the fates of a flow's packets, and the dequeues.
 use Rattle.std.proofs.Common.{◌≡◌, List, [], ◌∷◌, take, refl}
 use Rattle.packet_core.specs.declared.packet.Ecn.TheVariants.{NotEct, Ce}
 use Rattle.codel_core.specs.declared.served.Mark.TheVariants.{NoMark, CodelMark}
@@ -10,6 +11,7 @@ use Rattle.journal_core.specs.declared.outcome.Answer.TheVariants as answer
 use Rattle.journal_core.specs.Happened.{acceptances}
 use Rattle.journal_core.specs.Runs.{Made, journal_of}
 use Rattle.sched_core.specs.Shares.{bytes_between, longest}
+use Rattle.sched_core.specs.Starvation.{dequeues_between, fates_between}
 use Rattle.worked_examples.proofs.ComputedRuns.{acceptance}
 
 abbrev makes : Answer → List Event → Made
@@ -50,3 +52,17 @@ longest_of_four = refl
 
 longest_of_all : longest (acceptances (journal_of steps_made)) ≡ 900
 longest_of_all = refl
+
+-- what was sent, dropped by CoDel and lost by overflow
+fates_of_flow_1 : fates_between steps_made 0 8 1 ≡ 0 ∷ 2 ∷ 4 ∷ []
+fates_of_flow_1 = refl
+
+fates_of_flow_2 : fates_between steps_made 4 7 2 ≡ 1 ∷ 3 ∷ []
+fates_of_flow_2 = refl
+
+-- three dequeues, of which one stands before point 5
+all_dequeues : dequeues_between steps_made 0 8 ≡ 3
+all_dequeues = refl
+
+later_dequeues : dequeues_between steps_made 5 8 ≡ 2
+later_dequeues = refl

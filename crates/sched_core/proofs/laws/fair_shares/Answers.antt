@@ -1,5 +1,3 @@
-use Rattle.packet_core.specs.declared.params.ParamFields.{ParamFields}
-use Rattle.std.proofs.Common.{◌<◌, ap, subst, ◌∙◌}
 use Rattle.sched_core.proofs.RunShares.{shares_fairly}
 use Rattle.sched_core.proofs.laws.fair_shares.Goals as goal
 
