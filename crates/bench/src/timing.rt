@@ -246,7 +246,8 @@ pub fn now<R: Clock>(rt: &R) -> Result<Instant, Fault> {
 }
 
 /// The time since then in nanoseconds, where what was timed was done. Whoever owns a scheduler, an engine or a port
-/// calls it last, with what may fail: each way out of a function drops all that it owns, and the proof of it is as long.
+/// calls it last, with what may fail: each way out of a function drops all that it owns, and the proof of it is as
+/// long.
 pub fn nanoseconds_since<R: Clock>(
     rt: &R,
     begun: Result<Instant, Fault>,

@@ -14,7 +14,7 @@ use Rattle.codel_core.specs.Queue.{IsLateBefore, IsLate, HasCome, IsDroppable, I
 use Rattle.codel_core.specs.Schedule.{spacing_of, drop_moment, after_drops, entered}
 use Rattle.codel_core.specs.Spacing.{IsSpacing}
 use Rattle.codel_core.proofs.SpacingLemmas.{one_spacing_is}
-use Rattle.codel_core.specs.Verdict.{FirstAbove, given_up, stays, IsDropped, Verdict, served, PassesDrops, ServesLine}
+use Rattle.codel_core.specs.Verdict.{FirstAbove, given_up, stays, IsDropped, Verdict, served, PassesDrops, ServesLine, final_mark}
 
 -- QUEUES AND STATES
 
@@ -108,14 +108,19 @@ module _ {A B : Type 0} {items : A → List Waiting} {pulled : A → ℕ → A �
   -- the packet in hand is given
   pub gives : {k : ℕ} {head : Waiting} {first_above : Option ℕ} {line' : A} {sink' : B} {mark : Mark} {judged new : CodelState} {answer : Served}
       → InHand items pulled taken p now old line sink k head first_above line' sink'
-      → Verdict p now (items line) old k mark judged → judged ≡ record new { first_above = old.first_above } → new.first_above ≡ first_above → answer ≡ served mark head
+      → Verdict p now (items line) old k mark judged → judged ≡ record new { first_above = old.first_above } → new.first_above ≡ first_above → answer ≡ served (final_mark p now (Some head) mark) head
       → ServesLine items pulled taken p now old line sink (Some answer) new line' sink'
-  gives {k = k} {mark = mark} h verdict state_is same told =
+  gives {k = k} {head = head} {mark = mark} h verdict state_is same told =
       record {
         drops = k;
-        mark = mark;
-        decides = record { verdict = subst (λ (s : CodelState). Verdict p now (items line) old k mark s) state_is verdict; first_above = rw same h.fate };
-        given = ap Some told ∙ ap (option_map (served mark)) h.head_is;
+        mark = final_mark p now (Some head) mark;
+        decides = record {
+          by_codel = mark;
+          verdict = subst (λ (s : CodelState). Verdict p now (items line) old k mark s) state_is verdict;
+          mark_is = ap (λ (o : Option Waiting). final_mark p now o mark) h.head_is;
+          first_above = rw same h.fate;
+        };
+        given = ap Some told ∙ ap (option_map (served (final_mark p now (Some head) mark))) h.head_is;
         left = h.left;
       }
 

@@ -1,6 +1,6 @@
 -- There is one verdict on each queue, state and moment, and no other.
-use Rattle.std.proofs.Common.{◌≡◌, ◌≢◌, ℕ, zero, suc, ◌+◌, ◌<◌, ◌≤◌, Bool, true, false, ◌⊎◌, inl, inr, List, [], ◌∷◌, length, drop, Option, Some, None, refl, sym, subst, arith, below_more}
-use Rattle.std.specs.Prelude.{slice_get, IsSomeAnd, IsTrue, unwrap_or}
+use Rattle.std.proofs.Common.{◌≡◌, ◌≢◌, ℕ, zero, suc, ◌+◌, ◌<◌, ◌≤◌, Bool, true, false, ◌⊎◌, inl, inr, List, [], ◌∷◌, length, drop, Option, Some, None, refl, sym, ap, subst, ◌∙◌, arith, below_more}
+use Rattle.std.specs.Prelude.{slice_get, IsSomeAnd, IfSome, IsTrue, unwrap_or}
 use Rattle.std.proofs.lemmas.List.{length-drop, nil_from_length}
 use Rattle.std.proofs.lemmas.Bool.{cases_lt, cases_order, cases_Bool}
 use Rattle.packet_core.specs.declared.packet.Waiting.{Waiting}
@@ -10,11 +10,11 @@ use Rattle.packet_core.specs.declared.params.EcnUse.{EcnUse}
 use Rattle.packet_core.specs.declared.params.EcnUse.TheVariants as ecn
 use Rattle.packet_core.specs.declared.params.ParamFields.{ParamFields}
 use Rattle.codel_core.specs.declared.served.Mark.{Mark}
-use Rattle.codel_core.specs.declared.served.Mark.TheVariants.{CodelMark}
+use Rattle.codel_core.specs.declared.served.Mark.TheVariants.{NoMark, CodelMark, Threshold}
 use Rattle.codel_core.specs.declared.state.CodelState.{CodelState}
-use Rattle.codel_core.specs.Queue.{bytes_of, IsLateBefore, IsLate, IsDroppable, IsMarkableAt, is_markable}
+use Rattle.codel_core.specs.Queue.{bytes_of, IsLateBefore, IsLate, IsDroppable, IsMarkableAt, is_markable, is_past_threshold}
 use Rattle.codel_core.specs.Schedule.{drop_moment}
-use Rattle.codel_core.specs.Verdict.{FirstAbove, given_up, stays, IsDropped, Stops, leaves, waits, marks, Verdict, nothing, first_mark, first_drop, drops, Decides}
+use Rattle.codel_core.specs.Verdict.{FirstAbove, given_up, stays, IsDropped, Stops, leaves, waits, marks, Verdict, nothing, first_mark, first_drop, drops, Decides, final_mark}
 
 -- WHAT CAN BE TOLD
 
@@ -78,6 +78,31 @@ markable_place : (p : ParamFields) (o : Option Waiting) → IsSomeAnd o (λ w. I
 markable_place p None h = h
 markable_place p (Some w) h = markable_is p.ecn w.packet.ecn h
 
+-- a mark of CoDel's is what CoDel itself gave
+codel_mark : (p : ParamFields) (now : ℕ) (o : Option Waiting) (by_codel : Mark) → final_mark p now o by_codel ≡ CodelMark → by_codel ≡ CodelMark
+codel_mark p now None by_codel e = e
+codel_mark p now (Some w) NoMark e =
+    elim (cases_Bool (is_past_threshold p now w)) [ inl past ↦ let h = rw past at e in cc | inr not ↦ let h = rw not at e in cc ]
+codel_mark p now (Some w) CodelMark e = refl
+codel_mark p now (Some w) Threshold e = cc
+
+-- what is marked for the threshold, where CoDel itself marks nothing so, is past it
+past_at : (p : ParamFields) (now : ℕ) (o : Option Waiting) (by_codel : Mark) → (by_codel ≡ Threshold → ⊥) → final_mark p now o by_codel ≡ Threshold
+    → IsSomeAnd o (λ w. IsTrue (is_past_threshold p now w))
+past_at p now None by_codel never e = absurd (never e)
+past_at p now (Some w) NoMark never e =
+    elim (cases_Bool (is_past_threshold p now w)) [ inl past ↦ past | inr not ↦ let h = rw not at e in absurd cc ]
+past_at p now (Some w) CodelMark never e = absurd cc
+past_at p now (Some w) Threshold never e = absurd (never refl)
+
+-- what isn't marked isn't past it
+not_past : (p : ParamFields) (now : ℕ) (o : Option Waiting) (by_codel : Mark) → final_mark p now o by_codel ≡ NoMark
+    → IfSome o (λ w. ¬ IsTrue (is_past_threshold p now w))
+not_past p now None by_codel e = tt
+not_past p now (Some w) NoMark e = λ past. let h = rw past at e in cc
+not_past p now (Some w) CodelMark e = absurd cc
+not_past p now (Some w) Threshold e = absurd cc
+
 -- a place that all before have a property and that hasn't it itself is the only such place
 one_cut : (P : ℕ → Type 0) (k k' : ℕ) → ((j : ℕ) → j < k → P j) → ¬ P k → ((j : ℕ) → j < k' → P j) → ¬ P k' → k ≡ k'
 one_cut P k k' before at before' at' =
@@ -123,7 +148,7 @@ module _ (p : ParamFields) (now : ℕ) (q : List Waiting) (old : CodelState) whe
   decided : {k : ℕ} {mark : Mark} {new : CodelState} → Verdict p now q old k mark new → new ≡ record new { first_above = old.first_above } → HasVerdict
   decided {k} {mark} {new} verdict same =
       let fate = first_above_of p.interval now old.first_above (late_told k) in
-      (k, mark, record new { first_above = fate.0 }, record { verdict = subst (λ (s : CodelState). Verdict p now q old k mark s) same verdict; first_above = fate.1 })
+      (k, final_mark p now (slice_get q k) mark, record new { first_above = fate.0 }, record { by_codel = mark; verdict = subst (λ (s : CodelState). Verdict p now q old k mark s) same verdict; mark_is = refl; first_above = fate.1 })
 
   -- the first place from k on that isn't dropped, where the queue ends within so many places
   first_kept : (left k : ℕ) → length q ≤ k + left → ((j : ℕ) → j < k → IsDropped p now q old j)
@@ -208,8 +233,11 @@ module _ (p : ParamFields) (now : ℕ) (q : List Waiting) (old : CodelState) whe
       → Decides p now q old k mark new → Decides p now q old k' mark' new' → (k ≡ k') × (mark ≡ mark') × (new ≡ new')
   verdict_unique k k' mark mark' new new' v v' =
       let one = one_way v.verdict v'.verdict in
-      let fate = one_first_above v.first_above (subst (λ (n : ℕ). FirstAbove (IsLate p now q n) p.interval now old.first_above new'.first_above) (sym one.0) v'.first_above) in
-      (one.0, one.1, λ x. record (one.2 x) { first_above = fate x })
+      let fate = one_first_above v.first_above (subst (λ (n : ℕ). FirstAbove (IsLate p now q n) p.interval now old.first_above new'.first_above) (sym one.0) v'.first_above) in (
+        one.0,
+        v.mark_is ∙ (λ x. final_mark p now (slice_get q (one.0 x)) (one.1 x)) ∙ sym v'.mark_is,
+        λ x. record (one.2 x) { first_above = fate x },
+      )
 
   -- WHAT HOLDS OF EACH
 
@@ -229,4 +257,60 @@ module _ (p : ParamFields) (now : ℕ) (q : List Waiting) (old : CodelState) whe
   pub verdict_honest : (k : ℕ) (mark : Mark) (new : CodelState)
       → Decides p now q old k mark new → mark ≡ CodelMark → IsSomeAnd (slice_get q k) (λ w. (p.ecn ≡ ecn.Mark) × (w.packet.ecn ≢ NotEct))
   verdict_honest k mark new v marked =
-      markable_place p (slice_get q k) (marked_at (subst (λ (m : Mark). Verdict p now q old k m (record new { first_above = old.first_above })) marked v.verdict))
+      let by_codel = codel_mark p now (slice_get q k) v.by_codel (sym v.mark_is ∙ marked) in
+      markable_place p (slice_get q k) (marked_at (subst (λ (m : Mark). Verdict p now q old k m (record new { first_above = old.first_above })) by_codel v.verdict))
+
+  -- CoDel itself marks for no threshold
+  stop_mark : {k : ℕ} {mark : Mark} {new : CodelState} → Stops p now q old k mark new → mark ≡ Threshold → ⊥
+  stop_mark (leaves n) e = cc
+  stop_mark (waits d early) e = cc
+  stop_mark (marks d due can) e = cc
+
+  codels_mark : {k : ℕ} {mark : Mark} {new : CodelState} → Verdict p now q old k mark new → mark ≡ Threshold → ⊥
+  codels_mark (nothing n) e = cc
+  codels_mark (first_mark d idle can) e = cc
+  codels_mark (first_drop d idle cannot) e = cc
+  codels_mark (drops d dropping before stop) e = stop_mark stop e
+
+  -- what the threshold marks is past it
+  pub verdict_threshold : (k : ℕ) (mark : Mark) (new : CodelState)
+      → Decides p now q old k mark new → mark ≡ Threshold → IsSomeAnd (slice_get q k) (λ w. IsTrue (is_past_threshold p now w))
+  verdict_threshold k mark new v marked = past_at p now (slice_get q k) v.by_codel (codels_mark v.verdict) (sym v.mark_is ∙ marked)
+
+  -- what is past it has a mark
+  pub verdict_unmarked : (k : ℕ) (mark : Mark) (new : CodelState)
+      → Decides p now q old k mark new → mark ≡ NoMark → IfSome (slice_get q k) (λ w. ¬ IsTrue (is_past_threshold p now w))
+  verdict_unmarked k mark new v none = not_past p now (slice_get q k) v.by_codel (sym v.mark_is ∙ none)
+
+-- THE THRESHOLD CHANGES THE MARK ALONE
+
+module _ (p : ParamFields) (now : ℕ) (q : List Waiting) (old : CodelState) where
+  abbrev unset : ParamFields
+  unset = record p { ce_threshold = None }
+
+  same_stop : {k : ℕ} {mark : Mark} {new : CodelState} → Stops unset now q old k mark new → Stops p now q old k mark new
+  same_stop (leaves n) = leaves n
+  same_stop (waits d early) = waits d early
+  same_stop (marks d due can) = marks d due can
+
+  same_verdict : {k : ℕ} {mark : Mark} {new : CodelState} → Verdict unset now q old k mark new → Verdict p now q old k mark new
+  same_verdict (nothing n) = nothing n
+  same_verdict (first_mark d idle can) = first_mark d idle can
+  same_verdict (first_drop d idle cannot) = first_drop d idle cannot
+  same_verdict (drops d dropping before stop) =
+      drops d dropping (λ j below. let b = before j below in record { droppable = b.droppable; due = b.due; unmarkable = b.unmarkable }) (same_stop stop)
+
+  unset_mark : (o : Option Waiting) (mark : Mark) → final_mark unset now o mark ≡ mark
+  unset_mark None mark = refl
+  unset_mark (Some w) NoMark = refl
+  unset_mark (Some w) CodelMark = refl
+  unset_mark (Some w) Threshold = refl
+
+  pub verdict_apart : (k : ℕ) (mark : Mark) (new : CodelState)
+      → Decides unset now q old k mark new → Decides p now q old k (final_mark p now (slice_get q k) mark) new
+  verdict_apart k mark new v = record {
+    by_codel = v.by_codel;
+    verdict = same_verdict v.verdict;
+    mark_is = ap (final_mark p now (slice_get q k)) (v.mark_is ∙ unset_mark (slice_get q k) v.by_codel);
+    first_above = v.first_above;
+  }

@@ -1,4 +1,4 @@
-use Rattle.std.specs.Prelude.{ℕ, ◌+◌, ◌<◌, ◌≤◌, List, drop, slice_get, sum_by, Option, IsSomeAnd, Bool, true, false, IsTrue}
+use Rattle.std.specs.Prelude.{ℕ, ◌+◌, ◌<◌, ◌≤◌, List, drop, slice_get, sum_by, Option, Some, None, IsSomeAnd, Bool, true, false, IsTrue, nat_lt, ◌&&◌}
 use Rattle.packet_core.specs.declared.packet.Waiting.{Waiting}
 use Rattle.packet_core.specs.declared.packet.Ecn.{Ecn}
 use Rattle.packet_core.specs.declared.packet.Ecn.TheVariants.{NotEct, Ect1, Ect0, Ce}
@@ -33,6 +33,23 @@ is_markable ecn.Mark NotEct = false
 is_markable ecn.Mark Ect1 = true
 is_markable ecn.Mark Ect0 = true
 is_markable ecn.Mark Ce = true
+
+-- the sender of a packet with that field takes part, and nobody marked it before: ECT(1) or ECT(0) (RFC 3168, section
+-- 5)
+abbrev pub is_ect : Ecn → Bool
+is_ect NotEct = false
+is_ect Ect1 = true
+is_ect Ect0 = true
+is_ect Ce = false
+
+-- a packet that came at that moment has waited longer than the threshold, where there is one
+abbrev pub has_waited_past : Option ℕ → ℕ → ℕ → Bool
+has_waited_past None stamp now = false
+has_waited_past (Some threshold) stamp now = nat_lt (stamp + threshold) now
+
+-- the packet is one that the threshold marks, whatever is made of CoDel's own marks (RFC 8290, section 5.2.7)
+abbrev pub is_past_threshold : ParamFields → ℕ → Waiting → Bool
+is_past_threshold p now w = has_waited_past p.ce_threshold w.stamp now && is_ect w.packet.ecn
 
 -- place j of the queue exists, and its packet may be marked
 abbrev pub IsMarkableAt : ParamFields → List Waiting → ℕ → Type 0

@@ -1,13 +1,13 @@
-use Rattle.std.specs.Prelude.{◌≡◌, ℕ, ◌+◌, ◌<◌, ◌≤◌, List, drop, take, slice_get, Option, Some, None, option_map, unwrap_or, true, false}
+use Rattle.std.specs.Prelude.{◌≡◌, ℕ, ◌+◌, ◌<◌, ◌≤◌, List, drop, take, slice_get, Option, Some, None, option_map, unwrap_or, true, false, if◌then◌else◌}
 use Rattle.packet_core.specs.declared.packet.Waiting.{Waiting}
 use Rattle.packet_core.specs.declared.packet.Ecn.{Ecn}
 use Rattle.packet_core.specs.declared.packet.Ecn.TheVariants.{Ce}
 use Rattle.packet_core.specs.declared.params.ParamFields.{ParamFields}
 use Rattle.codel_core.specs.declared.served.Mark.{Mark}
-use Rattle.codel_core.specs.declared.served.Mark.TheVariants.{NoMark, CodelMark}
+use Rattle.codel_core.specs.declared.served.Mark.TheVariants.{NoMark, CodelMark, Threshold}
 use Rattle.codel_core.specs.declared.served.Served.{Served}
 use Rattle.codel_core.specs.declared.state.CodelState.{CodelState}
-use Rattle.codel_core.specs.Queue.{IsDroppable, IsLate, IsMarkableAt}
+use Rattle.codel_core.specs.Queue.{IsDroppable, IsLate, IsMarkableAt, is_past_threshold}
 use Rattle.codel_core.specs.Schedule.{after_drops, drop_moment, entered, stopped_after}
 
 -- What becomes of first_above: it is given up where the packet isn't late. Where it is, it stays, or is set an interval
@@ -48,17 +48,33 @@ pub data Verdict (p : ParamFields) (now : ℕ) (q : List Waiting) (old : CodelSt
       → Stops p now q old k mark new
       → Verdict p now q old k mark new
 
+-- the mark of a packet that CoDel gives without one
+abbrev pub threshold_mark : ParamFields → ℕ → Waiting → Mark
+threshold_mark p now w = if is_past_threshold p now w then Threshold else NoMark
+
+-- The mark of the packet that is given, if one is, by the mark that CoDel gives it: the threshold marks what CoDel
+-- doesn't mark (RFC 8290, section 5.2.7).
+abbrev pub final_mark : ParamFields → ℕ → Option Waiting → Mark → Mark
+final_mark p now None by_codel = by_codel
+final_mark p now (Some w) NoMark = threshold_mark p now w
+final_mark p now (Some w) CodelMark = CodelMark
+final_mark p now (Some w) Threshold = Threshold
+
 -- The verdict with the whole new state: k packets are dropped from the head of the queue, the one at place k is given
--- with that mark (none where the queue is empty), and that is the state behind it.
+-- with that mark (none where the queue is empty), and that is the state behind it. The threshold changes the mark
+-- alone.
 pub record Decides (p : ParamFields) (now : ℕ) (q : List Waiting) (old : CodelState) (k : ℕ) (mark : Mark)
     (new : CodelState) : Type 0 where
-  pub verdict : Verdict p now q old k mark (record new { first_above = old.first_above })
+  pub by_codel : Mark
+  pub verdict : Verdict p now q old k by_codel (record new { first_above = old.first_above })
+  pub mark_is : mark ≡ final_mark p now (slice_get q k) by_codel
   pub first_above : FirstAbove (IsLate p now q k) p.interval now old.first_above new.first_above
 
 -- the ECN field that a packet is sent with: a mark is CE (RFC 3168, section 5)
 abbrev pub sent_ecn : Mark → Ecn → Ecn
 sent_ecn NoMark field = field
 sent_ecn CodelMark field = Ce
+sent_ecn Threshold field = Ce
 
 -- a packet as it is given
 abbrev pub served : Mark → Waiting → Served

@@ -13,7 +13,7 @@ use crate::state::CodelState;
 use packet_core::{Params, Waiting};
 use std::marker::Model;
 
-/// CoDel for one queue (RFC 8289, section 5, with the marks of RFC 8290, section 4).
+/// CoDel for one queue (RFC 8289, section 5, with the marks of RFC 8290, sections 4 and 5.2.7).
 #[derive(Clone, Copy, Debug, PartialEq, Eq)]
 pub struct Codel {
     state: CodelState,
@@ -61,8 +61,8 @@ impl Codel {
         self.state
     }
 
-    /// Takes packets from the head of the line: drops those that CoDel drops, and gives the next one,
-    /// marked or not. None where the line is empty.
+    /// Takes packets from the head of the line: drops those that CoDel drops, and gives the next one, marked by CoDel,
+    /// for the threshold, or not at all. None where the line is empty.
     pub fn serve<L: Pull, S: DropSink>(
         &mut self,
         line: &mut L,
@@ -123,19 +123,19 @@ fn serve_from<L: Pull, S: DropSink>(
     };
     if !should_drop(state, &first, line, now, params) {
         state.dropping = false;
-        return Some(Served::unmarked(first));
+        return Some(Served::by_threshold(first, now, params));
     }
     if !state.dropping {
         if may_mark(params, &first) {
             enter(state, now, params);
-            return Some(Served::marked(first));
+            return Some(Served::by_codel(first));
         }
         sink.take(first);
         let second = pull_waiting(line);
         // It is sent, late or not: the next drop is due a spacing from now. The judgement keeps `first_above` right.
         should_drop(state, &second, line, now, params);
         enter(state, now, params);
-        return Some(Served::unmarked(second));
+        return Some(Served::by_threshold(second, now, params));
     }
     let mut head = first;
     while state.drop_next <= now {
@@ -143,7 +143,7 @@ fn serve_from<L: Pull, S: DropSink>(
         if may_mark(params, &head) {
             // The mark tells the sender as a drop would. So it counts as one, and nothing has to leave in its place.
             state.drop_next += spacing(interval, state.count);
-            return Some(Served::marked(head));
+            return Some(Served::by_codel(head));
         }
         sink.take(head);
         head = pull_waiting(line);
@@ -151,9 +151,9 @@ fn serve_from<L: Pull, S: DropSink>(
             // No further drop is due, so `drop_next` stays at the moment at which the last one was: should dropping
             // begin again, `first_count` takes the time since then for the time since that drop.
             state.dropping = false;
-            return Some(Served::unmarked(head));
+            return Some(Served::by_threshold(head, now, params));
         }
         state.drop_next += spacing(interval, state.count);
     }
-    Some(Served::unmarked(head))
+    Some(Served::by_threshold(head, now, params))
 }

@@ -1,7 +1,8 @@
-//! The judgements of a serve: whether a packet is late, droppable or markable, and how dropping begins.
+//! The judgements of a serve: whether a packet is late, droppable, markable or past the threshold, and how dropping
+//! begins.
 
 ghost use Rattle.std.specs.Prelude.{◌≡◌, ◌+◌, ◌^◌, ◌<◌, ◌≤◌, ◌↔◌, IsTrue, length};
-ghost use Rattle.codel_core.specs.Queue.{IsLateBefore, HasCome, is_markable};
+ghost use Rattle.codel_core.specs.Queue.{IsLateBefore, HasCome, is_markable, is_past_threshold};
 ghost use Rattle.codel_core.specs.Schedule.{IsStateInRange, entered, resumed_count};
 ghost use Rattle.codel_core.specs.Verdict.{FirstAbove};
 
@@ -65,6 +66,22 @@ pub(crate) fn may_mark(params: &Params, head: &Waiting) -> bool
             Ecn::NotEct => false,
             Ecn::Ect1 | Ecn::Ect0 | Ecn::Ce => true,
         },
+    }
+}
+
+/// Whether the threshold marks a packet that CoDel doesn't mark (RFC 8290, section 5.2.7; tc-fq_codel(8),
+/// `ce_threshold`). It is a signal of its own, for senders that slow down a little at each mark. So it looks at this
+/// packet alone and leaves CoDel's state as it is, and `ecn` doesn't turn it off. A packet that had CE has told
+/// already.
+pub(crate) fn is_past_threshold(head: &Waiting, now: u64, params: &Params) -> bool
+    ensures { result ≡ is_past_threshold params.now now head.now }
+{
+    let Some(threshold) = params.ce_threshold() else {
+        return false;
+    };
+    match head.packet.ecn() {
+        Ecn::NotEct | Ecn::Ce => false,
+        Ecn::Ect1 | Ecn::Ect0 => threshold < now.saturating_sub(head.stamp),
     }
 }
 

@@ -1,4 +1,4 @@
-//! CoDel for one queue (RFC 8289, section 5, with the marks of RFC 8290, section 4): which packets of a line
+//! CoDel for one queue (RFC 8289, section 5, with the marks of RFC 8290, sections 4 and 5.2.7): which packets of a line
 //! are dropped, which one is given and with what mark. Nothing in this crate takes memory.
 #![tactic(auto)]
 

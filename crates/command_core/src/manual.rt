@@ -74,7 +74,7 @@ waits.
 Journal, with the rows of each thing that happened, in order:
 
   accepted,ID,FLOW         a packet was accepted; ids count from 0
-  dropped,ID,overflow      a packet was dropped, since more than limit waited
+  dropped,ID,overflow      a packet was dropped, since more than a limit waited
   dropped,ID,codel         a packet was dropped by CoDel
   sent,ID,ECN              a packet was sent, with this ECN field
   closed                   the scheduler was closed
@@ -176,9 +176,9 @@ from left to right, and of a parameter given twice the last one holds.
 
   Words                 Range                  Default
   limit PACKETS         1 to 1048576 packets   10240 packets
-                        Where more packets wait than this, in all flows, the
+                        While more packets wait than this, in all flows, the
                         flow with the most bytes loses half of its packets, at
-                        least 1 and at most 64.
+                        least 1 and at most drop_batch.
   flows NUMBER          1 to 65536             1024
                         The flows that packets are sorted into.
   quantum BYTES         1 to 1000000 bytes     1514 bytes
@@ -192,6 +192,16 @@ from left to right, and of a parameter given twice the last one holds.
   interval TIME         1us to 1000000000us    100ms
                         How long packets wait for too long before CoDel drops
                         the first one.
+  ce_threshold TIME     0 to 1000000000us      none
+                        A packet that waited longer than this is marked when it
+                        is sent, where CoDel doesn't mark it and its ECN field
+                        is 1 or 2, with noecn too.
+  memory_limit BYTES    1 to 1099511627776     none
+                        While more bytes of packets wait than this, packets are
+                        lost as with limit.
+  drop_batch PACKETS    1 to 1048576 packets   64 packets
+                        What a flow loses at most before the flow with the most
+                        bytes is looked for again.
   ecn | noecn                                  ecn
                         Whether packets of senders that take part in ECN are
                         marked in place of being dropped by CoDel.
@@ -217,7 +227,7 @@ is 1 to 65535 bytes; ECN is the two bits as a number: 0 Not-ECT, 1 ECT(1),
 Report, with the rows of each step in order:
 
   accepted,ID,FLOW         a packet was accepted; ids count from 0
-  dropped,ID,overflow      a packet was dropped, since more than limit waited
+  dropped,ID,overflow      a packet was dropped, since more than a limit waited
   dropped,ID,codel         a packet was dropped by CoDel
   sent,ID,ECN              a packet was sent, with this ECN field
   idle                     the device asked, and nothing waited
@@ -228,9 +238,10 @@ Report, with the rows of each step in order:
 and at the end
 
   totals,ACCEPTED,ACCEPTED_BYTES,SENT,SENT_BYTES,DROPPED_CODEL,
-      DROPPED_OVERFLOW,DROPPED_BYTES,MARKED,QUEUED,QUEUED_BYTES,STATE
-                           the sums of the run in one row; STATE is open or
-                           closed
+      DROPPED_OVERFLOW,DROPPED_BYTES,MARKED,THRESHOLD_MARKED,QUEUED,
+      QUEUED_BYTES,STATE
+                           the sums of the run in one row; MARKED by CoDel, or
+                           for ce_threshold; STATE is open or closed
   tuple,PROTO,SRC,DST,SPORT,DPORT,FLOW,ACCEPTED,SENT,DROPPED,QUEUED
                            one row for each five-tuple, in order of its first
                            accepted packet
@@ -241,7 +252,7 @@ Example:
         fqsim trace classify dport flows 1
   accepted,0,0
   sent,0,0
-  totals,1,1000,1,1000,0,0,0,0,0,0,open
+  totals,1,1000,1,1000,0,0,0,0,0,0,0,open
   tuple,17,10.0.0.1,10.0.0.2,5000,53,0,1,1,0,0
 
 Exit status:

@@ -1,17 +1,17 @@
--- Where every packet that waits has a byte at least, there is one overflow of the queues, and no other: some flow is
--- the fattest, and one alone.
-use Rattle.std.proofs.Common.{◌≡◌, ℕ, zero, suc, ◌*◌, ◌<◌, ◌≤◌, All, List, [], ◌∷◌, drop, get_or, length, set, sum_by, refl, sym, ap, subst, ◌∙◌, inl, inr, arith}
+-- Where every packet that waits has a byte at least, there is one overflow of the queues, and no other: as long as too
+-- much waits, some flow is the fattest, and one alone, and behind its batch fewer packets wait.
+use Rattle.std.proofs.Common.{◌≡◌, ℕ, zero, suc, ◌*◌, ◌<◌, ◌≤◌, ◌⊎◌, All, List, [], ◌∷◌, Option, Some, None, IsSomeAnd, drop, get_or, length, sum_by, refl, sym, ap, subst, ◌∙◌, inl, inr, arith}
 use Rattle.std.proofs.lemmas.Bool.{cases_lt, cases_order}
-use Rattle.std.proofs.lemmas.List.{get_or_past}
-use Rattle.std.proofs.lemmas.List.Elements.{All-from_get_or, All-get_or, All-head}
-use Rattle.std.proofs.lemmas.List.Sums.{sum_by-cons, sum_by-le}
+use Rattle.std.proofs.lemmas.List.{get_or_past, length-drop}
+use Rattle.std.proofs.lemmas.List.Elements.{All-drop, All-from_get_or, All-get_or, All-head, All-set}
+use Rattle.std.proofs.lemmas.List.Sums.{sum_by-cons, sum_by-le, sum_by-set}
 use Rattle.packet_core.specs.Packets.{IsLengthInRange}
 use Rattle.packet_core.specs.declared.packet.Waiting.{Waiting}
+use Rattle.packet_core.specs.declared.params.ParamFields.{ParamFields}
 use Rattle.codel_core.specs.Queue.{bytes_of}
 use Rattle.flow_core.specs.Fattest.{IsFattest, bytes_at}
 use Rattle.journal_core.specs.Disciplines.{Batch}
-use Rattle.fair_core.specs.Overflow.{Overflow, batch_of, batch_size}
-use Rattle.fair_core.specs.Overflow.Overflow.{fits, exceeds}
+use Rattle.fair_core.specs.Overflow.{Exceeds, Overflow, batch_of, batch_size, without_batch}
 
 -- one flow is the fattest
 fattest_once : (queues : List (List Waiting)) (flow flow' : ℕ) → IsFattest queues flow → IsFattest queues flow'
@@ -23,17 +23,19 @@ fattest_once queues flow flow' a b =
       | inr (inr below) ↦ let less = a.least flow' below in let most = b.greatest flow in absurd (omega arith)
     ]
 
-pub overflow_once : (limit : ℕ) (queues new new' : List (List Waiting)) (batches batches' : List Batch)
-    → Overflow limit queues batches new → Overflow limit queues batches' new'
+-- each batch is that of the one flow that is the fattest then
+pub overflow_once : (p : ParamFields) (queues new new' : List (List Waiting)) (batches batches' : List Batch)
+    → Overflow p queues batches new → Overflow p queues batches' new'
     → (batches ≡ batches') × (new ≡ new')
-overflow_once limit queues new new' batches batches' (fits few none e) (fits few' none' e') = (none ∙ sym none', e ∙ sym e')
-overflow_once limit queues new new' batches batches' (fits few none e) (exceeds many flow fattest one e') = absurd (omega arith)
-overflow_once limit queues new new' batches batches' (exceeds many flow fattest one e) (fits few none e') = absurd (omega arith)
-overflow_once limit queues new new' batches batches' (exceeds many flow fattest one e) (exceeds many' flow' fattest' one' e') =
-    let same = fattest_once queues flow flow' fattest fattest' in (
-      one ∙ ap (λ (f : ℕ). batch_of queues f ∷ []) same ∙ sym one',
-      e ∙ ap (λ (f : ℕ). set queues f (drop (batch_size (length (get_or queues f []))) (get_or queues f []))) same ∙ sym e',
-    )
+overflow_once p queues new new' [] [] o o' = (refl, o.1 ∙ sym o'.1)
+overflow_once p queues new new' [] (batch' ∷ more') o o' = absurd (o.0 o'.0)
+overflow_once p queues new new' (batch ∷ more) [] o o' = absurd (o'.0 o.0)
+overflow_once p queues new new' (batch ∷ more) (batch' ∷ more') o o' =
+    let same = fattest_once queues batch.flow batch'.flow o.1 o'.1 in
+    let one : batch ≡ batch' = o.2 ∙ ap (batch_of p.drop_batch queues) same ∙ sym o'.2 in
+    let left = subst (λ (f : ℕ). Overflow p (without_batch p.drop_batch queues f) more' new') (sym same) o'.3 in
+    let rest = overflow_once p (without_batch p.drop_batch queues batch.flow) new new' more more' o.3 left in
+    (λ i. one i ∷ rest.0 i, rest.1)
 
 -- the first of n places that has the greatest value of them, and place 0 where there is none
 first_greatest : (value : ℕ → ℕ) (n : ℕ) → (k : ℕ) × ((i : ℕ) → i < n → value i ≤ value k) × ((i : ℕ) → i < k → value i < value k)
@@ -101,15 +103,89 @@ fattest_there queues have some =
           | inr past ↦ let none = no_bytes other past in omega arith
         ]
 
-pub overflow_there : (limit : ℕ) (queues : List (List Waiting)) → All HaveLengths queues
-    → (batches : List Batch) × (queues' : List (List Waiting)) × Overflow limit queues batches queues'
-overflow_there limit queues have =
-    elim (cases_lt limit (sum_by length queues)) [
-      | inl many ↦
-          let fattest = fattest_there queues have (omega arith) in (
-            batch_of queues fattest.0 ∷ [],
-            set queues fattest.0 (drop (batch_size (length (get_or queues fattest.0 []))) (get_or queues fattest.0 [])),
-            exceeds many fattest.0 fattest.1 refl refl,
-          )
-      | inr few ↦ ([], queues, fits few refl refl)
+-- THERE IS AN OVERFLOW
+
+-- where bytes wait, packets do
+packets_wait : (queues : List (List Waiting)) → 0 < sum_by bytes_of queues → 0 < sum_by length queues
+packets_wait [] some = omega arith
+packets_wait ([] ∷ queues) some =
+    omega (arith, sum_by-cons bytes_of [] queues, sum_by-cons length [] queues, packets_wait queues (omega (arith, sum_by-cons bytes_of [] queues)))
+packets_wait ((w ∷ ws) ∷ queues) some = omega (arith, sum_by-cons length (w ∷ ws) queues)
+
+-- whether too much waits can be told
+exceeds_told : (p : ParamFields) (queues : List (List Waiting)) → Exceeds p queues ⊎ ¬ Exceeds p queues
+exceeds_told p queues =
+    elim (cases_lt p.limit (sum_by length queues)) [
+      | inl many ↦ inl (inl many)
+      | inr few ↦ bytes_told p.memory_limit few
     ]
+  where
+    neither : (o : Option ℕ) → ¬ IsSomeAnd o (λ most. most < sum_by bytes_of queues) → sum_by length queues ≤ p.limit
+        → ¬ ((p.limit < sum_by length queues) ⊎ IsSomeAnd o (λ most. most < sum_by bytes_of queues))
+    neither o not few (inl many) = omega arith
+    neither o not few (inr much) = not much
+
+    bytes_told : (o : Option ℕ) → sum_by length queues ≤ p.limit
+        → ((p.limit < sum_by length queues) ⊎ IsSomeAnd o (λ most. most < sum_by bytes_of queues))
+        ⊎ ¬ ((p.limit < sum_by length queues) ⊎ IsSomeAnd o (λ most. most < sum_by bytes_of queues))
+    bytes_told None few = inr (neither None (λ h. h) few)
+    bytes_told (Some most) few =
+        elim (cases_lt most (sum_by bytes_of queues)) [
+          | inl much ↦ inl (inr much)
+          | inr little ↦ inr (neither (Some most) (λ h. omega arith) few)
+        ]
+
+-- where too much waits, a packet does
+pub exceeding_waits : (p : ParamFields) (queues : List (List Waiting)) → Exceeds p queues → 0 < sum_by length queues
+exceeding_waits p queues (inl many) = omega arith
+exceeding_waits p queues (inr much) = by_bytes p.memory_limit much
+  where
+    by_bytes : (o : Option ℕ) → IsSomeAnd o (λ most. most < sum_by bytes_of queues) → 0 < sum_by length queues
+    by_bytes None much = absurd much
+    by_bytes (Some most) much = packets_wait queues (omega arith)
+
+-- the fattest flow has a packet
+pub fattest_has : (queues : List (List Waiting)) (flow : ℕ) → IsFattest queues flow → 0 < length (get_or queues flow [])
+fattest_has queues flow fattest = has (get_or queues flow []) fattest.waits
+  where
+    has : (q : List Waiting) → 0 < bytes_of q → 0 < length q
+    has [] some = omega arith
+    has (w ∷ ws) some = omega arith
+
+-- behind a batch fewer packets wait
+pub fewer_behind : (most : ℕ) (queues : List (List Waiting)) (flow : ℕ) → 1 ≤ most → IsFattest queues flow
+    → sum_by length (without_batch most queues flow) < sum_by length queues
+fewer_behind most queues flow some fattest =
+    let q = get_or queues flow [] in
+    let left = drop (batch_size most (length q)) q in
+    omega (arith, sum_by-set length queues flow left [] fattest.within, length-drop (batch_size most (length q)) q, fattest_has queues flow fattest)
+
+-- packets behind a batch have lengths
+lengths_behind : (most : ℕ) (queues : List (List Waiting)) (flow : ℕ) → flow < length queues → All HaveLengths queues
+    → All HaveLengths (without_batch most queues flow)
+lengths_behind most queues flow within have =
+    let q = get_or queues flow [] in
+    let n = batch_size most (length q) in
+    All-set HaveLengths queues flow (drop n q) (All-drop (λ (w : Waiting). IsLengthInRange w.packet.len) n q (All-get_or HaveLengths queues flow [] within have)) have
+
+-- of so many packets at most
+overflow_within : (p : ParamFields) (n : ℕ) (queues : List (List Waiting)) → 1 ≤ p.drop_batch → sum_by length queues ≤ n → All HaveLengths queues
+    → (batches : List Batch) × (queues' : List (List Waiting)) × Overflow p queues batches queues'
+overflow_within p zero queues some few have =
+    elim (exceeds_told p queues) [
+      | inl much ↦ let waits = exceeding_waits p queues much in absurd (omega arith)
+      | inr not ↦ ([], queues, (not, refl))
+    ]
+overflow_within p (suc n) queues some few have =
+    elim (exceeds_told p queues) [
+      | inl much ↦
+          let fattest = fattest_there queues have (exceeding_waits p queues much) in
+          let next = without_batch p.drop_batch queues fattest.0 in
+          let rest = overflow_within p n next some (omega (arith, fewer_behind p.drop_batch queues fattest.0 some fattest.1)) (lengths_behind p.drop_batch queues fattest.0 fattest.1.within have) in
+          (batch_of p.drop_batch queues fattest.0 ∷ rest.0, rest.1, (much, fattest.1, refl, rest.2))
+      | inr not ↦ ([], queues, (not, refl))
+    ]
+
+pub overflow_there : (p : ParamFields) (queues : List (List Waiting)) → 1 ≤ p.drop_batch → All HaveLengths queues
+    → (batches : List Batch) × (queues' : List (List Waiting)) × Overflow p queues batches queues'
+overflow_there p queues some have = overflow_within p (sum_by length queues) queues some (omega arith) have

@@ -61,7 +61,7 @@ module _ (p : ParamFields) (now : ℕ) (old : Held) (head : Head) (at : head_of 
         let lists = old.queues.lists in
         let empty : queue_of old.queues head.flow ≡ [] = q.none.0 none in
         let decides = rw empty at q.decides in
-        let zero_drops : q.drops ≡ 0 = nothing_dropped p now ((account_at old.queues head.flow).codel) q.drops q.mark (record s.codel { first_above = (account_at old.queues head.flow).codel.first_above }) decides.verdict in
+        let zero_drops : q.drops ≡ 0 = nothing_dropped p now ((account_at old.queues head.flow).codel) q.drops decides.by_codel (record s.codel { first_above = (account_at old.queues head.flow).codel.first_above }) decides.verdict in
         let given : answer ≡ None = rw empty at q.given in
         let queues : set lists.queues head.flow [] ≡ lists.queues = ap (set lists.queues head.flow) (sym empty) ∙ set-get_or lists.queues head.flow [] in
         let flows : s.flows ≡ record (held_flows old) { comparisons = s.flows.comparisons } = rw (empty, zero_drops) at q.rest ∙ (λ i. record (held_flows old) { lists = record lists { queues = queues i }; comparisons = s.flows.comparisons }) in

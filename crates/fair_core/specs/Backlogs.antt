@@ -6,6 +6,7 @@ use Rattle.codel_core.specs.Verdict.{Decides, served}
 use Rattle.codel_core.specs.declared.served.Mark.{Mark}
 use Rattle.codel_core.specs.declared.served.Served.{Served}
 use Rattle.codel_core.specs.declared.state.CodelState.{CodelState}
+use Rattle.flow_core.specs.Fattest.{IsFattest}
 use Rattle.flow_core.specs.FlowLists.{FlowLists, Holding, queue_at, waiting_in, with_queue}
 use Rattle.flow_core.specs.Winners.{CountsFew}
 use Rattle.fair_core.specs.declared.account.Account.{Account}
@@ -17,7 +18,7 @@ use Rattle.fair_core.specs.FairQueueing.{dropped_in, given_in, with_flow_listed,
 use Rattle.fair_core.specs.FairQueues.{FairQueues, account_at, new_account, with_account}
 use Rattle.journal_core.specs.JournalDrops.{with_drops}
 use Rattle.fair_core.specs.FqCodel.{fq_codel_policy}
-use Rattle.fair_core.specs.Overflow.{Overflow}
+use Rattle.fair_core.specs.Overflow.{Overflow, batch_of, without_batch}
 use Rattle.fair_core.specs.Turns.{Chain, Service, Turn, TurnMade, service_by, service_in}
 
 -- the flows as the scheduler sees them: how many packets came so far, how many more may come without taking memory, and
@@ -165,10 +166,25 @@ pub record DropsHeads (flow n moment : ℕ) (old : Holding) (book : Book) (new :
       old.comparisons new.comparisons
   pub journal : book' ≡ with_drops book moment cause.Overflow (take n (queue_at old.lists flow))
 
+-- The fattest flow loses so many packets at most, with few comparisons for each packet, and the journal records it.
+pub record LosesBatch (most moment : ℕ) (old : Held) (book : Book) (new : Held) (book' : Book) : Type 0 where
+  pub flow : ℕ
+  pub fattest : IsFattest old.queues.lists.queues flow
+  pub rest : new
+      ≡ record old {
+        queues = with_queues old.queues (without_batch most old.queues.lists.queues flow);
+        comparisons = new.comparisons;
+      }
+  pub few_comparisons :
+      CountsFew (length old.queues.lists.queues) (length (batch_of most old.queues.lists.queues flow).gone)
+      old.comparisons new.comparisons
+  pub journal : book' ≡ with_drops book moment cause.Overflow (batch_of most old.queues.lists.queues flow).gone
+
 -- What overflows is dropped, with few comparisons for each packet, and the journal records it.
-pub record DropsOverflow (limit moment : ℕ) (old : Held) (book : Book) (new : Held) (book' : Book) : Type 0 where
+pub record DropsOverflow (p : ParamFields) (moment : ℕ) (old : Held) (book : Book) (new : Held) (book' : Book)
+    : Type 0 where
   pub batches : List Batch
-  pub overflow : Overflow limit old.queues.lists.queues batches new.queues.lists.queues
+  pub overflow : Overflow p old.queues.lists.queues batches new.queues.lists.queues
   pub rest : new
       ≡ record old { queues = with_queues old.queues new.queues.lists.queues; comparisons = new.comparisons }
   pub few_comparisons :

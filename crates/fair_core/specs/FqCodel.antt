@@ -8,13 +8,13 @@ use Rattle.fair_core.specs.FairQueues.{FairQueues}
 use Rattle.fair_core.specs.Overflow.{Overflow}
 use Rattle.fair_core.specs.Turns.{Policy}
 
--- CoDel drops from the queue that is served (RFC 8289, section 5), and the fattest flow loses packets where too many
--- wait.
+-- CoDel drops from the queue that is served (RFC 8289, section 5), and the fattest flow loses packets where too much
+-- waits.
 abbrev pub fq_codel_policy : ParamFields → Policy
 fq_codel_policy p = record {
   quantum = p.quantum;
   verdict = λ now queue codel drops mark codel'. Decides p now queue codel drops mark codel';
-  overflow = λ queues batches queues'. Overflow p.limit queues batches queues';
+  overflow = λ queues batches queues'. Overflow p queues batches queues';
 }
 
 -- FQ-CoDel with those parameters and that seed (RFC 8290)

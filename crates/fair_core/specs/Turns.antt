@@ -8,7 +8,7 @@ use Rattle.fair_core.specs.declared.backlog.Head.{Head}
 use Rattle.fair_core.specs.FairQueues.{FairQueues, account_at, emptied_lists, head_of, queue_of, to_old, with_account}
 
 -- What a fair scheduler leaves to others: how many bytes a flow may send in its turn; which packets of a flow's queue
--- are dropped when it is served; and which packets are dropped when too many wait. `verdict now queue codel drops mark
+-- are dropped when it is served; and which packets are dropped when too much waits. `verdict now queue codel drops mark
 -- codel'`: at that moment so many packets are dropped from the head, the next one is given with that mark, and `codel'`
 -- is the new state. `overflow queues batches queues'`: after an arrival those batches are dropped.
 pub record Policy : Type 1 where

@@ -1,10 +1,11 @@
 //! The packets that wait in flows that take turns, and what arrives, is served and overflows.
 
-ghost use Rattle.std.specs.Prelude.{◌≡◌, ℕ, ◌+◌, ◌^◌, ◌<◌, ◌≤◌, IfOk, IfSome, OnErr, OnOk, Some, length, min, pos, ◌<ℤ◌, ◌≤ℤ◌};
+ghost use Rattle.std.specs.Prelude.{◌≡◌, ℕ, ◌+◌, ◌^◌, ◌<◌, ◌≤◌, ◌↔◌, IfOk, IfSome, IsTrue, OnErr, OnOk, Some, length, min, pos, ◌<ℤ◌, ◌≤ℤ◌};
 ghost use Rattle.codel_core.specs.Schedule.{IsStateInRange};
 ghost use Rattle.flow_core.specs.FlowLists.{queue_at, waiting_in};
 ghost use Rattle.flow_core.specs.Winners.{CountsFew};
-ghost use Rattle.fair_core.specs.Backlogs.{DropsHeads, DropsOverflow, MakesChain, MakesTurn, ServesFlow, ServesQueue, with_arrival_listed, with_credits_raised, with_lists};
+ghost use Rattle.fair_core.specs.Backlogs.{DropsHeads, DropsOverflow, LosesBatch, MakesChain, MakesTurn, ServesFlow, ServesQueue, with_arrival_listed, with_credits_raised, with_lists};
+ghost use Rattle.fair_core.specs.Overflow.{Exceeds};
 ghost use Rattle.fair_core.specs.Shown.{flow_shown};
 ghost use Rattle.fair_core.specs.TurnBound.{turns_at_most};
 ghost use Rattle.fair_core.specs.FairQueues.{AreSound, account_at, emptied_lists, head_of, no_queues, to_old};
@@ -17,9 +18,6 @@ use journal_core::{Cause, Event, Fates, Journal, Keeps, Memory};
 use packet_core::{Params, Waiting};
 use std::alloc::Global;
 use std::marker::Model;
-
-/// The most packets that one overflow drops.
-const MAX_BATCH: u64 = 64;
 
 /// One of the two lists of flows (RFC 8290, section 4).
 #[derive(Clone, Copy, Debug)]
@@ -181,21 +179,47 @@ impl Backlog {
         }
     }
 
-    /// Where more than `limit` packets wait, the flow with the most bytes loses a batch from its head, which the
-    /// journal records (RFC 8290, section 4.1).
-    pub fn overflow<K: Keeps<Event>>(&mut self, limit: u32, moment: u64, journal: &mut Journal<K>)
-        requires limit { 1 ≤ limit }
-        requires room { waiting_in self.old.queues.lists ≤ journal.old.room }
-        ensures { DropsOverflow limit moment self.old journal.old self.new journal.new }
+    /// As long as more packets wait than `limit`, or more bytes than `memory_limit`, the flow with the most bytes loses
+    /// a batch from its head, which the journal records (RFC 8290, section 4.1).
+    pub fn overflow<K: Keeps<Event>>(
+        &mut self,
+        params: &Params,
+        moment: u64,
+        journal: &mut Journal<K>,
+    )
+        requires { waiting_in self.old.queues.lists ≤ journal.old.room }
+        ensures { DropsOverflow params.now moment self.old journal.old self.new journal.new }
     {
-        if self.flows.total_len() <= u64::from(limit) {
-            return;
+        while self.exceeds(params) {
+            self.lose_batch(params.drop_batch(), moment, journal);
         }
+    }
+
+    /// Whether too much waits.
+    fn exceeds(&self, params: &Params) -> bool
+        ensures { IsTrue result ↔ Exceeds params.now self.now.queues.lists.queues }
+    {
+        if u64::from(params.limit()) < self.flows.total_len() {
+            return true;
+        }
+        match params.memory_limit() {
+            None => false,
+            Some(most) => most < self.flows.total_bytes(),
+        }
+    }
+
+    /// The flow with the most bytes loses half of its packets from its head, but at least one, and so many at most.
+    fn lose_batch<K: Keeps<Event>>(&mut self, most: u32, moment: u64, journal: &mut Journal<K>)
+        requires most { 1 ≤ most }
+        requires waits { 0 < waiting_in self.old.queues.lists }
+        requires room { waiting_in self.old.queues.lists ≤ journal.old.room }
+        ensures { LosesBatch most moment self.old journal.old self.new journal.new }
+    {
         let Some(flow) = self.flows.fattest() else {
             unreachable!()
         };
-        let batch = (self.flows.len(flow) / 2).clamp(1, MAX_BATCH);
-        drop_batch(&mut self.flows, flow, batch, moment, journal);
+        let batch = (self.flows.len(flow) / 2).clamp(1, u64::from(most));
+        drop_heads(&mut self.flows, flow, batch, moment, journal);
     }
 
     /// A chain of turns, up to the first one that serves a flow, or to where both lists are empty (RFC 8290,
@@ -350,7 +374,7 @@ fn serve_queue<K: Keeps<Event>>(
 }
 
 /// Drops so many packets from the head of a flow's queue, as overflow.
-fn drop_batch<K: Keeps<Event>>(
+fn drop_heads<K: Keeps<Event>>(
     flows: &mut Flows,
     flow: u32,
     batch: u64,

@@ -28,6 +28,18 @@ pub few_bytes : (queues : List (List Waiting)) (flow : ℕ) → All AreInRange q
 few_bytes queues flow ranges =
     sum_by-le (λ (w : Waiting). w.packet.len) 65535 (get_or queues flow []) (λ k d h. (in_range_at queues flow ranges k d h).1)
 
+-- all packets have few enough bytes
+pub few_in_all : (queues : List (List Waiting)) → All AreInRange queues → sum_by bytes_of queues ≤ sum_by length queues * 65535
+few_in_all [] ranges = omega arith
+few_in_all (queue ∷ queues) ranges =
+    omega (
+      arith,
+      sum_by-cons bytes_of queue queues,
+      sum_by-cons length queue queues,
+      few_in_all queues (All-tail AreInRange queue queues ranges),
+      few_bytes (queue ∷ queues) 0 ranges,
+    )
+
 -- the bytes of each queue, where one of them is another queue
 pub bytes_set : (queues : List (List Waiting)) (flow : ℕ) (queue : List Waiting) (bytes : ℕ) → bytes ≡ bytes_of queue → set (map bytes_of queues) flow bytes ≡ map bytes_of (set queues flow queue)
 bytes_set queues flow queue bytes is = ap (λ (n : ℕ). set (map bytes_of queues) flow n) is ∙ sym (map-set bytes_of queues flow queue)

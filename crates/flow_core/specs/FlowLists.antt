@@ -1,5 +1,6 @@
 use Rattle.std.specs.Prelude.{◌≢◌, ℕ, ◌<◌, List, [], ◌∷◌, ◌++◌, All, length, get_or, set, replicate, sum_by}
 use Rattle.packet_core.specs.declared.packet.Waiting.{Waiting}
+use Rattle.codel_core.specs.Queue.{bytes_of}
 
 -- The queues of all flows, that of flow 0 first, and the two lists of flow numbers that a device looks at: the new
 -- flows and the old ones (RFC 8290, section 4).
@@ -30,6 +31,10 @@ with_queue lists flow queue = record lists { queues = set lists.queues flow queu
 -- the number of all packets that wait
 abbrev pub waiting_in : FlowLists → ℕ
 waiting_in lists = sum_by length lists.queues
+
+-- the lengths of all packets that wait, added up
+abbrev pub bytes_in : FlowLists → ℕ
+bytes_in lists = sum_by bytes_of lists.queues
 
 -- No number stands twice in the list.
 abbrev pub AreDistinct : List ℕ → Type 0

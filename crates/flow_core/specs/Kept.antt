@@ -18,8 +18,8 @@ holding_of f = record {
   comparisons = f.winners.comparisons;
 }
 
--- The chains, the lists and the tree are of the same flows, the tree has the bytes of each queue, and each packet has a
--- length in range.
+-- The chains, the lists and the tree are of the same flows, the tree has the bytes of each queue, each packet has a
+-- length in range, and all lengths add up to the total.
 pub record IsKept (f : Inside) : Type 0 where
   pub least : 1 ≤ length f.chains.queues
   pub most : length f.chains.queues ≤ MAX_FLOWS
@@ -27,3 +27,4 @@ pub record IsKept (f : Inside) : Type 0 where
   pub bytes : f.winners.bytes ≡ map bytes_of f.chains.queues
   pub lengths : All (All (λ w. IsLengthInRange w.packet.len)) f.chains.queues
   pub few : sum_by length f.chains.queues ≤ MAX_WAITING
+  pub total : f.total_bytes ≡ sum_by bytes_of f.chains.queues

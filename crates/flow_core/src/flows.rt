@@ -3,7 +3,7 @@
 ghost use Rattle.std.specs.Prelude.{◌≡◌, ◌+◌, ◌^◌, ◌<◌, ◌≤◌, ◌↔◌, [], ◌∷◌, ◌++◌, All, Contains, IfOk, IfSome, IsNone, IsTrue, OnErr, OnOk, drop, length, min, slice_get, take};
 ghost use Rattle.packet_core.specs.Packets.{IsLengthInRange};
 ghost use Rattle.flow_core.specs.Fattest.{IsFattest, bytes_at};
-ghost use Rattle.flow_core.specs.FlowLists.{AreListed, no_flows, queue_at, waiting_in, with_queue};
+ghost use Rattle.flow_core.specs.FlowLists.{AreListed, bytes_in, no_flows, queue_at, waiting_in, with_queue};
 ghost use Rattle.flow_core.specs.Winners.{CountsFew, IsLevels};
 
 use crate::chains::Chains;
@@ -24,6 +24,7 @@ pub struct Flows {
     chains: Chains,
     listed: ListedFlows,
     winners: WinnerTree,
+    total_bytes: u64,
 }
 
 impl Model for Flows {
@@ -50,6 +51,7 @@ impl Flows {
             chains: Chains::try_new(alloc, flows)?,
             listed: ListedFlows::try_new(alloc, flows)?,
             winners: WinnerTree::try_new(alloc, flows)?,
+            total_bytes: 0,
         })
     }
 
@@ -82,6 +84,7 @@ impl Flows {
         let bytes = u64::from(waiting.packet.len());
         self.chains.push(flow, waiting);
         self.winners.add(flow, bytes);
+        self.total_bytes += bytes;
     }
 
     /// Takes the packet at the head of a flow's queue, with at most `levels` comparisons. None, with no comparison,
@@ -97,7 +100,9 @@ impl Flows {
         ensures none_compares { IsNone result → self.new.comparisons ≡ self.old.comparisons }
     {
         let waiting = self.chains.pop(flow)?;
-        self.winners.take(flow, u64::from(waiting.packet.len()));
+        let bytes = u64::from(waiting.packet.len());
+        self.winners.take(flow, bytes);
+        self.total_bytes -= bytes;
         Some(waiting)
     }
 
@@ -125,6 +130,13 @@ impl Flows {
         ensures size { result ≤ MAX_WAITING }
     {
         self.chains.total_len()
+    }
+
+    /// The lengths of all packets that wait, in all flows together, added up, in bytes.
+    pub fn total_bytes(&self) -> u64
+        ensures { result ≡ bytes_in self.now.lists }
+    {
+        self.total_bytes
     }
 
     /// The flow with the most bytes, and of those that have as many the one of the least number. None where no

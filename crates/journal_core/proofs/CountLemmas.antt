@@ -2,24 +2,25 @@
 use Rattle.std.proofs.Common.{◌≡◌, ℕ, ◌+◌, Bool, cond, List, [], ◌∷◌, ◌++◌, length, map, sum_by, Option, Some, None, refl, rules, ap, subst, ◌∙◌, arith, append-nil, append_assoc}
 use Rattle.packet_core.specs.declared.packet.Ecn.{Ecn}
 use Rattle.codel_core.specs.declared.served.Mark.{Mark}
-use Rattle.codel_core.specs.declared.served.Mark.TheVariants.{NoMark, CodelMark}
+use Rattle.codel_core.specs.declared.served.Mark.TheVariants.{NoMark, CodelMark, Threshold}
 use Rattle.journal_core.specs.declared.event.Cause.{Cause}
 use Rattle.journal_core.specs.declared.event.Cause.TheVariants.{Codel, Overflow}
 use Rattle.journal_core.specs.declared.journal.Counts.{Counts}
 use Rattle.journal_core.specs.Books.{count_accepted, count_sent, count_dropped, count_drops}
-use Rattle.journal_core.proofs.Words.{count_by, AllByRecursion, filter_map, length-append, filter_map-append, sum_by-append, PacketParts, Waiting, Event, Accepted, Sent, Dropped, Closed, Acceptance, acceptance_of, fate_of, acceptances, fate_ids, named, AreCounts, sent_of, dropped_of, is_codel_drop, is_overflow_drop, is_marked, length_of, length_named, bytes_named, drop_event}
+use Rattle.journal_core.proofs.Words.{count_by, AllByRecursion, filter_map, length-append, filter_map-append, sum_by-append, PacketParts, Waiting, Event, Accepted, Sent, Dropped, Closed, Acceptance, acceptance_of, fate_of, acceptances, fate_ids, named, AreCounts, sent_of, dropped_of, is_codel_drop, is_overflow_drop, is_marked, is_threshold_marked, length_of, length_named, bytes_named, drop_event}
 use Rattle.journal_core.proofs.EventLemmas.{filter_map_same, filter_map_push, sum_more}
 use Rattle.journal_core.proofs.FatelessPackets.{sum_fates}
 use Rattle.journal_core.proofs.FlowShares.{AreFound}
 use Rattle.journal_core.proofs.HistoryEvents.{bytes_stay}
 
--- what an event grow to each count
+-- what an event adds to each count
 abbrev Grow : Counts → Counts → List Acceptance → Event → Type 0
 Grow c c' accepted e =
     (c'.accepted ≡ c.accepted + length (acceptances (e ∷ []))) × (c'.accepted_bytes ≡ c.accepted_bytes + sum_by length_of (acceptances (e ∷ [])))
     × (c'.sent ≡ c.sent + length (filter_map sent_of (e ∷ []))) × (c'.sent_bytes ≡ c.sent_bytes + bytes_named accepted (filter_map sent_of (e ∷ [])))
     × (c'.dropped_codel ≡ c.dropped_codel + count_by is_codel_drop (e ∷ [])) × (c'.dropped_overflow ≡ c.dropped_overflow + count_by is_overflow_drop (e ∷ []))
     × (c'.dropped_bytes ≡ c.dropped_bytes + bytes_named accepted (filter_map dropped_of (e ∷ []))) × (c'.marked ≡ c.marked + count_by is_marked (e ∷ []))
+    × (c'.threshold_marked ≡ c.threshold_marked + count_by is_threshold_marked (e ∷ []))
     × (c'.sent + c'.dropped_codel + c'.dropped_overflow ≡ c.sent + c.dropped_codel + c.dropped_overflow + length (fate_ids (e ∷ [])))
 
 -- One event more, where the ids sent and dropped name the same lengths as before.
@@ -38,7 +39,8 @@ module _ (c c' : Counts) (events : List Event) (e : Event) (h : AreCounts c even
         dropped_overflow = omega (arith, h.dropped_overflow, grow.5, count_more is_overflow_drop);
         dropped_bytes = omega (arith, h.dropped_bytes, grow.6);
         marked = omega (arith, h.marked, grow.7, count_more is_marked);
-        fates = omega (arith, h.fates, grow.8, length_more fate_of);
+        threshold_marked = omega (arith, h.threshold_marked, grow.8, count_more is_threshold_marked);
+        fates = omega (arith, h.fates, grow.9, length_more fate_of);
         fate_bytes = omega (arith, h.sent_bytes, h.dropped_bytes, grow.3, grow.6, sum_fates (length_named (acceptances (events ++ e ∷ []))) (events ++ e ∷ []));
       }
     where
@@ -77,6 +79,7 @@ counts_accept c events id moment lane flow packet found h =
 pub counts_send : (c : Counts) (events : List Event) (id moment : ℕ) (ecn : Ecn) (mark : Mark) (len : ℕ) → length_named (acceptances events) id ≡ len → AreCounts c events → AreCounts (count_sent c len mark) (events ++ Sent id moment ecn mark ∷ [])
 counts_send c events id moment ecn NoMark len value h = counts_without c (count_sent c len NoMark) events (Sent id moment ecn NoMark) h refl (search rules)
 counts_send c events id moment ecn CodelMark len value h = counts_without c (count_sent c len CodelMark) events (Sent id moment ecn CodelMark) h refl (search rules)
+counts_send c events id moment ecn Threshold len value h = counts_without c (count_sent c len Threshold) events (Sent id moment ecn Threshold) h refl (search rules)
 
 -- a packet dropped
 pub counts_drop : (c : Counts) (events : List Event) (id moment : ℕ) (why : Cause) (len : ℕ) → length_named (acceptances events) id ≡ len → AreCounts c events → AreCounts (count_dropped c len why) (events ++ Dropped id moment why ∷ [])

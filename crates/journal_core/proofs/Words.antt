@@ -22,6 +22,6 @@ pub use Rattle.journal_core.specs.History.{AreCounts, IsHistory, IsLine}
 pub use Rattle.journal_core.specs.JournalLaws.{AreDistinct, FatesFollow, FlowsAreNamed, IdsInOrder, IsClosedForGood, IsHonest, JournalLaws, MomentsRise, WaitWithoutFate, is_barred}
 pub use Rattle.journal_core.specs.Runs.{IsRun, Made, Runs, StandsIn, Takes, given_by_made, is_refused, journal_of, outcomes_from, steps_made}
 pub use Rattle.journal_core.specs.State.{State, arrival, closed_refusal_of, first_of_two, id_refusal_of, moment_fault_of, opening_state, refusal_of}
-pub use Rattle.journal_core.specs.Statistics.{bytes_named, dropped_of, is_codel_drop, is_marked, is_overflow_drop, length_named, length_of, sent_of}
+pub use Rattle.journal_core.specs.Statistics.{bytes_named, dropped_of, is_codel_drop, is_marked, is_overflow_drop, is_threshold_marked, length_named, length_of, sent_of}
 pub use Rattle.journal_core.specs.Steps.{Admits, Closes, Makes, Serves, Steps, dequeue_answer, drop_event, sent_events}
 pub use Rattle.journal_core.specs.Tallies.{AreTallied, IsBalanced, IsTallied, counted, row_so_far, settled, tuple_of, with_row}

@@ -1,6 +1,6 @@
 use Rattle.std.specs.Prelude.{ℕ, ◌+◌, ◌*◌, ◌-◌, ◌≤◌, List, [], ◌∷◌, ◌++◌, length, min}
 use Rattle.codel_core.specs.declared.served.Mark.{Mark}
-use Rattle.codel_core.specs.declared.served.Mark.TheVariants.{NoMark, CodelMark}
+use Rattle.codel_core.specs.declared.served.Mark.TheVariants.{NoMark, CodelMark, Threshold}
 use Rattle.packet_core.specs.declared.packet.Waiting.{Waiting}
 use Rattle.journal_core.specs.declared.event.Cause.{Cause}
 use Rattle.journal_core.specs.declared.event.Cause.TheVariants.{Codel, Overflow}
@@ -28,6 +28,7 @@ no_counts = record {
   dropped_overflow = 0;
   dropped_bytes = 0;
   marked = 0;
+  threshold_marked = 0;
 }
 
 -- one event more, and these counts
@@ -38,17 +39,24 @@ with_event book event counts = record { events = book.events ++ event ∷ []; co
 abbrev pub count_accepted : Counts → ℕ → Counts
 count_accepted c len = record c { accepted = c.accepted + 1; accepted_bytes = c.accepted_bytes + len }
 
--- how many marks that is
-abbrev pub marks_of : Mark → ℕ
-marks_of NoMark = 0
-marks_of CodelMark = 1
+-- how many marks of CoDel's that is, and how many for the threshold
+abbrev pub codel_marks_of : Mark → ℕ
+codel_marks_of NoMark = 0
+codel_marks_of CodelMark = 1
+codel_marks_of Threshold = 0
+
+abbrev pub threshold_marks_of : Mark → ℕ
+threshold_marks_of NoMark = 0
+threshold_marks_of CodelMark = 0
+threshold_marks_of Threshold = 1
 
 -- one sent
 abbrev pub count_sent : Counts → ℕ → Mark → Counts
 count_sent c len mark = record c {
   sent = c.sent + 1;
   sent_bytes = c.sent_bytes + len;
-  marked = c.marked + marks_of mark;
+  marked = c.marked + codel_marks_of mark;
+  threshold_marked = c.threshold_marked + threshold_marks_of mark;
 }
 
 -- how many drops by CoDel that is, and how many by overflow
@@ -83,6 +91,7 @@ pub record IsCounted (c : Counts) (n : ℕ) : Type 0 where
   pub dropped_overflow : c.dropped_overflow ≤ n
   pub dropped_bytes : c.dropped_bytes ≤ 65535 * n
   pub marked : c.marked ≤ n
+  pub threshold_marked : c.threshold_marked ≤ n
 
 -- The counts are in range for those events, of which there are not too many.
 abbrev pub CountsFewEvents : Counts → List Event → Type 0

@@ -5,7 +5,7 @@ use Rattle.packet_core.specs.declared.packet.Waiting.{Waiting}
 use Rattle.packet_core.specs.declared.packet.Ecn.{Ecn}
 use Rattle.packet_core.specs.declared.packet.Ecn.TheVariants.{NotEct}
 use Rattle.codel_core.specs.declared.served.Mark.{Mark}
-use Rattle.codel_core.specs.declared.served.Mark.TheVariants.{NoMark, CodelMark}
+use Rattle.codel_core.specs.declared.served.Mark.TheVariants.{NoMark, CodelMark, Threshold}
 
 -- a packet that is given to the device, as it waited, and what marks it
 pub record Given : Type 0 where
@@ -16,6 +16,7 @@ pub record Given : Type 0 where
 abbrev pub MayHave : Mark → Ecn → Type 0
 MayHave NoMark ecn = Unit {0}
 MayHave CodelMark ecn = ecn ≢ NotEct
+MayHave Threshold ecn = ecn ≢ NotEct
 
 -- What a scheduling discipline does with its queues. `admits old w lost new`: with w accepted, the packets
 -- lost are dropped, in this order. `serves old moment dropped given new`: a dequeue drops those packets, in

@@ -46,5 +46,6 @@ pub record AreCounts (counts : Counts) (events : List Event) : Type 0 where
   pub dropped_overflow : counts.dropped_overflow ≡ (statistics events).dropped_overflow
   pub dropped_bytes : counts.dropped_bytes ≡ (statistics events).dropped_bytes
   pub marked : counts.marked ≡ (statistics events).marked
+  pub threshold_marked : counts.threshold_marked ≡ (statistics events).threshold_marked
   pub fates : counts.sent + counts.dropped_codel + counts.dropped_overflow ≡ length (fate_ids events)
   pub fate_bytes : counts.sent_bytes + counts.dropped_bytes ≡ bytes_named (acceptances events) (fate_ids events)

@@ -2,7 +2,7 @@ use Rattle.std.specs.Prelude.{ℕ, Bool, true, false, List, length, Option, Some
 use Rattle.std.specs.List.{filter_map, list_any}
 use Rattle.std.specs.Option.{option_map_or}
 use Rattle.journal_core.specs.declared.event.Cause.TheVariants.{Codel, Overflow}
-use Rattle.codel_core.specs.declared.served.Mark.TheVariants.{NoMark, CodelMark}
+use Rattle.codel_core.specs.declared.served.Mark.TheVariants.{NoMark, CodelMark, Threshold}
 use Rattle.journal_core.specs.declared.event.Event.{Event}
 use Rattle.journal_core.specs.declared.event.Event.TheVariants.{Accepted, Sent, Dropped, Closed}
 use Rattle.journal_core.specs.declared.totals.Totals.{Totals}
@@ -43,8 +43,18 @@ abbrev pub is_marked : Event → Bool
 is_marked (Accepted id moment lane flow packet) = false
 is_marked (Sent id moment ecn NoMark) = false
 is_marked (Sent id moment ecn CodelMark) = true
+is_marked (Sent id moment ecn Threshold) = false
 is_marked (Dropped id moment cause) = false
 is_marked (Closed moment) = false
+
+-- a packet sent with a mark for the threshold
+abbrev pub is_threshold_marked : Event → Bool
+is_threshold_marked (Accepted id moment lane flow packet) = false
+is_threshold_marked (Sent id moment ecn NoMark) = false
+is_threshold_marked (Sent id moment ecn CodelMark) = false
+is_threshold_marked (Sent id moment ecn Threshold) = true
+is_threshold_marked (Dropped id moment cause) = false
+is_threshold_marked (Closed moment) = false
 
 abbrev pub length_of : Acceptance → ℕ
 length_of a = a.packet.len
@@ -68,6 +78,7 @@ statistics events = record {
   dropped_overflow = count_by is_overflow_drop events;
   dropped_bytes = bytes_named (acceptances events) (filter_map dropped_of events);
   marked = count_by is_marked events;
+  threshold_marked = count_by is_threshold_marked events;
   queued = length (without_fate events);
   queued_bytes = sum_by length_of (without_fate events);
   closed = list_any is_closed events;

@@ -11,7 +11,7 @@ use packet_core::{Ecn, Packet};
 pub enum Cause {
     /// CoDel found that it had waited too long (RFC 8289).
     Codel,
-    /// More packets waited than the limit allows (RFC 8290, section 4.1).
+    /// More waited than a limit allows, of packets or of bytes (RFC 8290, section 4.1).
     Overflow,
 }
 

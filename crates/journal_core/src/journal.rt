@@ -34,6 +34,8 @@ pub struct Counts {
     pub dropped_bytes: u64,
     /// Packets sent with a mark of CoDel's.
     pub marked: u64,
+    /// Packets sent with a mark for the threshold.
+    pub threshold_marked: u64,
 }
 
 /// The events so far, told to a keeper. Room for more is taken ahead, so that to record one takes no memory.
@@ -77,6 +79,7 @@ impl<K: Keeps<Event>> Journal<K> {
                 dropped_overflow: 0,
                 dropped_bytes: 0,
                 marked: 0,
+                threshold_marked: 0,
             },
         })
     }
@@ -130,6 +133,7 @@ impl<K: Keeps<Event>> Journal<K> {
         match served.mark {
             Mark::NoMark => {}
             Mark::CodelMark => self.counts.marked += 1,
+            Mark::Threshold => self.counts.threshold_marked += 1,
         }
         self.keeper.tell(Event::Sent {
             id: served.waiting.id,

@@ -13,12 +13,14 @@ pub struct Totals {
     pub sent_bytes: u64,
     /// Packets that CoDel dropped.
     pub dropped_codel: u64,
-    /// Packets dropped since more waited than the limit allows.
+    /// Packets dropped since more waited than the limits allow, of packets or of bytes.
     pub dropped_overflow: u64,
     /// The sum of the lengths of all dropped packets.
     pub dropped_bytes: u64,
     /// Packets sent with a mark of CoDel's.
     pub marked: u64,
+    /// Packets sent with a mark for the threshold, and none of CoDel's.
+    pub threshold_marked: u64,
     /// Packets that wait.
     pub queued: u64,
     /// The sum of their lengths.

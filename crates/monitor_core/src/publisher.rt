@@ -154,6 +154,7 @@ pub(crate) fn nothing_shown<J: BookName>(front: &Front<J>) -> Shown<J>
         dropped_overflow: 0,
         dropped_bytes: 0,
         marked: 0,
+        threshold_marked: 0,
         queued: 0,
         queued_bytes: 0,
         closed: false,

@@ -9,7 +9,7 @@ use Rattle.packet_core.specs.declared.params.Classify.TheVariants.{Dport, Hash}
 use Rattle.packet_core.specs.declared.params.EcnUse.TheVariants as ecn_use
 use Rattle.packet_core.specs.declared.params.ParamFields.{ParamFields}
 use Rattle.packet_core.specs.declared.params.ParamName.{ParamName}
-use Rattle.packet_core.specs.declared.params.ParamName.TheVariants.{Limit, Flows, Quantum, Mtu, Target, Interval}
+use Rattle.packet_core.specs.declared.params.ParamName.TheVariants.{Limit, Flows, Quantum, Mtu, Target, Interval, CeThreshold, MemoryLimit, DropBatch}
 use Rattle.packet_core.specs.declared.words.Parameter.{Parameter}
 use Rattle.packet_core.specs.declared.words.Parameter.TheVariants as parameter
 use Rattle.packet_core.specs.declared.words.ParamWord.{ParamWord}
@@ -60,6 +60,9 @@ amount_of Quantum text = numeral_of text
 amount_of Mtu text = numeral_of text
 amount_of Target text = time_of text
 amount_of Interval text = time_of text
+amount_of CeThreshold text = time_of text
+amount_of MemoryLimit text = numeral_of text
+amount_of DropBatch text = numeral_of text
 
 -- whether a value is one that the parameter can have
 abbrev pub is_in_range : ParamName → ℕ → Bool
@@ -73,6 +76,9 @@ with_value Quantum n p = record p { quantum = n }
 with_value Mtu n p = record p { mtu = n }
 with_value Target n p = record p { target = n }
 with_value Interval n p = record p { interval = n }
+with_value CeThreshold n p = record p { ce_threshold = Some n }
+with_value MemoryLimit n p = record p { memory_limit = Some n }
+with_value DropBatch n p = record p { drop_batch = n }
 
 -- the parameters with one of them at this value, where it is in its range; the text of the value stands at this place
 abbrev pub with_amount : ℕ → ParamName → Option ℕ → ParamFields → Result ParamFields ParamFault
@@ -100,6 +106,9 @@ param_word_of word =
     else if bytes_eq word (codes "mtu") then Some (Valued (parameter.Ranged Mtu))
     else if bytes_eq word (codes "target") then Some (Valued (parameter.Ranged Target))
     else if bytes_eq word (codes "interval") then Some (Valued (parameter.Ranged Interval))
+    else if bytes_eq word (codes "ce_threshold") then Some (Valued (parameter.Ranged CeThreshold))
+    else if bytes_eq word (codes "memory_limit") then Some (Valued (parameter.Ranged MemoryLimit))
+    else if bytes_eq word (codes "drop_batch") then Some (Valued (parameter.Ranged DropBatch))
     else if bytes_eq word (codes "classify") then Some (Valued parameter.Classify)
     else if bytes_eq word (codes "ecn") then Some (Ecn ecn_use.Mark)
     else if bytes_eq word (codes "noecn") then Some (Ecn ecn_use.Drop)

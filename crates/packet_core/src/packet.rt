@@ -115,8 +115,8 @@ impl Packet {
         self.ecn
     }
 
-    /// The same packet with its ECN field at CE, as a queue marks it in place of dropping it
-    /// (RFC 3168, section 5).
+    /// The same packet with its ECN field at CE, as a queue marks it in place of dropping it, or since it waited past a
+    /// threshold (RFC 3168, section 5).
     pub fn marked(&self) -> Packet
         ensures { result ≡ record self.now { ecn = Ecn.Ce } }
     {

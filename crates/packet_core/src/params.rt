@@ -1,7 +1,7 @@
 //! The parameters of a scheduler and their ranges.
 
-ghost use Rattle.std.specs.Prelude.{◌≡◌, ◌↔◌, IsOk, IfOk, IfErr};
-ghost use Rattle.packet_core.specs.Params.{IsLimitInRange, IsFlowsInRange, IsQuantumInRange, IsMtuInRange, IsTargetInRange, IsIntervalInRange};
+ghost use Rattle.std.specs.Prelude.{◌≡◌, ◌↔◌, IsOk, IfOk, IfErr, IfSome};
+ghost use Rattle.packet_core.specs.Params.{IsLimitInRange, IsFlowsInRange, IsQuantumInRange, IsMtuInRange, IsTargetInRange, IsIntervalInRange, IsCeThresholdInRange, IsMemoryLimitInRange, IsDropBatchInRange};
 
 use std::marker::Model;
 use thiserror::Error;
@@ -46,6 +46,15 @@ pub enum ParamName {
     /// The time before the first drop.
     #[error("interval")]
     Interval,
+    /// The wait behind which a packet is marked that CoDel doesn't mark.
+    #[error("ce_threshold")]
+    CeThreshold,
+    /// The most bytes that wait.
+    #[error("memory_limit")]
+    MemoryLimit,
+    /// The most packets that the fattest flow loses at once.
+    #[error("drop_batch")]
+    DropBatch,
 }
 
 /// The parameters as they are written down (tc-fq_codel(8)), in range or not.
@@ -63,6 +72,13 @@ pub struct ParamFields {
     pub target: u64,
     /// How long packets wait too long before the first one is dropped, in microseconds.
     pub interval: u64,
+    /// A packet that waited longer than this, in microseconds, is marked when it is sent, if it is ECT(0) or ECT(1) and
+    /// CoDel doesn't mark it. None where no wait is too long for that.
+    pub ce_threshold: Option<u64>,
+    /// The most bytes of packets that wait, in all flows together. None where they aren't limited.
+    pub memory_limit: Option<u64>,
+    /// The most packets that the fattest flow loses at once, where too much waits.
+    pub drop_batch: u32,
     /// Whether packets are marked in place of being dropped.
     pub ecn: EcnUse,
     /// How the flow of a packet is found.
@@ -84,6 +100,9 @@ impl ParamFields {
             mtu: 1_514,
             target: 5_000,
             interval: 100_000,
+            ce_threshold: None,
+            memory_limit: None,
+            drop_batch: 64,
             ecn: EcnUse::Mark,
             classify: Classify::Hash,
         }
@@ -147,6 +166,18 @@ impl Params {
         if fields.interval < 1 || fields.interval > 1_000_000_000 {
             return Err(ParamName::Interval);
         }
+        if fields.ce_threshold.is_some_and(|time| time > 1_000_000_000) {
+            return Err(ParamName::CeThreshold);
+        }
+        if fields
+            .memory_limit
+            .is_some_and(|bytes| bytes < 1 || bytes > 1 << 40)
+        {
+            return Err(ParamName::MemoryLimit);
+        }
+        if fields.drop_batch < 1 || fields.drop_batch > 1_048_576 {
+            return Err(ParamName::DropBatch);
+        }
         Ok(Params { fields })
     }
 
@@ -198,6 +229,31 @@ impl Params {
         self.fields.interval
     }
 
+    /// The wait, in microseconds, up to 1,000 seconds, behind which a packet is marked when it is sent, if it is ECT(0)
+    /// or ECT(1) and CoDel doesn't mark it. None where no wait is too long for that.
+    pub fn ce_threshold(&self) -> Option<u64>
+        ensures value { result ≡ self.now.ce_threshold }
+        ensures range { IfSome result IsCeThresholdInRange }
+    {
+        self.fields.ce_threshold
+    }
+
+    /// The most bytes of packets that wait, from 1 to 2^40. None where they aren't limited.
+    pub fn memory_limit(&self) -> Option<u64>
+        ensures value { result ≡ self.now.memory_limit }
+        ensures range { IfSome result IsMemoryLimitInRange }
+    {
+        self.fields.memory_limit
+    }
+
+    /// The most packets that the fattest flow loses at once, from 1 to 1,048,576.
+    pub fn drop_batch(&self) -> u32
+        ensures value { result ≡ self.now.drop_batch }
+        ensures range { IsDropBatchInRange result }
+    {
+        self.fields.drop_batch
+    }
+
     /// Whether packets are marked in place of being dropped.
     pub fn ecn(&self) -> EcnUse
         ensures { result ≡ self.now.ecn }
@@ -245,6 +301,9 @@ impl Params {
             ParamName::Mtu => fields.mtu = u32::try_from(value).ok()?,
             ParamName::Target => fields.target = value,
             ParamName::Interval => fields.interval = value,
+            ParamName::CeThreshold => fields.ce_threshold = Some(value),
+            ParamName::MemoryLimit => fields.memory_limit = Some(value),
+            ParamName::DropBatch => fields.drop_batch = u32::try_from(value).ok()?,
         }
         Params::try_new(fields).ok()
     }

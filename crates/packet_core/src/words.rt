@@ -43,12 +43,12 @@ enum ParamWord {
 }
 
 /// The parameters that words say (tc-fq_codel(8)), and the standard value of each that isn't said: `limit`, `flows`,
-/// `quantum` and `mtu` with a whole number, `target` and `interval` with a time, `classify` with `hash` or `dport`,
-/// `ecn` and `noecn`. A whole number is one or more digits. A time is digits and then a unit, in lower case: `us`,
-/// `usec`, `usecs` or nothing for microseconds, `ms`, `msec` or `msecs` for milliseconds, `s`, `sec` or `secs` for
-/// seconds. The word behind a parameter with a value is its value, whatever it is. Words are read from left to right; a
-/// parameter that is given twice takes its last value, and the first fault is answered: `ParamFault` says what each
-/// one means.
+/// `quantum`, `mtu`, `memory_limit` and `drop_batch` with a whole number, `target`, `interval` and `ce_threshold` with
+/// a time, `classify` with `hash` or `dport`, `ecn` and `noecn`. A whole number is one or more digits. A time is digits
+/// and then a unit, in lower case: `us`, `usec`, `usecs` or nothing for microseconds, `ms`, `msec` or `msecs` for
+/// milliseconds, `s`, `sec` or `secs` for seconds. The word behind a parameter with a value is its value, whatever it
+/// is. Words are read from left to right; a parameter that is given twice takes its last value, and the first fault is
+/// answered: `ParamFault` says what each one means.
 pub fn read_params(words: &[&str]) -> Result<Params, ParamFault>
     ensures { result ≡ params_of_words (map (λ word. word.now) words.now) }
 {
@@ -86,6 +86,9 @@ fn param_word(word: &str) -> Option<ParamWord>
         "mtu" => Some(ParamWord::Valued(Parameter::Ranged(ParamName::Mtu))),
         "target" => Some(ParamWord::Valued(Parameter::Ranged(ParamName::Target))),
         "interval" => Some(ParamWord::Valued(Parameter::Ranged(ParamName::Interval))),
+        "ce_threshold" => Some(ParamWord::Valued(Parameter::Ranged(ParamName::CeThreshold))),
+        "memory_limit" => Some(ParamWord::Valued(Parameter::Ranged(ParamName::MemoryLimit))),
+        "drop_batch" => Some(ParamWord::Valued(Parameter::Ranged(ParamName::DropBatch))),
         "classify" => Some(ParamWord::Valued(Parameter::Classify)),
         "ecn" => Some(ParamWord::Ecn(EcnUse::Mark)),
         "noecn" => Some(ParamWord::Ecn(EcnUse::Drop)),
@@ -123,10 +126,13 @@ fn amount(name: ParamName, text: &[u8]) -> Option<u64>
     ensures { result ≡ option_map (λ n. min n (2 ^ 64 - 1)) (amount_of name text.now) }
 {
     match name {
-        ParamName::Limit | ParamName::Flows | ParamName::Quantum | ParamName::Mtu => read_numeral(
-            text,
-        ),
-        ParamName::Target | ParamName::Interval => time(text),
+        ParamName::Limit
+        | ParamName::Flows
+        | ParamName::Quantum
+        | ParamName::Mtu
+        | ParamName::MemoryLimit
+        | ParamName::DropBatch => read_numeral(text),
+        ParamName::Target | ParamName::Interval | ParamName::CeThreshold => time(text),
     }
 }
 

@@ -128,10 +128,22 @@ fn marked(id: u64) -> Given {
     Some((id, Ecn::Ce, Mark::CodelMark))
 }
 
+/// A packet that is past the threshold, which marks it.
+fn past(id: u64) -> Given {
+    Some((id, Ecn::Ce, Mark::Threshold))
+}
+
 fn fields(ecn: EcnUse) -> ParamFields {
     let mut fields = ParamFields::standard();
     fields.flows = 2;
     fields.ecn = ecn;
+    fields
+}
+
+/// The same with that threshold, in microseconds.
+fn with_threshold(ecn: EcnUse, threshold: u64) -> ParamFields {
+    let mut fields = fields(ecn);
+    fields.ce_threshold = Some(threshold);
     fields
 }
 
@@ -251,4 +263,81 @@ fn a_drop_and_then_a_mark(rt: HostRuntime) -> Result<(), Fail> {
     ];
     let serves = [(150000, (marked(1), 1, Some(0), after))];
     expect_serves(&rt, fields(EcnUse::Mark), (1000, &codes), before, &serves)
+}
+
+#[test]
+fn longer_waits_than_the_threshold_are_marked(rt: HostRuntime) -> Result<(), Fail> {
+    let new = calm(None, 0, 0, 0);
+    let codes = [Ecn::Ect0, Ecn::NotEct, Ecn::Ect1, Ecn::Ce, Ecn::Ect0];
+    let serves = [
+        (1000, (Some((0, Ecn::Ect0, Mark::NoMark)), 0, None, new)),
+        (1001, (sent(1), 0, None, new)),
+        (1001, (past(2), 0, None, new)),
+        (1001, (Some((3, Ecn::Ce, Mark::NoMark)), 0, None, new)),
+        (4999, (past(4), 0, None, new)),
+    ];
+    for ecn in [EcnUse::Drop, EcnUse::Mark] {
+        let fields = with_threshold(ecn, 1000);
+        expect_serves(&rt, fields, (100, &codes), new, &serves)?;
+    }
+    Ok(())
+}
+
+#[test]
+fn a_threshold_of_zero_marks_any_wait(rt: HostRuntime) -> Result<(), Fail> {
+    let new = calm(None, 0, 0, 0);
+    let serves = [
+        (0, (Some((0, Ecn::Ect1, Mark::NoMark)), 0, None, new)),
+        (1, (past(1), 0, None, new)),
+    ];
+    let packets = (100, [Ecn::Ect1; 2].as_slice());
+    let fields = with_threshold(EcnUse::Drop, 0);
+    expect_serves(&rt, fields, packets, new, &serves)
+}
+
+/// The drops and the states are those of `ten_packets_drop_and_send`.
+#[test]
+fn the_threshold_leaves_drops_and_states(rt: HostRuntime) -> Result<(), Fail> {
+    let late = Some(105000);
+    let stopped = calm(None, 333445, 4, 1);
+    let serves = [
+        (5000, (past(0), 0, None, calm(late, 0, 0, 0))),
+        (105000, (past(2), 1, Some(1), dropping(late, 205000, 1, 1))),
+        (205000, (past(4), 2, Some(3), dropping(late, 275710, 2, 1))),
+        (275710, (past(6), 3, Some(5), dropping(late, 333445, 3, 1))),
+        (333445, (past(8), 4, Some(7), stopped)),
+        (333446, (past(9), 4, Some(7), stopped)),
+        (333447, (None, 4, Some(7), stopped)),
+    ];
+    let packets = (1000, [Ecn::Ect0; 10].as_slice());
+    let fields = with_threshold(EcnUse::Drop, 1);
+    expect_serves(&rt, fields, packets, calm(None, 0, 0, 0), &serves)
+}
+
+/// The states are those of `marks_in_place_of_drops`.
+#[test]
+fn codels_marks_stay_codels(rt: HostRuntime) -> Result<(), Fail> {
+    let late = Some(105000);
+    let serves = [
+        (5000, (past(0), 0, None, calm(late, 0, 0, 0))),
+        (105000, (marked(1), 0, None, dropping(late, 205000, 1, 1))),
+        (205000, (marked(2), 0, None, dropping(late, 275710, 2, 1))),
+    ];
+    let packets = (1000, [Ecn::Ect0; 10].as_slice());
+    let fields = with_threshold(EcnUse::Mark, 1);
+    expect_serves(&rt, fields, packets, calm(None, 0, 0, 0), &serves)
+}
+
+#[test]
+fn marks_between_codels_are_the_thresholds(rt: HostRuntime) -> Result<(), Fail> {
+    let before = dropping(Some(1000), 200000, 1, 1);
+    let after = dropping(Some(1000), 270710, 2, 1);
+    let serves = [
+        (199999, (past(0), 0, None, before)),
+        (200000, (marked(1), 0, None, after)),
+        (200001, (past(2), 0, None, after)),
+    ];
+    let packets = (1000, [Ecn::Ect1; 5].as_slice());
+    let fields = with_threshold(EcnUse::Mark, 1000);
+    expect_serves(&rt, fields, packets, before, &serves)
 }

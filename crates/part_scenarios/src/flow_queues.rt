@@ -38,24 +38,34 @@ fn scan(flows: &Flows) -> Option<u32> {
     fattest
 }
 
+/// The bytes of all flows, by a look at each of them.
+fn sum(flows: &Flows) -> u64 {
+    let mut bytes = 0u64;
+    for flow in 0..flows.flows() {
+        bytes = bytes.wrapping_add(flows.bytes(flow));
+    }
+    bytes
+}
+
 #[test]
 fn least_number_at_a_tie(rt: HostRuntime) -> Result<(), Fail> {
     let mut flows = Flows::try_new(rt.alloc(), 4)?;
     push_all(&rt, &mut flows, &[(3, 500), (1, 200), (1, 300), (0, 499)])?;
-    for (fattest, id) in [
-        (Some(1), Some(1)),
-        (Some(3), Some(0)),
-        (Some(0), Some(3)),
-        (Some(1), Some(2)),
-        (None, None),
+    for (fattest, id, bytes) in [
+        (Some(1), Some(1), 1499),
+        (Some(3), Some(0), 1299),
+        (Some(0), Some(3), 799),
+        (Some(1), Some(2), 300),
+        (None, None, 0),
     ] {
         assert_eq!(rt; flows.fattest(), fattest);
+        assert_eq!(rt; flows.total_bytes(), bytes);
         assert_eq!(rt; pop(&rt, &mut flows, fattest.unwrap_or(0)), id);
     }
     Ok(())
 }
 
-/// Packets come to seven flows or leave them, and the fattest flow is that of a scan after each.
+/// Packets come to seven flows or leave them, and the fattest flow and all bytes are those of a scan after each.
 fn compare_with_scans(rt: &impl Abort, flows: &mut Flows) -> Result<(), Fail> {
     let mut seed = 1;
     for id in 0..2000 {
@@ -70,6 +80,7 @@ fn compare_with_scans(rt: &impl Abort, flows: &mut Flows) -> Result<(), Fail> {
             let _ = pop(rt, flows, flow);
         }
         assert_eq!(rt; flows.fattest(), scan(flows));
+        assert_eq!(rt; flows.total_bytes(), sum(flows));
     }
     Ok(())
 }

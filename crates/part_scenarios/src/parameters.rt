@@ -1,6 +1,6 @@
 //! Parameter words, their faults and their places.
 
-use packet_core::{Classify, EcnUse, ParamFault, ParamFields, Params, read_params};
+use packet_core::{Classify, EcnUse, ParamFault, ParamFields, ParamName, Params, read_params};
 use std::alloc::AllocError;
 use std::process::Abort;
 
@@ -10,6 +10,29 @@ const FORTY_DIGITS: &str = "0000000000000000000000000000000000010000";
 /// Ten to the thirty-ninth, which has forty digits.
 const GREAT: &str = "1000000000000000000000000000000000000000";
 
+/// The words of the parameters that have a range.
+const RANGED: [&str; 9] = [
+    "limit",
+    "flows",
+    "quantum",
+    "mtu",
+    "target",
+    "interval",
+    "ce_threshold",
+    "memory_limit",
+    "drop_batch",
+];
+
+/// Those of them whose value is no time.
+const WHOLE: [&str; 6] = [
+    "limit",
+    "flows",
+    "quantum",
+    "mtu",
+    "memory_limit",
+    "drop_batch",
+];
+
 /// The standard parameters.
 const STANDARD: ParamFields = ParamFields {
     limit: 10240,
@@ -18,6 +41,9 @@ const STANDARD: ParamFields = ParamFields {
     mtu: 1514,
     target: 5000,
     interval: 100000,
+    ce_threshold: None,
+    memory_limit: None,
+    drop_batch: 64,
     ecn: EcnUse::Mark,
     classify: Classify::Hash,
 };
@@ -95,6 +121,43 @@ fn words_of_numbers(rt: HostRuntime) {
 }
 
 #[test]
+fn words_of_the_threshold_and_of_overflow(rt: HostRuntime) {
+    let standard = STANDARD;
+    for (words, fields) in [
+        (
+            ["ce_threshold", "5ms"].as_slice(),
+            ParamFields {
+                ce_threshold: Some(5000),
+                ..standard
+            },
+        ),
+        (
+            ["memory_limit", "1099511627776"].as_slice(),
+            ParamFields {
+                memory_limit: Some(1 << 40),
+                ..standard
+            },
+        ),
+        (
+            ["memory_limit", "5", "memory_limit", "6"].as_slice(),
+            ParamFields {
+                memory_limit: Some(6),
+                ..standard
+            },
+        ),
+        (
+            ["drop_batch", "7"].as_slice(),
+            ParamFields {
+                drop_batch: 7,
+                ..standard
+            },
+        ),
+    ] {
+        says(&rt, words, fields);
+    }
+}
+
+#[test]
 fn words_of_uses(rt: HostRuntime) {
     for (words, ecn, classify) in [
         (["noecn"].as_slice(), EcnUse::Drop, Classify::Hash),
@@ -124,12 +187,33 @@ fn words_of_uses(rt: HostRuntime) {
     }
 }
 
+/// Each parameter in words, in no order.
+const ALL_WORDS: [&str; 21] = [
+    "noecn",
+    "drop_batch",
+    "8",
+    "interval",
+    "80ms",
+    "classify",
+    "dport",
+    "limit",
+    "100",
+    "target",
+    "4ms",
+    "ce_threshold",
+    "2ms",
+    "mtu",
+    "0",
+    "flows",
+    "16",
+    "memory_limit",
+    "65536",
+    "quantum",
+    "300",
+];
+
 #[test]
 fn all_words_at_once(rt: HostRuntime) {
-    let words = [
-        "noecn", "interval", "80ms", "classify", "dport", "limit", "100", "target", "4ms", "mtu",
-        "0", "flows", "16", "quantum", "300",
-    ];
     let fields = ParamFields {
         limit: 100,
         flows: 16,
@@ -137,15 +221,18 @@ fn all_words_at_once(rt: HostRuntime) {
         mtu: 0,
         target: 4000,
         interval: 80000,
+        ce_threshold: Some(2000),
+        memory_limit: Some(65536),
+        drop_batch: 8,
         ecn: EcnUse::Drop,
         classify: Classify::Dport,
     };
-    says(&rt, &words, fields);
+    says(&rt, &ALL_WORDS, fields);
 }
 
 #[test]
 fn each_unit(rt: HostRuntime) {
-    for (text, target) in [
+    for (text, time) in [
         ("3", 3),
         ("3us", 3),
         ("3usec", 3),
@@ -161,8 +248,10 @@ fn each_unit(rt: HostRuntime) {
         ("007ms", 7000),
     ] {
         let mut fields = STANDARD;
-        fields.target = target;
+        fields.target = time;
         says(&rt, &["target", text], fields);
+        fields.ce_threshold = Some(time);
+        says(&rt, &["target", text, "ce_threshold", text], fields);
     }
 }
 
@@ -201,12 +290,12 @@ fn other_texts_are_no_value(rt: HostRuntime) {
         "\u{ff15}",
         "\u{ff15}ms",
     ] {
-        for parameter in ["limit", "flows", "quantum", "mtu", "target", "interval"] {
+        for parameter in RANGED {
             fails(&rt, &["ecn", parameter, text], ParamFault::NotANumber(3));
         }
     }
     for text in ["5ms", "5us", "5s"] {
-        for parameter in ["limit", "flows", "quantum", "mtu"] {
+        for parameter in WHOLE {
             fails(&rt, &[parameter, text], ParamFault::NotANumber(2));
         }
     }
@@ -223,11 +312,19 @@ fn ends_of_ranges(rt: HostRuntime) {
         ("target", "0s", "1000s"),
         ("interval", "1", "1000000000"),
         ("interval", "1us", "1000000ms"),
+        ("ce_threshold", "0", "1000000000"),
+        ("ce_threshold", "0s", "1000s"),
+        ("memory_limit", "1", "1099511627776"),
+        ("drop_batch", "1", "1048576"),
     ] {
         for text in [least, greatest] {
             assert!(rt; read_params(&[parameter, text]).is_ok());
         }
     }
+}
+
+#[test]
+fn values_beyond_ranges(rt: HostRuntime) {
     for (parameter, text) in [
         ("limit", "0"),
         ("limit", "1048577"),
@@ -242,16 +339,25 @@ fn ends_of_ranges(rt: HostRuntime) {
         ("interval", "0ms"),
         ("interval", "1000000001"),
         ("interval", "1000001msecs"),
+        ("ce_threshold", "1000000001"),
+        ("ce_threshold", "1001s"),
+        ("memory_limit", "0"),
+        ("memory_limit", "1099511627777"),
+        ("drop_batch", "0"),
+        ("drop_batch", "1048577"),
         // 2^32 + 5
         ("limit", "4294967301"),
         ("flows", "4294967301"),
         ("quantum", "4294967301"),
         ("mtu", "4294967301"),
+        ("drop_batch", "4294967301"),
         // 2^64 seconds, and the fewest milliseconds that are more than 2^64 microseconds
         ("target", "18446744073709551616s"),
         ("target", "18446744073709552ms"),
         ("interval", "18446744073709551616s"),
         ("interval", "18446744073709552ms"),
+        ("ce_threshold", "18446744073709551616s"),
+        ("ce_threshold", "18446744073709552ms"),
     ] {
         fails(&rt, &[parameter, text], ParamFault::OutOfRange(2));
     }
@@ -259,13 +365,60 @@ fn ends_of_ranges(rt: HostRuntime) {
 
 #[test]
 fn numbers_of_many_digits(rt: HostRuntime) {
-    for parameter in ["limit", "flows", "quantum", "mtu", "target", "interval"] {
+    for parameter in RANGED {
         // ten to the thirty-ninth, and 2^64 + 5
         for text in [GREAT, "18446744073709551621"] {
             fails(&rt, &[parameter, text], ParamFault::OutOfRange(2));
         }
         assert!(rt; read_params(&[parameter, FORTY_DIGITS]).is_ok());
     }
+}
+
+/// Gives a parameter its standard value.
+fn mend(fields: &mut ParamFields, name: ParamName) {
+    let standard = STANDARD;
+    match name {
+        ParamName::Limit => fields.limit = standard.limit,
+        ParamName::Flows => fields.flows = standard.flows,
+        ParamName::Quantum => fields.quantum = standard.quantum,
+        ParamName::Mtu => fields.mtu = standard.mtu,
+        ParamName::Target => fields.target = standard.target,
+        ParamName::Interval => fields.interval = standard.interval,
+        ParamName::CeThreshold => fields.ce_threshold = standard.ce_threshold,
+        ParamName::MemoryLimit => fields.memory_limit = standard.memory_limit,
+        ParamName::DropBatch => fields.drop_batch = standard.drop_batch,
+    }
+}
+
+#[test]
+fn ranges_are_tested_in_order(rt: HostRuntime) {
+    let mut fields = ParamFields {
+        limit: 0,
+        flows: 65537,
+        quantum: 0,
+        mtu: 65536,
+        target: 1000000001,
+        interval: 0,
+        ce_threshold: Some(1000000001),
+        memory_limit: Some(0),
+        drop_batch: 1048577,
+        ..ParamFields::standard()
+    };
+    for name in [
+        ParamName::Limit,
+        ParamName::Flows,
+        ParamName::Quantum,
+        ParamName::Mtu,
+        ParamName::Target,
+        ParamName::Interval,
+        ParamName::CeThreshold,
+        ParamName::MemoryLimit,
+        ParamName::DropBatch,
+    ] {
+        assert_eq!(rt; Params::try_new(fields).err(), Some(name));
+        mend(&mut fields, name);
+    }
+    assert_eq!(rt; Params::try_new(fields).ok(), Some(Params::standard()));
 }
 
 #[test]
@@ -300,6 +453,10 @@ fn the_first_fault_counts(rt: HostRuntime) {
             ["classify", "classify", "hash"].as_slice(),
             ParamFault::UnknownWord(2),
         ),
+        (
+            ["drop_batch", "0", "memory_limit", "0"].as_slice(),
+            ParamFault::OutOfRange(2),
+        ),
     ] {
         fails(&rt, words, fault);
     }
@@ -317,9 +474,10 @@ fn no_other_word_is_known(rt: HostRuntime) {
         "limits",
         "limi",
         " limit",
-        "ce_threshold",
-        "memory_limit",
-        "drop_batch",
+        "ce_threshold_selector",
+        "CE_threshold",
+        "memory",
+        "batch",
         "dport",
         "hash",
         "5",
@@ -333,15 +491,14 @@ fn no_other_word_is_known(rt: HostRuntime) {
 
 #[test]
 fn every_parameter_wants_its_value(rt: HostRuntime) {
-    for parameter in [
-        "limit", "flows", "quantum", "mtu", "target", "interval", "classify",
-    ] {
+    for parameter in RANGED {
         fails(
             &rt,
             &["noecn", "flows", "5", parameter],
             ParamFault::MissingValue(4),
         );
     }
+    fails(&rt, &["classify"], ParamFault::MissingValue(1));
 }
 
 #[test]

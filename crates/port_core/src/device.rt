@@ -16,8 +16,8 @@ pub const MAX_BURST: u64 = 1024;
 
 /// An engine with the device's end of each lane, and what shows its statistics to monitors. At every moment the packets
 /// that came out of a lane are those that the engine accepted from it, and what is shown is a beginning of its journal.
-/// The engine tells its events and its steps to keepers, which store all of them unless others are chosen. Contracts see
-/// the engine, the lanes and what was published.
+/// The engine tells its events and its steps to keepers, which store all of them unless others are chosen. Contracts
+/// see the engine, the lanes and what was published.
 #[derive(Drop)]
 pub struct Device<
     J: BookName,

@@ -185,8 +185,8 @@ fn is_seen<J: BookName>(monitor: &mut Monitor<J>, wanted: u64) -> bool {
     false
 }
 
-/// While the device publishes 1,000 times, what a monitor in a thread of its own sees never shrinks, and behind the last
-/// of them it sees all.
+/// While the device publishes 1,000 times, what a monitor in a thread of its own sees never shrinks, and behind the
+/// last of them it sees all.
 #[test]
 fn reads_never_shrink(rt: HostRuntime) -> Result<(), Fail> {
     reads::<Brand, _>(&rt, rt.alloc(), BookBlank::new())

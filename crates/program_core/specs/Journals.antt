@@ -123,9 +123,10 @@ pub record IsLaneRow (lane : ℕ) (packets : List PacketParts) (events : List Ev
   pub accepted : accepted lane events ≡ take row.accepted packets
   pub left : row.accepted + row.left ≡ row.submitted
 
--- The rows are those of the lanes to which these packets were submitted, a list for each. All that was accepted came out
--- of one of them.
-pub record AreLaneRows (lists : List (Vec PacketParts Global)) (events : List Event) (rows : List SenderRow) : Type 0 where
+-- The rows are those of the lanes to which these packets were submitted, a list for each. All that was accepted came
+-- out of one of them.
+pub record AreLaneRows (lists : List (Vec PacketParts Global)) (events : List Event) (rows : List SenderRow)
+    : Type 0 where
   pub number : length rows ≡ length lists
   pub each : (i : ℕ) (r : SenderRow) (l : Vec PacketParts Global) → i < length lists
       → IsLaneRow i (slice_index_or lists i l).items events (slice_index_or rows i r)

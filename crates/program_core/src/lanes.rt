@@ -66,8 +66,8 @@ pub fn simulate_lanes<H: Threads + Wait + Sync, R: Read, W: Write, F: Write>(
     Ok(())
 }
 
-/// Makes the steps by senders with a lane each and a device, while monitors read, as many as were asked for. It gives the
-/// engine, the rows of the lanes, and what each monitor saw last.
+/// Makes the steps by senders with a lane each and a device, while monitors read, as many as were asked for. It gives
+/// the engine, the rows of the lanes, and what each monitor saw last.
 fn run_lanes<H: Threads + Wait + Sync>(
     rt: &H,
     alloc: Global,
@@ -171,8 +171,8 @@ fn run_opened<
 }
 
 /// Has the packets of each list sent to its lane by a thread of its own and the other steps made by this one, and gives
-/// the device and the rows of its lanes. Where somebody reads, the statistics are published at each dequeue of the steps
-/// and at the end.
+/// the device and the rows of its lanes. Where somebody reads, the statistics are published at each dequeue of the
+/// steps and at the end.
 fn run_device<J: BookName, X: Screen<Shown<J>> + Drop, H: Threads + Sync>(
     rt: &H,
     alloc: Global,

@@ -10,8 +10,8 @@ use std::sync::Wait;
 use std::sync::atomic::{AtomicBool, Ordering};
 use std::thread::{self, Threads};
 
-/// Has each monitor read, in a thread of its own where one can be made, until the run has ended, and gives what each saw
-/// last, in their order.
+/// Has each monitor read, in a thread of its own where one can be made, until the run has ended, and gives what each
+/// saw last, in their order.
 pub(crate) fn read_all<J: BookName + Send + Sync, H: Threads + Wait + Sync>(
     rt: &H,
     monitors: Vec<Monitor<J>>,

@@ -105,7 +105,8 @@ fn sides<'a>(
     Ok(sides)
 }
 
-/// Senders, two of which wait for one another's answers, while the device asks for a packet. Gives their seats and its own.
+/// Senders, two of which wait for one another's answers, while the device asks for a packet. Gives their seats and its
+/// own.
 fn send_by_gates<
     A: Ledger + Send + Sync,
     S: Ledger + Send + Sync,

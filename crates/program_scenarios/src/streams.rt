@@ -181,7 +181,7 @@ fn failed_reads_refused(rt: HostRuntime) -> Result<(), Fail> {
 
 #[test]
 fn interruptions_are_tried_again(rt: HostRuntime) -> Result<(), Fail> {
-    let report = "idle\ntotals,0,0,0,0,0,0,0,0,0,0,open\n";
+    let report = "idle\ntotals,0,0,0,0,0,0,0,0,0,0,0,open\n";
     expect_interrupted(&rt, 1_000, 1_000, 0, report, "")?;
     expect_interrupted(&rt, 1_001, 0, 1, "", "fqsim: row 0: Read\n")?;
     expect_interrupted(&rt, 0, 1_001, 1, "", "fqsim: write\n")
@@ -189,14 +189,14 @@ fn interruptions_are_tried_again(rt: HostRuntime) -> Result<(), Fail> {
 
 #[test]
 fn slow_readers_are_read(rt: HostRuntime) -> Result<(), Fail> {
-    let report = "idle\nclosed\ntotals,0,0,0,0,0,0,0,0,0,0,closed\n";
+    let report = "idle\nclosed\ntotals,0,0,0,0,0,0,0,0,0,0,0,closed\n";
     let mut reader = SlowReader(b"deq,0\nclose,1\n");
     expect_from(&rt, &mut reader, 0, report, "")
 }
 
 #[test]
 fn slow_writers_are_written(rt: HostRuntime) -> Result<(), Fail> {
-    let report = "idle\ntotals,0,0,0,0,0,0,0,0,0,0,open\n";
+    let report = "idle\ntotals,0,0,0,0,0,0,0,0,0,0,0,open\n";
     expect_taken(&rt, 1, 1_000, 0, report, "")?;
     expect_taken(&rt, 3, 1_000, 0, report, "")
 }
@@ -216,7 +216,7 @@ fn failed_writes_refused(rt: HostRuntime) -> Result<(), Fail> {
         "idle\ntotals,0,0,0,0,",
         "idle\ntotals,0,0,0,0,0,0,0",
         "idle\ntotals,0,0,0,0,0,0,0,0,0,",
-        "idle\ntotals,0,0,0,0,0,0,0,0,0,0,ope",
+        "idle\ntotals,0,0,0,0,0,0,0,0,0,0,0,o",
     ];
     for front in fronts {
         expect_taken(&rt, 5, front.len(), 1, front, faults)?;

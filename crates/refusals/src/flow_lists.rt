@@ -9,9 +9,10 @@ use packet_core::Waiting;
 use std::alloc::Global;
 
 /// All that can be read of the flows.
-fn picture(flows: &mut Flows) -> [Option<u64>; 6] {
+fn picture(flows: &mut Flows) -> [Option<u64>; 7] {
     [
         Some(flows.total_len()),
+        Some(flows.total_bytes()),
         Some(u64::from(flows.flows())),
         Some(u64::from(flows.levels())),
         Some(flows.comparisons()),

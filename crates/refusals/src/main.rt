@@ -1,9 +1,9 @@
 //! Refused allocations: sequences of calls that are made while one allocation of the process is refused.
 //!
 //! The first line of standard input names a sequence and the allocation of it that is refused, from 1; a trace may
-//! follow. `rt try --fail-alloc 1000` refuses the 1,000th allocation of the process, so that as many are made before the
-//! sequence as make that one the one asked for. Without that flag none is refused. `.ci/refusals` runs each sequence for
-//! each of its allocations.
+//! follow. `rt try --fail-alloc 1000` refuses the 1,000th allocation of the process, so that as many are made before
+//! the sequence as make that one the one asked for. Without that flag none is refused. `.ci/refusals` runs each
+//! sequence for each of its allocations.
 #![tactic(auto)]
 
 mod calls;

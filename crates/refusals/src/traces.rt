@@ -20,13 +20,13 @@ closed
 refused,closed
 sent,0,0
 refused,closed
-totals,1,1000,1,1000,0,0,0,0,0,0,closed
+totals,1,1000,1,1000,0,0,0,0,0,0,0,closed
 tuple,17,10.0.0.1,10.0.0.2,5000,53,0,1,1,0,0
 ";
 
 /// The journal of an engine that has accepted one packet, with a sender's row.
 const JOURNAL: &str = "accepted,0,0
-totals,1,1000,0,0,0,0,0,0,1,1000,open
+totals,1,1000,0,0,0,0,0,0,0,1,1000,open
 tuple,17,10.0.0.1,10.0.0.2,5000,53,0,1,0,0,1
 sender,0,1,1,0
 ";

@@ -17,7 +17,7 @@ use trace_core::{
 const TRACE: &[u8] = b"deq,0\n";
 
 /// Its report.
-const REPORT: &str = "idle\ntotals,0,0,0,0,0,0,0,0,0,0,open\n";
+const REPORT: &str = "idle\ntotals,0,0,0,0,0,0,0,0,0,0,0,open\n";
 
 /// Bytes that a device took in. Where it overran, what came behind them is lost.
 #[derive(Drop)]

@@ -36,7 +36,7 @@ fn report_of_flows(alloc: Global) -> Result<String, AllocError> {
     writeln!(report, "idle")?;
     writeln!(
         report,
-        "totals,{FLOWS},{BYTES},{FLOWS},{BYTES},0,0,0,0,0,0,open"
+        "totals,{FLOWS},{BYTES},{FLOWS},{BYTES},0,0,0,0,0,0,0,open"
     )?;
     for flow in 0..FLOWS {
         writeln!(

@@ -99,8 +99,8 @@ fn come(sched: &mut Sched, numbers: &mut Numbers, flows: u16, most: u32) -> Resu
     Ok(longest)
 }
 
-/// What each flow has sent, behind each dequeue since all of them are old, until one has sent all its packets. A new flow
-/// is served until it becomes old, so all are old once a flow is served that had been left for another one.
+/// What each flow has sent, behind each dequeue since all of them are old, until one has sent all its packets. A new
+/// flow is served until it becomes old, so all are old once a flow is served that had been left for another one.
 fn pass(alloc: Global, sched: &mut Sched) -> Result<Vec<[i64; FLOWS]>, Fail> {
     let mut points = Vec::new(alloc);
     let mut bytes = [0i64; FLOWS];

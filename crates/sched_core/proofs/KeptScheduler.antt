@@ -191,7 +191,7 @@ pub record Accepts (p : ParamFields) (seed : Seed) (held mid new : Held) (book b
   pub arrived : mid.arrived ≡ held.arrived + 1
   pub reserved : mid.room + 1 ≡ held.room
   pub few_comparisons : CountsFew (length held.queues.lists.queues) 1 0 mid.comparisons
-  pub drops : DropsOverflow p.limit moment mid (recorded p seed held book moment lane packet) new book'
+  pub drops : DropsOverflow p moment mid (recorded p seed held book moment lane packet) new book'
 
 module _ {p : ParamFields} {seed : Seed} {held mid new : Held} {book book' : Book} {last moment lane room : ℕ} {packet : PacketParts} {closed : Bool}
     (a : Accepts p seed held mid new book book' last moment lane room packet closed) where
@@ -208,7 +208,7 @@ module _ {p : ParamFields} {seed : Seed} {held mid new : Held} {book book' : Boo
   arrives = record {
     within = rw a.kept.flows (flow_below p.classify p.flows seed packet.tuple a.kept.some);
     batches = a.drops.batches;
-    overflow = subst (λ (s : FairQueues). Overflow p.limit s.lists.queues a.drops.batches new.queues.lists.queues) a.listed a.drops.overflow;
+    overflow = subst (λ (s : FairQueues). Overflow p s.lists.queues a.drops.batches new.queues.lists.queues) a.listed a.drops.overflow;
     lost_in_order = refl;
     rest = ap (λ (h : Held). h.queues) a.drops.rest ∙ ap (λ (s : FairQueues). record s { lists = record (s.lists) { queues = new.queues.lists.queues } }) a.listed;
   }

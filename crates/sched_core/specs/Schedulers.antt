@@ -53,8 +53,8 @@ pub record IsAdvanced (old : Scheduler) (step : Step) (answer : Answer) (new : S
   pub turns : new.turns ≡ old.turns
 
 -- A dequeue is made: a serving chain, whose turns are told, and whose packet is answered. It has no more turns than the
--- bound, which is three for each new flow and two for each old one where no packet so far was longer than a quantum; and
--- new flows go first.
+-- bound, which is three for each new flow and two for each old one where no packet so far was longer than a quantum;
+-- and new flows go first.
 pub record IsServed (old : Scheduler) (moment : ℕ) (sent : Option Sent) (new : Scheduler) : Type 0 where
   pub gives : Gives (discipline_of old) old.standing moment sent new.standing
   pub turns : new.turns ≡ length gives.serves.queues.turns

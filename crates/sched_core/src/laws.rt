@@ -128,11 +128,11 @@ pub fn journal_tells_what_waits()
         → (statistics (journal_of made)).queued_bytes ≡ sum_by bytes_of new.queues.lists.queues }
 {}
 
-/// Fair shares: of two flows that stand in the list of old flows at each point from a to b, neither sends more bytes than
-/// the other by more than three quanta and twice what the longest packet has more than one byte, whatever is dropped and
-/// whichever flows are new in between (RFC 8290, section 4.2). A point is a number of steps that the engine made. The
-/// longest packet is that accepted up to b, and bytes are those of the events of the steps between, with lengths as
-/// accepted.
+/// Fair shares: of two flows that stand in the list of old flows at each point from a to b, neither sends more bytes
+/// than the other by more than three quanta and twice what the longest packet has more than one byte, whatever is
+/// dropped and whichever flows are new in between (RFC 8290, section 4.2). A point is a number of steps that the engine
+/// made. The longest packet is that accepted up to b, and bytes are those of the events of the steps between, with
+/// lengths as accepted.
 pub fn fair_shares<K: Keeps<Event>, S: Keeps<MadeStep>>(
     engine: &Engine<K, S>,
     a: u64,
@@ -152,9 +152,10 @@ pub fn fair_shares<K: Keeps<Event>, S: Keeps<MadeStep>>(
 }
 
 /// No flow starves: while a packet of a flow waits and none of the flow is sent or dropped, there are at most
-/// 2 * q * (flows - 1) * ((L - 1) / q + 2) dequeues, whatever arrives; q is the quantum, and L the longest packet so far.
-/// So behind one dequeue more it has sent or lost a packet. In each round the flow gets a quantum, and each other flow
-/// sends one as an old flow and one as a new flow (RFC 8290, section 4.2). The bound takes each packet as one byte.
+/// 2 * q * (flows - 1) * ((L - 1) / q + 2) dequeues, whatever arrives; q is the quantum, and L the longest packet so
+/// far. So behind one dequeue more it has sent or lost a packet. In each round the flow gets a quantum, and each other
+/// flow sends one as an old flow and one as a new flow (RFC 8290, section 4.2). The bound takes each packet as one
+/// byte.
 pub fn no_flow_starves()
     ensures { (p : ParamFields) (seed : Seed) → AreInRange p
         → (steps : List Step) (made : List Made) (new : State FairQueues) → All HasLengthInRange steps

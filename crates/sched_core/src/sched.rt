@@ -144,9 +144,10 @@ impl<K: Keeps<Event>> Sched<K> {
     }
 
     /// Accepts a packet from a lane at a moment, in microseconds, into the queue of its flow, and takes room for
-    /// its fate in the journal. Where more packets wait than the limit, the flow with the most bytes loses a
-    /// batch from its head (RFC 8290, section 4.1). It refuses a moment of 2^60 or more or before the last one,
-    /// then a packet after the close, then one after 2^40 others, and last where a growth is refused.
+    /// its fate in the journal. While more packets wait than `limit`, or more bytes than `memory_limit`, where that
+    /// is set, the flow that has the most bytes then loses a batch from its head (RFC 8290, section 4.1;
+    /// tc-fq_codel(8)). It refuses a moment of 2^60 or more or before the last one, then a packet after the close,
+    /// then one after 2^40 others, and last where a growth is refused.
     pub fn enqueue(&mut self, moment: u64, lane: u32, packet: Packet) -> Result<Admitted, Refusal>
         ensures admitted { IfOk result
             (λ a. a ≡ admitted_at (discipline_of self.old) self.old.standing.state moment packet) }
@@ -190,7 +191,7 @@ impl<K: Keeps<Event>> Sched<K> {
         self.backlog.arrive(flow, waiting, &self.params);
         self.journal.accept(&waiting, lane, flow);
         self.backlog
-            .overflow(self.params.limit(), moment, &mut self.journal);
+            .overflow(&self.params, moment, &mut self.journal);
         self.last_moment = moment;
         self.room -= 1;
         Admitted {
@@ -201,8 +202,9 @@ impl<K: Keeps<Event>> Sched<K> {
     }
 
     /// Gives the packet that is next in turn, or nothing where none waits, at a moment in microseconds (RFC 8290,
-    /// section 4.2). CoDel may drop packets before it, or mark it (RFC 8289, section 5). It takes no memory. It
-    /// refuses a moment of 2^60 or more or before the last one.
+    /// section 4.2). CoDel may drop packets before it, or mark it (RFC 8289, section 5), and one that CoDel doesn't
+    /// mark may be marked for the threshold (RFC 8290, section 5.2.7). It takes no memory. It refuses a moment of
+    /// 2^60 or more or before the last one.
     pub fn dequeue(&mut self, moment: u64) -> Result<Option<Sent>, MomentFault>
         ensures made { IfOk result (λ sent. IsServed self.old moment sent self.new) }
         ensures few_comparisons { OnOk result (ComparesFew self.old self.new) }
@@ -340,6 +342,7 @@ impl<K: Keeps<Event>> Sched<K> {
             dropped_overflow: counts.dropped_overflow,
             dropped_bytes: counts.dropped_bytes,
             marked: counts.marked,
+            threshold_marked: counts.threshold_marked,
             queued: counts.accepted
                 - (counts.sent + counts.dropped_codel + counts.dropped_overflow),
             queued_bytes: counts.accepted_bytes - (counts.sent_bytes + counts.dropped_bytes),

@@ -97,7 +97,7 @@ abbrev pub totals_row : Totals → List (List ℕ)
 totals_row t =
     codes "totals" ∷ decimal t.accepted ∷ decimal t.accepted_bytes ∷ decimal t.sent ∷ decimal t.sent_bytes
     ∷ decimal t.dropped_codel ∷ decimal t.dropped_overflow ∷ decimal t.dropped_bytes ∷ decimal t.marked
-    ∷ decimal t.queued ∷ decimal t.queued_bytes ∷ state_name t.closed ∷ []
+    ∷ decimal t.threshold_marked ∷ decimal t.queued ∷ decimal t.queued_bytes ∷ state_name t.closed ∷ []
 
 -- numbers with a dot between each two
 abbrev pub dotted : List ℕ → List ℕ

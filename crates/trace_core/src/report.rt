@@ -195,6 +195,7 @@ impl Rows {
         let dropped_overflow = Digits::of(totals.dropped_overflow);
         let dropped_bytes = Digits::of(totals.dropped_bytes);
         let marked = Digits::of(totals.marked);
+        let threshold_marked = Digits::of(totals.threshold_marked);
         let queued = Digits::of(totals.queued);
         let queued_bytes = Digits::of(totals.queued_bytes);
         self.row(&[
@@ -207,6 +208,7 @@ impl Rows {
             dropped_overflow.as_bytes(),
             dropped_bytes.as_bytes(),
             marked.as_bytes(),
+            threshold_marked.as_bytes(),
             queued.as_bytes(),
             queued_bytes.as_bytes(),
             state_name(totals.closed),

@@ -1,6 +1,6 @@
 -- How whole runs of the worked examples are computed: a step and a run, each with the lemma that it is what the definitions mean.
-use Rattle.std.proofs.Common.{◌≡◌, ℕ, zero, suc, ◌+◌, ◌<◌, ◌≤◌, max, Bool, true, false, ◌&&◌, List, [], ◌∷◌, ◌++◌, drop, get_or, set, length, map, sum_by, Option, Some, None, MatchOption, IsSomeAnd, if◌then◌else◌, nat_le, nat_lt, refl, sym, subst, arith}
-use Rattle.std.proofs.lemmas.Bool.{and_parts, leb-true, leb-false, ltb-true}
+use Rattle.std.proofs.Common.{◌≡◌, ℕ, zero, suc, ◌+◌, ◌<◌, ◌≤◌, max, Bool, true, false, ◌&&◌, ◌||◌, ◌⊎◌, inl, inr, List, [], ◌∷◌, ◌++◌, set, length, map, sum_by, Option, Some, None, MatchOption, IsSomeAnd, if◌then◌else◌, nat_le, nat_lt, refl, sym, subst, arith}
+use Rattle.std.proofs.lemmas.Bool.{and_parts, cases_Bool, leb-true, ltb-false, ltb-true, or_parts}
 use Rattle.packet_core.specs.FlowNumber.{flow_number}
 use Rattle.packet_core.specs.Packets.{PacketParts}
 use Rattle.packet_core.specs.declared.flow.Seed.{Seed}
@@ -23,8 +23,8 @@ use Rattle.journal_core.specs.declared.step.Step.TheVariants.{Enqueue, Dequeue, 
 use Rattle.fair_core.specs.FairQueueing.{dropped_in, given_in, with_flow_listed}
 use Rattle.fair_core.specs.FairQueues.{FairQueues, no_queues}
 use Rattle.fair_core.specs.FqCodel.{fq_codel, fq_codel_policy}
-use Rattle.fair_core.specs.Overflow.{batch_of, batch_size}
-use Rattle.fair_core.specs.Overflow.Overflow.{fits, exceeds}
+use Rattle.fair_core.specs.Overflow.{Exceeds, Overflow, batch_of, without_batch}
+use Rattle.journal_core.specs.Disciplines.{Batch, packets_of}
 use Rattle.journal_core.specs.Runs.{Made, Runs}
 use Rattle.journal_core.specs.State.{State, arrival, opening_state, refusal_of}
 use Rattle.journal_core.specs.Steps.{Makes, Steps, dequeue_answer, drop_event, sent_events}
@@ -74,6 +74,73 @@ fattest_is queues flow e =
       least = all_below most flow queues beats.1;
     }
 
+-- WHAT OVERFLOWS
+
+-- whether more bytes wait than that, where it is set
+abbrev are_more : Option ℕ → ℕ → Bool
+are_more None bytes = false
+are_more (Some most) bytes = nat_lt most bytes
+
+-- whether too much waits
+abbrev exceeds : ParamFields → List (List Waiting) → Bool
+exceeds p queues = nat_lt p.limit (sum_by length queues) || are_more p.memory_limit (sum_by bytes_of queues)
+
+more_are : (o : Option ℕ) (bytes : ℕ) → are_more o bytes ≡ true → IsSomeAnd o (λ most. most < bytes)
+more_are None bytes e = absurd cc
+more_are (Some most) bytes e = ltb-true most bytes e
+
+no_more_are : (o : Option ℕ) (bytes : ℕ) → are_more o bytes ≡ false → ¬ IsSomeAnd o (λ most. most < bytes)
+no_more_are None bytes e = λ h. h
+no_more_are (Some most) bytes e = λ h. let few = ltb-false most bytes e in omega arith
+
+exceeds_is : (p : ParamFields) (queues : List (List Waiting)) → exceeds p queues ≡ true → Exceeds p queues
+exceeds_is p queues e =
+    elim (cases_Bool (nat_lt p.limit (sum_by length queues))) [
+      | inl many ↦ inl (ltb-true p.limit (sum_by length queues) many)
+      | inr few ↦ inr (more_are p.memory_limit (sum_by bytes_of queues) (rw few at e))
+    ]
+
+fits_is : (p : ParamFields) (queues : List (List Waiting)) → exceeds p queues ≡ false → ¬ Exceeds p queues
+fits_is p queues e much =
+    let both = or_parts (nat_lt p.limit (sum_by length queues)) (are_more p.memory_limit (sum_by bytes_of queues)) e in
+    let few = ltb-false p.limit (sum_by length queues) both.0 in
+    elim much [
+      | inl many ↦ omega arith
+      | inr more ↦ no_more_are p.memory_limit (sum_by bytes_of queues) both.1 more
+    ]
+
+-- the batches that are lost, and the queues behind them; `good` says that the computation holds of it
+record Lost : Type 0 where
+  batches : List Batch
+  queues : List (List Waiting)
+  good : Bool
+
+abbrev lost_by : ParamFields → (List (List Waiting) → Lost) → List (List Waiting) → Bool → Lost
+lost_by p further queues false = record { batches = []; queues = queues; good = true }
+lost_by p further queues true =
+    let fattest = fattest_from queues 0 0 0 in
+    let rest = further (without_batch p.drop_batch queues fattest) in
+    record { batches = batch_of p.drop_batch queues fattest ∷ rest.batches; queues = rest.queues; good = is_fattest queues fattest && rest.good }
+
+-- what is lost, if fewer batches are than that
+abbrev lost : ℕ → ParamFields → List (List Waiting) → Lost
+lost zero p queues = record { batches = []; queues = queues; good = false }
+lost (suc fuel) p queues = lost_by p (λ next. lost fuel p next) queues (exceeds p queues)
+
+lost_is : (fuel : ℕ) (p : ParamFields) (queues : List (List Waiting)) → (lost fuel p queues).good ≡ true → Overflow p queues (lost fuel p queues).batches (lost fuel p queues).queues
+lost_is zero p queues e = absurd cc
+lost_is (suc fuel) p queues e = by (λ next. lost_is fuel p next) (exceeds p queues) refl e
+  where
+    by : ((next : List (List Waiting)) → (lost fuel p next).good ≡ true → Overflow p next (lost fuel p next).batches (lost fuel p next).queues)
+        → (b : Bool) → exceeds p queues ≡ b → (lost_by p (λ next. lost fuel p next) queues b).good ≡ true
+        → Overflow p queues (lost_by p (λ next. lost fuel p next) queues b).batches (lost_by p (λ next. lost fuel p next) queues b).queues
+    by further false is good = (fits_is p queues is, refl)
+    by further true is good =
+        let fattest = fattest_from queues 0 0 0 in
+        let next = without_batch p.drop_batch queues fattest in
+        let both = and_parts (is_fattest queues fattest) (lost fuel p next).good good in
+        (exceeds_is p queues is, fattest_is queues fattest both.0, refl, further next both.1)
+
 -- STEPS
 
 -- what a step gives; `good` says that the computation holds of it
@@ -106,22 +173,13 @@ module _ (p : ParamFields) (seed : Seed) where
   abbrev accepted : State FairQueues → ℕ → ℕ → PacketParts → Event
   accepted old moment lane packet = event.Accepted old.next_id moment lane (flow_of packet) packet
 
-  abbrev admitted : State FairQueues → ℕ → ℕ → PacketParts → List (List Waiting) → Bool → Stepped
-  admitted old moment lane packet queues true = record {
+  abbrev admitted : State FairQueues → ℕ → ℕ → PacketParts → Lost → Stepped
+  admitted old moment lane packet gone = record {
     answer = answer.Accepted;
-    events = accepted old moment lane packet ∷ [];
-    state = after old moment packet queues;
-    good = nat_lt (flow_of packet) (length old.queues.lists.queues);
+    events = accepted old moment lane packet ∷ map (drop_event moment cause.Overflow) (packets_of gone.batches);
+    state = after old moment packet gone.queues;
+    good = nat_lt (flow_of packet) (length old.queues.lists.queues) && gone.good;
   }
-  admitted old moment lane packet queues false =
-      let fattest = fattest_from queues 0 0 0 in
-      let batch = batch_of queues fattest in
-      record {
-        answer = answer.Accepted;
-        events = accepted old moment lane packet ∷ map (drop_event moment cause.Overflow) (batch.gone ++ []);
-        state = after old moment packet (set queues fattest (drop (batch_size (length (get_or queues fattest []))) (get_or queues fattest [])));
-        good = nat_lt (flow_of packet) (length old.queues.lists.queues) && is_fattest queues fattest;
-      }
 
   abbrev dequeued : (old : State FairQueues) (moment : ℕ) → Option (Walk p moment old.queues) → Stepped
   dequeued old moment None = record { answer = answer.Idle; events = []; state = old; good = false }
@@ -134,45 +192,25 @@ module _ (p : ParamFields) (seed : Seed) where
 
   abbrev stepped : State FairQueues → Step → Option Refusal → Stepped
   stepped old step (Some r) = record { answer = answer.Refused r; events = []; state = old; good = true }
-  stepped old (Enqueue moment lane packet) None =
-      let queues = arrived old moment packet in
-      admitted old moment lane packet queues (nat_le (sum_by length queues) p.limit)
+  stepped old (Enqueue moment lane packet) None = admitted old moment lane packet (lost 10 p (arrived old moment packet))
   stepped old (Dequeue moment) None = dequeued old moment (walk p moment 10 old.queues)
   stepped old (Close moment) None = record { answer = answer.Closed; events = event.Closed moment ∷ []; state = record old { last = moment; closed = true }; good = true }
 
   abbrev MakesSo : State FairQueues → Step → Stepped → Type 0
   MakesSo old step s = Makes (fq_codel p seed) old step s.answer s.events s.state
 
-  admitted_is : (old : State FairQueues) (moment lane : ℕ) (packet : PacketParts) (fitting : Bool) → nat_le (sum_by length (arrived old moment packet)) p.limit ≡ fitting
-      → (admitted old moment lane packet (arrived old moment packet) fitting).good ≡ true → MakesSo old (Enqueue moment lane packet) (admitted old moment lane packet (arrived old moment packet) fitting)
-  admitted_is old moment lane packet true few e = (
-    refl,
-    record {
-      lost = [];
-      queues = record {
-        within = ltb-true (flow_of packet) (length old.queues.lists.queues) e;
-        batches = [];
-        overflow = fits (leb-true (sum_by length (arrived old moment packet)) p.limit few) refl refl;
-        lost_in_order = refl;
-        rest = refl;
-      };
-      told = refl;
-      next_id = refl;
-      last = refl;
-      closed = refl;
-    },
-  )
-  admitted_is old moment lane packet false many e =
-      let queues = arrived old moment packet in
-      let fattest = fattest_from queues 0 0 0 in
-      let both = and_parts (nat_lt (flow_of packet) (length old.queues.lists.queues)) (is_fattest queues fattest) e in (
+  admitted_is : (old : State FairQueues) (moment lane : ℕ) (packet : PacketParts) → (admitted old moment lane packet (lost 10 p (arrived old moment packet))).good ≡ true
+      → MakesSo old (Enqueue moment lane packet) (admitted old moment lane packet (lost 10 p (arrived old moment packet)))
+  admitted_is old moment lane packet e =
+      let gone = lost 10 p (arrived old moment packet) in
+      let both = and_parts (nat_lt (flow_of packet) (length old.queues.lists.queues)) gone.good e in (
         refl,
         record {
-          lost = (batch_of queues fattest).gone ++ [];
+          lost = packets_of gone.batches;
           queues = record {
             within = ltb-true (flow_of packet) (length old.queues.lists.queues) both.0;
-            batches = batch_of queues fattest ∷ [];
-            overflow = exceeds (leb-false (sum_by length queues) p.limit many) fattest (fattest_is queues fattest both.1) refl refl;
+            batches = gone.batches;
+            overflow = lost_is 10 p (arrived old moment packet) both.1;
             lost_in_order = refl;
             rest = refl;
           };
@@ -200,7 +238,7 @@ module _ (p : ParamFields) (seed : Seed) where
   )
 
   made_is : (old : State FairQueues) (step : Step) → (stepped old step None).good ≡ true → MakesSo old step (stepped old step None)
-  made_is old (Enqueue moment lane packet) e = admitted_is old moment lane packet (nat_le (sum_by length (arrived old moment packet)) p.limit) refl e
+  made_is old (Enqueue moment lane packet) e = admitted_is old moment lane packet e
   made_is old (Dequeue moment) e = dequeued_is old moment (walk p moment 10 old.queues) e
   made_is old (Close moment) e = (refl, record { told = refl; state = refl })
 

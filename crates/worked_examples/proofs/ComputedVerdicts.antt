@@ -6,7 +6,7 @@ use Rattle.packet_core.specs.declared.packet.Waiting.{Waiting}
 use Rattle.packet_core.specs.declared.params.ParamFields.{ParamFields}
 use Rattle.codel_core.specs.Queue.{bytes_of, is_markable, IsDroppable, IsLate, IsMarkableAt}
 use Rattle.codel_core.specs.Schedule.{after_drops, drop_moment, entered, stopped_after}
-use Rattle.codel_core.specs.Verdict.{Decides, FirstAbove, IsDropped, Verdict}
+use Rattle.codel_core.specs.Verdict.{final_mark, Decides, FirstAbove, IsDropped, Verdict}
 use Rattle.codel_core.specs.Verdict.FirstAbove.{given_up, stays}
 use Rattle.codel_core.specs.Verdict.Stops.{leaves, waits, marks}
 use Rattle.codel_core.specs.Verdict.Verdict.{nothing, first_mark, first_drop, drops}
@@ -79,16 +79,16 @@ module _ (p : ParamFields) (now : ℕ) (q : List Waiting) (s : CodelState) where
   first_above P (inl is) (Some t) = record { above = Some t; right = stays is }
   first_above P (inl is) None = record { above = Some (now + p.interval); right = stays is }
 
-  -- so many drops, that mark, and that state but for first_above
+  -- so many drops, that mark by CoDel, and that state but for first_above
   abbrev judge : (k : ℕ) (mark : Mark) (codel : CodelState)
       → Verdict p now q s k mark (record codel { first_above = s.first_above }) → Judged p now q s
   judge k mark codel verdict =
       let a = first_above (IsLate p now q k) (late k) s.first_above in
       record {
         drops = k;
-        mark = mark;
+        mark = final_mark p now (slice_get q k) mark;
         codel = record codel { first_above = a.above };
-        decides = record { verdict = verdict; first_above = a.right };
+        decides = record { by_codel = mark; verdict = verdict; mark_is = refl; first_above = a.right };
       }
 
   -- the first place from that one on that isn't dropped, as far as the fuel goes

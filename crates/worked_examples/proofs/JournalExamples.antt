@@ -60,7 +60,7 @@ five_packets =
     ∷ event.Sent 1 1 Ce CodelMark ∷ event.Dropped 2 1 Codel ∷ event.Dropped 3 1 Overflow ∷ acceptance 4 2 7 ∷ event.Closed 2 ∷ []
 
 five_statistics : statistics five_packets
-    ≡ record { accepted = 5; accepted_bytes = 1241; sent = 2; sent_bytes = 1200; dropped_codel = 1; dropped_overflow = 1; dropped_bytes = 34; marked = 1; queued = 1; queued_bytes = 7; closed = true }
+    ≡ record { accepted = 5; accepted_bytes = 1241; sent = 2; sent_bytes = 1200; dropped_codel = 1; dropped_overflow = 1; dropped_bytes = 34; marked = 1; threshold_marked = 0; queued = 1; queued_bytes = 7; closed = true }
 five_statistics = refl
 
 -- a row for each five-tuple, in order of first acceptance

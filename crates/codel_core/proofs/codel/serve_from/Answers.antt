@@ -17,7 +17,7 @@ returns-in_default-clause-served g c =
     record {
       drops = 0;
       mark = NoMark;
-      decides = record { verdict = nothing (rw (← none) (λ d. d.0)); first_above = given_up (rw (← none) (λ late. late)) };
+      decides = record { by_codel = NoMark; verdict = nothing (rw (← none) (λ d. d.0)); mark_is = rw (← none) refl; first_above = given_up (rw (← none) (λ late. late)) };
       given = rw (← none) refl;
       left = record { pulls = c.pull.ensures.step; rest = c.pull.ensures.rest; takes = g.met.S.DropSink.taken_none c.args.sink.now };
     }
@@ -60,7 +60,7 @@ loop-state-init g c =
 pub returns-then-not-should_drop-clause-served : goal.returns-then-not-should_drop-clause-served
 returns-then-not-should_drop-clause-served g c =
     let h = first_in_hand g (goal.at.returns-then-not-should_drop-clause-served g c).After-should_drop in
-    gives h.0 (nothing (iff_false h.1 (cc))) (sym (ap (λ (s : CodelState). record s { dropping = false }) c.should_drop.ensures.rest)) refl c.unmarked.ensures
+    gives h.0 (nothing (iff_false h.1 (cc))) (sym (ap (λ (s : CodelState). record s { dropping = false }) c.should_drop.ensures.rest)) refl c.by_threshold.ensures
 
 pub returns-then-may_mark-clause-served : goal.returns-then-may_mark-clause-served
 returns-then-may_mark-clause-served g c =
@@ -68,7 +68,7 @@ returns-then-may_mark-clause-served g c =
     let idle : c.args.state.now.dropping ≡ false = sym (ap (λ (s : CodelState). s.dropping) c.should_drop.ensures.rest) ∙ (cc) in
     gives h.0 (first_mark (h.1.0 (cc)) idle (rw (← h.0.head_is) (cc)))
     (entered_from c.args.params.now c.args.now c.args.state.now c.should_drop.new.state c.enter.new.state c.should_drop.ensures.rest c.enter.ensures)
-    (ap (λ (s : CodelState). s.first_above) c.enter.ensures) c.marked.ensures
+    (ap (λ (s : CodelState). s.first_above) c.enter.ensures) c.by_codel.ensures
 
 pub returns-then-not-state-clause-served : goal.returns-then-not-state-clause-served
 returns-then-not-state-clause-served g c =
@@ -81,7 +81,7 @@ returns-then-not-state-clause-served g c =
     let same = ap (λ (s : CodelState). record s { first_above = c.args.state.now.first_above }) c.should_drop-then-not-state.ensures.rest ∙ c.should_drop.ensures.rest in
     gives n.0 (first_drop d idle (unmarkable_at c.args.params.now (g.L.Pull.items c.args.line.now) 0 c.in-Some.first h.0.head_is (cc)))
     (entered_from c.args.params.now c.args.now c.args.state.now c.should_drop-then-not-state.new.state c.enter-then-not-state.new.state same c.enter-then-not-state.ensures)
-    (ap (λ (s : CodelState). s.first_above) c.enter-then-not-state.ensures) c.unmarked-then-not-state.ensures
+    (ap (λ (s : CodelState). s.first_above) c.enter-then-not-state.ensures) c.by_threshold-then-not-state.ensures
 
 pub returns-then-may_mark-2-clause-served : goal.returns-then-may_mark-2-clause-served
 returns-then-may_mark-2-clause-served g c =
@@ -89,7 +89,7 @@ returns-then-may_mark-2-clause-served g c =
     let moment = ap (λ (s : CodelState). s.drop_next) m.state_is in
     let next = one_drop_more c.args.params.now.interval c.interval-interval.result c.loop-state.invariant.0 c.spacing.result c.args.state.now c.loop-state.state m.state_is c.interval-interval.ensures.value c.spacing.ensures in
     gives m.hand (drops m.first m.dropping m.dropped (marks m.droppable (omega (arith, moment)) (rw (← m.hand.head_is) (cc))))
-    (sym (ap (λ (s : CodelState). record s { first_above = c.args.state.now.first_above }) next)) refl c.marked-then-may_mark-2.ensures
+    (sym (ap (λ (s : CodelState). record s { first_above = c.args.state.now.first_above }) next)) refl c.by_codel-then-may_mark-2.ensures
 
 -- the next packet is in hand and judged
 next_judged : (g : given.Over) (c : After-should_drop-in-loop-state g)
@@ -113,7 +113,7 @@ returns-then-not-should_drop-2-clause-served g c =
     (sym ((λ x. record (c.should_drop-in-loop-state.ensures.rest x) { first_above = old.first_above; dropping = false })
     ∙ (λ x. record (m.state_is x) { first_above = old.first_above; dropping = false; count = (m.state_is x).count + 1 })
     ∙ (λ x. record old { dropping = false; count = counts x; drop_next = drop_moment c.args.params.now.interval old (place x) })))
-    refl c.unmarked-then-not-should_drop-2.ensures
+    refl c.by_threshold-then-not-should_drop-2.ensures
 
 pub loop-state-preserved : goal.loop-state-preserved
 loop-state-preserved g c =
@@ -145,4 +145,4 @@ returns-clause-served g c =
     let m = c.loop-state.invariant.1.0 in
     let moment = ap (λ (s : CodelState). s.drop_next) m.state_is in
     gives m.hand (drops m.first m.dropping m.dropped (waits m.droppable (omega (arith, moment))))
-    (sym (ap (λ (s : CodelState). record s { first_above = c.args.state.now.first_above }) m.state_is)) refl c.unmarked-2.ensures
+    (sym (ap (λ (s : CodelState). record s { first_above = c.args.state.now.first_above }) m.state_is)) refl c.by_threshold-2.ensures

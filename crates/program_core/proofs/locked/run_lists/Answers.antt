@@ -1,4 +1,5 @@
-use Rattle.std.proofs.Common.{◌≡◌, ◌∙◌, ◌+◌, ◌++◌, ◌∷◌, [], List, ap, arith, length, map, refl, rules, subst, sum_by, sym}
+use Rattle.std.proofs.Common.{◌≡◌, ◌∙◌, ◌+◌, ◌<◌, ◌++◌, ◌∷◌, [], List, ap, append-nil, arith, length, map, refl, rules, subst, sum_by, sym}
+use Rattle.std.proofs.lemmas.Grind.{common_steps}
 use Rattle.std.proofs.lemmas.List.{length-map}
 use Rattle.packet_core.specs.declared.flow.Seed.{Seed}
 use Rattle.packet_core.specs.declared.params.ParamFields.{ParamFields}
@@ -17,6 +18,14 @@ popped : (g : Over) (c : In-Some g) → (c.pop.new.self.items ≡ new_seats (len
 popped g c =
     let are : new_seats (length c.args.lists.now + 1) ≡ c.pop.new.self.items ++ c.in-Some.seat ∷ [] = search rules in
     seats_popped (length c.args.lists.now) c.pop.new.self.items c.in-Some.seat are
+
+-- there is a seat, the main thread's
+pub unreachable-requires : goal.unreachable-requires
+unreachable-requires g c =
+    let seats : length c.in_ok-port.seats.items ≡ length c.args.lists.now + 1 =
+    ap length (c.in_ok-port.ensures {u = tt}).seats ∙ new_seats_length (length c.args.lists.now + 1) in
+    let some : 0 < length c.in_ok-port.seats.items = omega arith in
+    grind (arith, common_steps, some, c.in_ok-port.seats.ok.0, (c.in_default.ensures {u = tt}).variant)
 
 pub start_locked-requires-clause-each : goal.start_locked-requires-clause-each
 start_locked-requires-clause-each g c =

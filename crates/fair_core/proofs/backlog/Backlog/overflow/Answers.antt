@@ -1,13 +1,24 @@
-use Rattle.std.proofs.Common.{◌≡◌, ◌<◌, arith, length}
-use Rattle.flow_core.specs.FlowLists.{queue_at, waiting_in}
-use Rattle.fair_core.specs.Backlogs.{held_of}
-use Rattle.fair_core.specs.Overflow.{batch_size}
-use Rattle.fair_core.proofs.DroppedPackets.{drops_exceeding}
+use Rattle.std.proofs.lemmas.Bool.{iff_false}
+use Rattle.fair_core.proofs.DroppedPackets.{fewer_wait, lost_all, lost_more, lost_none}
+use Rattle.fair_core.proofs.OverflowLemmas.{exceeding_waits}
 use Rattle.fair_core.proofs.backlog.Backlog.overflow.Goals as goal
+
+pub loop-self-init : goal.loop-self-init
+loop-self-init g c = lost_none c.args.params.now c.args.moment c.args.self.now c.args.journal.now c.requires
+
+pub lose_batch-requires-clause-waits : goal.lose_batch-requires-clause-waits
+lose_batch-requires-clause-waits g c =
+    exceeding_waits c.args.params.now c.loop-self.self.queues.lists.queues (c.exceeds.ensures.0 (cc))
+
+pub loop-self-preserved : goal.loop-self-preserved
+loop-self-preserved g c =
+    lost_more c.args.params.now c.args.moment c.args.self.now c.loop-self.self c.lose_batch.new.self c.args.journal.now c.loop-self.journal c.lose_batch.new.journal
+    c.loop-self.invariant (c.exceeds.ensures.0 (cc)) (rw c.drop_batch.ensures.value at c.lose_batch.ensures)
+
+pub loop-self-smaller : goal.loop-self-smaller
+loop-self-smaller g c =
+    fewer_wait c.drop_batch.result c.args.moment c.loop-self.self c.lose_batch.new.self c.loop-self.journal c.lose_batch.new.journal c.drop_batch.ensures.range.0 c.lose_batch.ensures
 
 pub returns : goal.returns
 returns g c =
-    let many : c.args.limit < waiting_in c.self.inside.flows.lists = let t = c.if-total_len-from.false in let len = c.total_len.ensures.value in let from = c.from.ensures in omega arith in
-    let size : c.clamp-batch.result ≡ batch_size (length (queue_at c.self.inside.flows.lists c.in-Some.flow)) = let len = c.len.ensures.value in let clamp = c.clamp-batch.ensures in omega arith in
-    rw (← c.self.view_is)
-    (drops_exceeding c.args.limit c.args.moment (held_of c.self.inside) c.args.journal.now c.drop_batch.new.journal c.in-Some.flow c.clamp-batch.result c.drop_batch.new.flows many (c.in-Some.ensures {u = tt}).fattest size c.drop_batch.ensures)
+    lost_all c.args.params.now c.args.moment c.args.self.now c.loop-self.self c.args.journal.now c.loop-self.journal c.loop-self.invariant (iff_false c.exceeds.ensures (cc))

@@ -22,4 +22,5 @@ invariant_of-result c =
       bytes = sym (map-replicate bytes_of c.args.flows []);
       lengths = All-replicate AreInRange c.args.flows [] (All-nil (λ (w : Waiting). IsLengthInRange w.packet.len));
       few = omega (arith, sum_by-replicate (length {A = Waiting}) c.args.flows []);
+      total = omega (arith, sum_by-replicate bytes_of c.args.flows []);
     })

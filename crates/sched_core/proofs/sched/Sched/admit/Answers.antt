@@ -19,7 +19,7 @@ accepts g c =
       arrived = rw c.clear_comparisons.ensures at c.arrive.ensures.arrived;
       reserved = rw c.clear_comparisons.ensures at c.arrive.ensures.room;
       few_comparisons = rw c.clear_comparisons.ensures at c.arrive.ensures.few_comparisons;
-      drops = rw (c.limit.ensures.value, c.accept.ensures, c.arrived.ensures, flow_is) at c.overflow.ensures;
+      drops = rw (c.accept.ensures, c.arrived.ensures, flow_is) at c.overflow.ensures;
     }
 
 pub invariant_of-self : goal.invariant_of-self

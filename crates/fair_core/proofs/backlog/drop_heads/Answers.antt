@@ -3,8 +3,8 @@ use Rattle.journal_core.specs.declared.event.Cause.TheVariants as cause
 use Rattle.journal_core.specs.JournalDrops.{drops_none}
 use Rattle.fair_core.proofs.ComparisonLemmas.{counts_none}
 use Rattle.fair_core.proofs.DroppedPackets.{drops_next}
-use Rattle.fair_core.proofs.backlog.drop_batch.Goals.{in-Some, in_default}
-use Rattle.fair_core.proofs.backlog.drop_batch.Goals as goal
+use Rattle.fair_core.proofs.backlog.drop_heads.Goals.{in-Some, in_default}
+use Rattle.fair_core.proofs.backlog.drop_heads.Goals as goal
 
 pub loop-preserved : goal.loop-preserved
 loop-preserved g c =

@@ -1,5 +1,5 @@
 use Rattle.fair_core.specs.Backlogs.{DropsHeads}
-use Rattle.fair_core.proofs.backlog.drop_batch.Given as goal
+use Rattle.fair_core.proofs.backlog.drop_heads.Given as goal
 
 -- so many packets are dropped, with few comparisons for each
 abbrev pub invariant-loop : goal.invariant-loop
