@@ -85,6 +85,8 @@ impl Codel {
 }
 
 /// Takes the head of a line that isn't empty.
+// Kept out of its caller: merged into it, each packet taken is copied once more on its way.
+#[inline(never)]
 fn pull_waiting<L: Pull>(line: &mut L) -> Waiting
     requires { 0 < length (L.items line.old) }
     ensures head { Some result ≡ slice_get (L.items line.old) 0 }

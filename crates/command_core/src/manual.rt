@@ -215,14 +215,21 @@ or secs; without a unit, microseconds. Other numbers have no unit.
 
 Trace, with one row for each step, its fields separated by commas:
 
+  version,2                                      in the first row alone, before
+                                                 all steps: a trace of version 2
   enq,MOMENT,PROTO,SRC,DST,SPORT,DPORT,LEN,ECN   a packet comes in
   deq,MOMENT                                     the device asks for a packet
   close,MOMENT                                   no packet is accepted any more
 
 A MOMENT is in microseconds, below 2^60. PROTO is the protocol's number; SRC and
-DST are IPv4 addresses; SPORT and DPORT are ports (0 where there are none); LEN
-is 1 to 65535 bytes; ECN is the two bits as a number: 0 Not-ECT, 1 ECT(1),
-2 ECT(0), 3 CE. A trace has at most 1000000 rows and 134217728 bytes.
+DST are addresses of one kind; SPORT and DPORT are ports (0 where there are
+none); LEN is 1 to 65535 bytes; ECN is the two bits as a number: 0 Not-ECT,
+1 ECT(1), 2 ECT(0), 3 CE. A trace has at most 1000000 rows and 134217728 bytes.
+
+An IPv4 address is four numbers from 0 to 255, joined by dots. An IPv6 address
+is 32 hexadecimal digits of either case, and stands in a trace of version 2
+alone. Without the row 'version,2' a trace is of version 1. The row counts among
+the 1000000, and the report has none for it.
 
 Report, with the rows of each step in order:
 
@@ -244,7 +251,8 @@ and at the end
                            for ce_threshold; STATE is open or closed
   tuple,PROTO,SRC,DST,SPORT,DPORT,FLOW,ACCEPTED,SENT,DROPPED,QUEUED
                            one row for each five-tuple, in order of its first
-                           accepted packet
+                           accepted packet; an IPv6 address is 32 hexadecimal
+                           digits in lower case
 
 Example:
 
@@ -276,12 +284,14 @@ Faults of a parameter word, at their place:
 
 Faults of the trace, at their row:
 
-  BadKind            the first field isn't 'enq', 'deq' or 'close'
+  BadKind            the first field isn't 'enq', 'deq' or 'close', nor
+                     'version' in the first row
   BadFieldCount      the row has another number of fields than its kind has
   BadNumber          a number isn't written in digits, or is too large for its
-                     field
+                     field, or the version isn't 2
   BadAddress         an address isn't four numbers from 0 to 255, joined by
-                     dots and without leading zeros
+                     dots and without leading zeros, nor, in version 2, 32
+                     hexadecimal digits; or DST is of another kind than SRC
   LengthOutOfRange   LEN is outside 1 to 65535
   BadEcn             ECN isn't one character from 0 to 3
   TooLarge           more than 134217728 bytes (at row 0) or 1000000 rows

@@ -48,7 +48,7 @@ module _ (p : Policy) (decided : IsDecided p) (flows : ℕ) (flow_of : FiveTuple
   makes_once old new new' (Enqueue moment lane packet) said said' made made' m m' =
       let same = arrival_once old.queues (flow_of packet.tuple) _ m.1.lost m'.1.lost new.queues new'.queues m.1.queues m'.1.queues in (
         m.0 ∙ sym m'.0,
-        m.1.told ∙ ap (λ (lost : List Waiting). event.Accepted old.next_id moment lane (flow_of packet.tuple) packet ∷ map (drop_event moment cause.Overflow) lost) same.0 ∙ sym m'.1.told,
+        m.1.told ∙ ap (λ (lost : List Waiting). event.Accepted lane old.next_id moment (flow_of packet.tuple) packet ∷ map (drop_event moment cause.Overflow) lost) same.0 ∙ sym m'.1.told,
         same_state new new' same.1 (m.1.next_id ∙ sym m'.1.next_id) (m.1.last ∙ sym m'.1.last) (m.1.closed ∙ sym m'.1.closed),
       )
   makes_once old new new' (Dequeue moment) said said' made made' m m' =

@@ -209,6 +209,8 @@ impl Backlog {
     }
 
     /// The flow with the most bytes loses half of its packets from its head, but at least one, and so many at most.
+    // Kept out of an enqueue: most lose nothing.
+    #[inline(never)]
     fn lose_batch<K: Keeps<Event>>(&mut self, most: u32, moment: u64, journal: &mut Journal<K>)
         requires most { 1 ≤ most }
         requires waits { 0 < waiting_in self.old.queues.lists }

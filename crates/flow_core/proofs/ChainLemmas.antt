@@ -1,9 +1,9 @@
 -- What a push and a pop leave of the chains, and what callers see of it.
-use Rattle.std.proofs.Common.{◌≡◌, ◌≢◌, ◌⊎◌, ℕ, ◌+◌, ◌-◌, ◌<◌, ◌≤◌, Option, None, Some, is_some, cond, List, [], ◌∷◌, ◌++◌, length, map, get_or, set, drop, slice_get, option_map, refl, sym, ap, subst, ◌∙◌, inl, inr, arith, length-append}
+use Rattle.std.proofs.Common.{◌≡◌, ◌≢◌, ◌⊎◌, ℕ, ◌+◌, ◌-◌, ◌<◌, ◌≤◌, Option, None, Some, is_some, cond, List, [], ◌∷◌, ◌++◌, length, map, get_or, set, drop, slice_get, refl, sym, ap, subst, ◌∙◌, inl, inr, arith, length-append}
 use Rattle.std.specs.Vec.{with_item}
 use Rattle.std.proofs.Math.ListN.{get_or-map}
 use Rattle.std.proofs.lemmas.Bool.{cases_eq}
-use Rattle.std.proofs.lemmas.List.{ext_get_or, get_or_default, get_or-set_other, get_or-set_same, length-map, length-set, map-append}
+use Rattle.std.proofs.lemmas.List.{ext_get_or, get_or_default, get_or-set_other, get_or-set_same, length-map, length-set, map-append, set-get_or}
 use Rattle.std.proofs.lemmas.List.Sums.{sum_by-set}
 use Rattle.packet_core.specs.declared.packet.Waiting.{Waiting}
 use Rattle.slab.specs.Slab.{ContainsKey, HasRoomFor, Slab, Updates, get, slab_len, with_value}
@@ -12,14 +12,14 @@ use Rattle.flow_core.specs.declared.limits.TheConstants.{MAX_WAITING}
 use Rattle.flow_core.specs.declared.chains.Chain.{Chain}
 use Rattle.flow_core.specs.declared.chains.Chains.TheInside.{Inside}
 use Rattle.flow_core.specs.declared.chains.Link.{Link}
-use Rattle.flow_core.specs.Chains.{AreApart, AreChained, AreLinked, HasKey, IsChain, Placed, ends_of, packets_of, queues_of}
+use Rattle.flow_core.specs.Chains.{AreApart, AreChained, AreLinked, HasEnds, HasKey, IsChain, Placed, no_packets, packets_of, queues_of}
 use Rattle.flow_core.proofs.ReadLemmas.{length-at}
 use Rattle.flow_core.proofs.PlacedLemmas.{Extends, apart_push, comes_behind, comes_first, empty_slot, ends_empty, ends_push, ends_split, has_push, linked_stays, packets_of-linked, waitings}
 
 -- a flow's packets, as callers see them
-chain_seen : (slots : Slab Link) (chains : List (Option Chain)) (flow : ℕ) (c : IsChain slots (get_or chains flow None)) → get_or (map (packets_of slots) chains) flow [] ≡ waitings c.placed
+chain_seen : (slots : Slab Link) (chains : List Chain) (flow : ℕ) (c : IsChain slots (get_or chains flow no_packets)) → get_or (map (packets_of slots) chains) flow [] ≡ waitings c.placed
 chain_seen slots chains flow c =
-    get_or-map (packets_of slots) chains flow None ∙ ap (packets_of slots) c.is ∙ packets_of-linked slots c.placed c.linked
+    get_or-map (packets_of slots) chains flow no_packets ∙ packets_of-linked slots c.placed (get_or chains flow no_packets) c.is c.linked
 
 -- a slot that is written again counts as before
 slab_len-with_value : (slots : Slab Link) (key : ℕ) (link : Link) → ContainsKey slots key → slab_len (with_value slots key link) ≡ slab_len slots
@@ -36,7 +36,7 @@ pub record AreSeenAs (f : Inside) (queues : List (List Waiting)) : Type 0 where
 -- A packet comes into a slot that was empty, in room that was taken ahead.
 pub record Arrives (f : Inside) (new : Slab Link) (added : Placed) : Type 0 where
   pub empty : get f.slots added.key ≡ None
-  pub updates : Updates f.slots new added.key (Some (record { waiting = added.waiting; next = None }))
+  pub updates : Updates f.slots new added.key (Some (record { waiting = added.waiting; next = 0 }))
   pub counted : slab_len new ≡ slab_len f.slots + 1
   pub capacity : new.capacity ≡ f.slots.capacity
   pub few : slab_len f.slots < MAX_WAITING
@@ -74,17 +74,31 @@ module _ (f : Inside) (kept : AreChained f) (flow : ℕ) (within : flow < length
   has_chain = omega (arith, within, length-map f.chains.items (packets_of f.slots))
 
   -- the ends of the flow, as they are read
-  pub ends_read : (read : Option Chain) → read ≡ get_or f.chains.items flow read → read ≡ ends_of held
-  ends_read read found = found ∙ sym (get_or_default f.chains.items flow None read has_chain) ∙ (kept.each flow).is
+  pub ends_read : (read : Chain) → read ≡ get_or f.chains.items flow read → HasEnds held read
+  ends_read read found =
+      subst (λ (c : Chain). HasEnds held c) (get_or_default f.chains.items flow no_packets read has_chain ∙ sym found) (kept.each flow).is
 
-  module _ (new : Slab Link) (ps : List Placed) (ends : Option Chain) (are : Replaces f kept flow new ps) (is : ends ≡ ends_of ps) where
-    abbrev each_by : (other : ℕ) → (other ≡ flow) ⊎ (other ≢ flow) → IsChain new (get_or (set f.chains.items flow ends) other None)
-    each_by other (inl same) = record { placed = ps; is = rw (same, get_or-set_same f.chains.items flow ends None has_chain) is; linked = are.linked; once = are.once }
+  -- ends that are written as they were change nothing
+  pub ends_written : (read : Chain) → read ≡ get_or f.chains.items flow read → AreChained (record { slots = f.slots; chains = with_item f.chains flow read; room = f.room })
+  ends_written read found =
+      let same : set f.chains.items flow read ≡ f.chains.items = ap (λ (c : Chain). set f.chains.items flow c) found ∙ set-get_or f.chains.items flow read in
+      record {
+        each = λ other. let c = kept.each other in record { placed = c.placed; is = rw same c.is; linked = c.linked; once = c.once };
+        apart = kept.apart;
+        counted = rw same kept.counted;
+        flows = kept.flows;
+        few = kept.few;
+        room = kept.room;
+      }
+
+  module _ (new : Slab Link) (ps : List Placed) (ends : Chain) (are : Replaces f kept flow new ps) (is : HasEnds ps ends) where
+    abbrev each_by : (other : ℕ) → (other ≡ flow) ⊎ (other ≢ flow) → IsChain new (get_or (set f.chains.items flow ends) other no_packets)
+    each_by other (inl same) = record { placed = ps; is = rw (same, get_or-set_same f.chains.items flow ends no_packets has_chain) is; linked = are.linked; once = are.once }
     each_by other (inr ne) =
         let c = kept.each other in
         record {
           placed = c.placed;
-          is = rw (get_or-set_other f.chains.items flow other ends None ne) c.is;
+          is = rw (get_or-set_other f.chains.items flow other ends no_packets ne) c.is;
           linked = linked_stays f.slots new c.placed (λ key has. are.stays other key ne has) c.linked;
           once = c.once;
         }
@@ -121,7 +135,7 @@ module _ (f : Inside) (kept : AreChained f) (flow : ℕ) (within : flow < length
         }
 
   -- a packet comes to the end of the flow's queue
-  pushed : (mid new : Slab Link) (added : Placed) (ends : Option Chain) → Arrives f mid added → slab_len new ≡ slab_len mid → new.capacity ≡ mid.capacity → Extends f.slots new held added → ends ≡ ends_of (held ++ added ∷ [])
+  pushed : (mid new : Slab Link) (added : Placed) (ends : Chain) → Arrives f mid added → slab_len new ≡ slab_len mid → new.capacity ≡ mid.capacity → Extends f.slots new held added → HasEnds (held ++ added ∷ []) ends
       → AreSeenAs (record { slots = new; chains = with_item f.chains flow ends; room = f.room - 1 }) (set (queues_of f).queues flow (queue_seen ++ added.waiting ∷ []))
   pushed mid new added ends arrives same fits extends is =
       let counted : slab_len new ≡ slab_len f.slots + 1 = same ∙ arrives.counted in
@@ -143,38 +157,37 @@ module _ (f : Inside) (kept : AreChained f) (flow : ℕ) (within : flow < length
       rw queue (queue_set new (held ++ added ∷ []) ends are is (f.room - 1) (omega (arith, counted, arrives.few)) (omega (arith, counted, fits, arrives.capacity, kept.room, arrives.room)))
 
   -- it comes behind the last one
-  pub pushed_behind : (mid : Slab Link) (added : Placed) (chain : Chain) (link : Link) → Arrives f mid added → Some chain ≡ ends_of held → get mid chain.last ≡ Some link
+  pub pushed_behind : (mid : Slab Link) (added : Placed) (chain : Chain) (link : Link) → Arrives f mid added → HasEnds held chain → chain.len ≢ 0 → get mid chain.last ≡ Some link
       → AreSeenAs
       (record {
-        slots = with_value mid chain.last (record { waiting = link.waiting; next = Some added.key });
-        chains = with_item f.chains flow (Some (record { first = chain.first; last = added.key; len = chain.len + 1 }));
+        slots = with_value mid chain.last (record { waiting = link.waiting; next = added.key });
+        chains = with_item f.chains flow (record { first = chain.first; last = added.key; len = chain.len + 1 });
         room = f.room - 1;
       })
       (set (queues_of f).queues flow (queue_seen ++ added.waiting ∷ []))
-  pushed_behind mid added chain link arrives ends found =
-      let joined : Link = record { waiting = link.waiting; next = Some added.key } in
-      pushed mid (with_value mid chain.last joined) added (Some (record { first = chain.first; last = added.key; len = chain.len + 1 })) arrives
+  pushed_behind mid added chain link arrives ends some found =
+      let joined : Link = record { waiting = link.waiting; next = added.key } in
+      pushed mid (with_value mid chain.last joined) added (record { first = chain.first; last = added.key; len = chain.len + 1 }) arrives
       (slab_len-with_value mid chain.last joined (rw found refl)) refl
-      (comes_behind f.slots mid held chain added link ends (kept.each flow).linked (kept.each flow).once arrives.empty arrives.updates found)
-      (ends_push held added chain ends)
+      (comes_behind f.slots mid held chain added link ends some (kept.each flow).linked (kept.each flow).once arrives.empty arrives.updates found)
+      (ends_push held added chain ends some)
 
   -- it comes to an empty flow
-  pub pushed_first : (mid : Slab Link) (added : Placed) → Arrives f mid added → None ≡ ends_of held
-      → AreSeenAs (record { slots = mid; chains = with_item f.chains flow (Some (record { first = added.key; last = added.key; len = 1 })); room = f.room - 1 })
+  pub pushed_first : (mid : Slab Link) (added : Placed) (chain : Chain) → Arrives f mid added → HasEnds held chain → chain.len ≡ 0
+      → AreSeenAs (record { slots = mid; chains = with_item f.chains flow (record { first = added.key; last = added.key; len = 1 }); room = f.room - 1 })
       (set (queues_of f).queues flow (queue_seen ++ added.waiting ∷ []))
-  pushed_first mid added arrives ends =
-      let none = ends_empty held ends in
-      pushed mid mid added (Some (record { first = added.key; last = added.key; len = 1 })) arrives refl refl
+  pushed_first mid added chain arrives ends empty =
+      let none = ends_empty held chain ends empty in
+      pushed mid mid added (record { first = added.key; last = added.key; len = 1 }) arrives refl refl
       (subst (λ (ps : List Placed). Extends f.slots mid ps added) (sym none) (comes_first f.slots mid added arrives.updates)) (rw none refl)
 
   -- the first packet of the flow goes
-  pub popped : (chain : Chain) (new : Slab Link) (first : Link) (left : Option Chain) → Some chain ≡ ends_of held
+  pub popped : (chain : Chain) (new : Slab Link) (first : Link) → HasEnds held chain → chain.len ≢ 0
       → get f.slots chain.first ≡ Some first → Updates f.slots new chain.first None → slab_len new + 1 ≡ slab_len f.slots → new.capacity ≡ f.slots.capacity
-      → left ≡ option_map (λ (key : ℕ). let c : Chain = record { first = key; last = chain.last; len = chain.len - 1 } in c) first.next
-      → AreSeenAs (record { slots = new; chains = with_item f.chains flow left; room = f.room }) (set (queues_of f).queues flow (drop 1 queue_seen))
+      → AreSeenAs (record { slots = new; chains = with_item f.chains flow (record { first = first.next; last = chain.last; len = chain.len - 1 }); room = f.room }) (set (queues_of f).queues flow (drop 1 queue_seen))
       × (Some first.waiting ≡ slice_get queue_seen 0)
-  popped chain new first left ends found updates counted capacity left_is =
-      let split = ends_split f.slots held chain first ends (kept.each flow).linked found in
+  popped chain new first ends some found updates counted capacity =
+      let split = ends_split f.slots held chain first ends some (kept.each flow).linked found in
       let linked : AreLinked f.slots (split.head ∷ split.rest) = subst (λ (ps : List Placed). AreLinked f.slots ps) split.is (kept.each flow).linked in
       let once : AreApart (split.head ∷ split.rest) = subst (λ (ps : List Placed). AreApart ps) split.is (kept.each flow).once in
       let among : (key : ℕ) → HasKey (split.head ∷ split.rest) key → HasKey held key = λ key has. subst (λ (ps : List Placed). HasKey ps key) (sym split.is) has in
@@ -188,7 +201,7 @@ module _ (f : Inside) (kept : AreChained f) (flow : ℕ) (within : flow < length
         counted = let len = ap length split.is in omega (arith, counted, len);
       } in
       let queue : queue_seen ≡ split.head.waiting ∷ waitings split.rest = at_seen ∙ ap waitings split.is in (
-        rw queue (queue_set new split.rest left are (left_is ∙ sym split.left) f.room (omega (arith, counted, kept.few)) (omega (arith, counted, capacity, kept.room))),
+        rw queue (queue_set new split.rest (record { first = first.next; last = chain.last; len = chain.len - 1 }) are split.left f.room (omega (arith, counted, kept.few)) (omega (arith, counted, capacity, kept.room))),
         ap Some split.waiting ∙ ap (λ (ws : List Waiting). slice_get ws 0) (sym queue),
       )
 

@@ -4,4 +4,6 @@ pub mod FlowNumberLemmas
 pub mod NodeLemmas
 pub mod PlacedLemmas
 pub mod ReadLemmas
+pub mod SeenLemmas
+pub mod TopLemmas
 pub mod WinnerLemmas

@@ -3,8 +3,8 @@ use Rattle.std.proofs.Common.{◌≡◌, ℕ, zero, suc, ◌+◌, ◌*◌, ◌/�
 use Rattle.std.proofs.Math.Nat.{suc-add, pow-suc}
 use Rattle.std.proofs.Math.Pow.{pow_mono}
 use Rattle.std.proofs.lemmas.Bool.{cases_lt}
-use Rattle.std.proofs.lemmas.Nat.{one_shl}
-use Rattle.flow_core.specs.WinnerNodes.{node_above, IsBelow}
+use Rattle.std.proofs.lemmas.Nat.{one_shl, shr-shr}
+use Rattle.flow_core.specs.WinnerNodes.{node_above, beside, IsAbove, IsBelow}
 use Rattle.flow_core.specs.Winners.{IsLevels}
 
 -- a climb in two parts
@@ -29,6 +29,26 @@ levels_within (suc levels) (suc h) node few some =
     let twice = rw (pow-suc 2 (suc levels)) at few in
     let rest = levels_within levels h (node / 2) (omega arith) some in
     omega arith
+
+-- a shift by so many levels gives the node above
+pub shift_above : (h node : ℕ) → node / 2 ^ h ≡ node_above h node
+shift_above zero node = omega arith
+shift_above (suc h) node =
+    let one : suc h ≡ 1 + h = omega arith in
+    ap (λ (k : ℕ). node / 2 ^ k) one ∙ sym (shr-shr node 1 h) ∙ shift_above h (node / 2)
+
+-- from two nodes of one level the climbs to one node are as long
+same_level : (h j levels a b : ℕ) → 2 ^ levels ≤ a → a < 2 ^ suc levels → 2 ^ levels ≤ b → b < 2 ^ suc levels → 1 ≤ node_above h a → node_above h a ≡ node_above j b → h ≡ j
+same_level zero zero levels a b a_least a_most b_least b_most some meets = refl
+same_level zero (suc j) levels a b a_least a_most b_least b_most some meets =
+    let twice = pow-suc 2 levels in absurd (omega (arith, node_above-le j (b / 2)))
+same_level (suc h) zero levels a b a_least a_most b_least b_most some meets =
+    let twice = pow-suc 2 levels in absurd (omega (arith, node_above-le h (a / 2)))
+same_level (suc h) (suc j) zero a b a_least a_most b_least b_most some meets = absurd (omega (arith, node_above-le h (a / 2)))
+same_level (suc h) (suc j) (suc levels) a b a_least a_most b_least b_most some meets =
+    let once = pow-suc 2 levels in
+    let twice = pow-suc 2 (suc levels) in
+    ap suc (same_level h j levels (a / 2) (b / 2) (omega arith) (omega arith) (omega arith) (omega arith) some meets)
 
 -- of two nodes over one, that of the lesser number is the next one after the other or above it
 higher : (h j node : ℕ) → node_above j node < node_above h node → (m : ℕ) × (node_above m (node_above h node / 2) ≡ node_above j node)
@@ -92,6 +112,48 @@ module _ {leaves flow : ℕ} where
     -- no node is between the two
     pub none_between : above ≤ node / 2
     none_between = omega (arith, node_above-le up.0 (node / 2), up.1)
+
+-- a flow below a node is not below the other one under the same node
+pub not_beside : {leaves flow node : ℕ} → 2 ≤ node → IsBelow leaves node flow → IsBelow leaves (beside node) flow → ⊥
+not_beside {leaves} {flow} {node} some below also =
+    elim (cases_lt node (beside node)) [
+      | inl less ↦ omega (arith, none_between also below less)
+      | inr most ↦ omega (arith, none_between below also (omega arith))
+    ]
+
+-- a node over a flow has no greater number than the flow's leaf
+pub below_leaf : {leaves node flow : ℕ} → IsBelow leaves node flow → node ≤ leaves + flow
+below_leaf {leaves} {node} {flow} below = omega (arith, node_above-le below.levels (leaves + flow), below.meets)
+
+module _ {leaves node height : ℕ} (levels : ℕ) (doubled : leaves ≡ 2 ^ levels) (some : 1 ≤ node) (above : IsAbove leaves node height) where
+  -- a node is no more levels above a leaf than the tree has
+  pub height_within : height ≤ levels
+  height_within =
+      let twice = pow-suc 2 levels in
+      levels_within levels height (leaves + above.flow) (omega (arith, above.within)) (omega (arith, above.meets))
+
+  -- the leaf of a flow below the node, shifted by the node's levels, is the node
+  pub shift_below : {flow : ℕ} → IsBelow leaves node flow → (leaves + flow) / 2 ^ height ≡ node
+  shift_below {flow} below =
+      let twice = pow-suc 2 levels in
+      let same =
+      same_level height below.levels levels (leaves + above.flow) (leaves + flow) (omega arith) (omega (arith, above.within)) (omega arith) (omega (arith, below.within))
+      (omega (arith, above.meets)) (above.meets ∙ sym below.meets) in
+      shift_above height (leaves + flow) ∙ ap (λ (h : ℕ). node_above h (leaves + flow)) same ∙ below.meets
+
+-- and a flow whose leaf is shifted to it is below it
+abbrev pub below_shift : {leaves node flow : ℕ} (height : ℕ) → flow < leaves → (leaves + flow) / 2 ^ height ≡ node → IsBelow leaves node flow
+below_shift {leaves} {node} {flow} height within meets = record { within = within; levels = height; meets = sym (shift_above height (leaves + flow)) ∙ meets }
+
+-- the node after one is a level more above a leaf
+pub above_on : {leaves node height : ℕ} → IsAbove leaves node height → IsAbove leaves (node / 2) (height + 1)
+above_on {leaves} {node} {height} above =
+    let more : height + 1 ≡ suc height = omega arith in
+    record {
+      flow = above.flow;
+      within = above.within;
+      meets = ap (λ (h : ℕ). node_above h (leaves + above.flow)) more ∙ above_next height (leaves + above.flow) ∙ ap (λ (n : ℕ). n / 2) above.meets;
+    }
 
 -- half of those leaves were too few
 pub levels_least : (flows levels : ℕ) → flows ≤ 2 ^ levels → 2 ^ levels < 2 * flows → IsLevels flows levels

@@ -13,20 +13,22 @@ abbrev pub packet_of : Option Link → List Waiting
 packet_of None = []
 packet_of (Some link) = link.waiting ∷ []
 
-abbrev pub next_of : Option Link → Option ℕ
-next_of None = None
+abbrev pub next_of : Option Link → ℕ
+next_of None = 0
 next_of (Some link) = link.next
 
--- the packets from that key on, each behind the one before it, so many at most
-abbrev pub packets_from : Slab Link → ℕ → Option ℕ → List Waiting
-packets_from slots zero next = []
-packets_from slots (suc n) None = []
-packets_from slots (suc n) (Some key) = packet_of (get slots key) ++ packets_from slots n (next_of (get slots key))
+-- so many packets from that key on, each behind the one before it
+abbrev pub packets_from : Slab Link → ℕ → ℕ → List Waiting
+packets_from slots zero key = []
+packets_from slots (suc n) key = packet_of (get slots key) ++ packets_from slots n (next_of (get slots key))
+
+-- the ends of a flow that has none
+abbrev pub no_packets : Chain
+no_packets = record { first = 0; last = 0; len = 0 }
 
 -- the packets of a flow
-abbrev pub packets_of : Slab Link → Option Chain → List Waiting
-packets_of slots None = []
-packets_of slots (Some chain) = packets_from slots chain.len (Some chain.first)
+abbrev pub packets_of : Slab Link → Chain → List Waiting
+packets_of slots chain = packets_from slots chain.len chain.first
 
 -- the queues as callers see them
 abbrev pub queues_of : Inside → Queues
@@ -40,27 +42,31 @@ pub record Placed : Type 0 where
   pub key : ℕ
   pub waiting : Waiting
 
--- the key of the first one
-abbrev pub first_key : List Placed → Option ℕ
-first_key [] = None
-first_key (placed ∷ rest) = Some placed.key
+-- the key of the first one, or the given key where there is none
+abbrev pub first_key : List Placed → ℕ → ℕ
+first_key [] any = any
+first_key (placed ∷ rest) any = placed.key
 
 -- the key of the last one, where one is the first and the others are behind it
 abbrev pub last_key : Placed → List Placed → ℕ
 last_key placed [] = placed.key
 last_key placed (next ∷ rest) = last_key next rest
 
--- the ends of a flow that has these packets
-abbrev pub ends_of : List Placed → Option Chain
-ends_of [] = None
-ends_of (placed ∷ rest) =
-    Some (record { first = placed.key; last = last_key placed rest; len = length (placed ∷ rest) })
+-- The ends are those of a flow that has these packets. Where it has none, their keys may be any.
+abbrev pub HasEnds : List Placed → Chain → Type 0
+HasEnds [] ends = ends.len ≡ 0
+HasEnds (placed ∷ rest) ends =
+    ends ≡ record { first = placed.key; last = last_key placed rest; len = length (placed ∷ rest) }
+
+-- The slot has the packet, and the key of the first one behind it. Where none is behind it, the key may be any.
+abbrev pub IsLinked : Slab Link → Placed → List Placed → Type 0
+IsLinked slots placed behind =
+    (any : ℕ) × (get slots placed.key ≡ Some (record { waiting = placed.waiting; next = first_key behind any }))
 
 -- each one's slot has it, with the key of the one behind it
 abbrev pub AreLinked : Slab Link → List Placed → Type 0
 AreLinked slots [] = Unit {0}
-AreLinked slots (placed ∷ rest) =
-    (get slots placed.key ≡ Some (record { waiting = placed.waiting; next = first_key rest })) × AreLinked slots rest
+AreLinked slots (placed ∷ rest) = IsLinked slots placed rest × AreLinked slots rest
 
 -- one of them stands in that slot
 abbrev pub HasKey : List Placed → ℕ → Type 0
@@ -73,16 +79,16 @@ AreApart [] = Unit {0}
 AreApart (placed ∷ rest) = (¬ HasKey rest placed.key) × AreApart rest
 
 -- The ends are those of packets that stand in slots of their own, linked from the first to the last.
-pub record IsChain (slots : Slab Link) (ends : Option Chain) : Type 0 where
+pub record IsChain (slots : Slab Link) (ends : Chain) : Type 0 where
   pub placed : List Placed
-  pub is : ends ≡ ends_of placed
+  pub is : HasEnds placed ends
   pub linked : AreLinked slots placed
   pub once : AreApart placed
 
 -- Each flow has a chain, no two of them share a slot, and nothing else stands in the slab. There are few enough flows
 -- and packets, and there is memory for the next pushes.
 pub record AreChained (c : Inside) : Type 0 where
-  pub each : (flow : ℕ) → IsChain c.slots (get_or c.chains.items flow None)
+  pub each : (flow : ℕ) → IsChain c.slots (get_or c.chains.items flow no_packets)
   pub apart :
       (flow other key : ℕ) → HasKey (each flow).placed key → HasKey (each other).placed key → flow ≡ other
   pub counted : slab_len c.slots ≡ sum_by length (queues_of c).queues

@@ -1,6 +1,6 @@
 //! The waiting packets of all flows in one slab, chained flow by flow.
 
-ghost use Rattle.std.specs.Prelude.{◌≡◌, ◌+◌, ◌-◌, ◌^◌, ◌<◌, ◌≤◌, [], ◌∷◌, ◌++◌, IfOk, OnErr, OnOk, drop, get_or, length, option_map, replicate, set, slice_get, sum_by};
+ghost use Rattle.std.specs.Prelude.{◌≡◌, ◌+◌, ◌-◌, ◌^◌, ◌<◌, ◌≤◌, [], ◌∷◌, ◌++◌, IfOk, OnErr, OnOk, drop, get_or, length, replicate, set, slice_get, sum_by};
 
 use crate::limits::{MAX_FLOWS, MAX_WAITING, Memory};
 use packet_core::Waiting;
@@ -8,14 +8,16 @@ use slab::Slab;
 use std::alloc::Global;
 use std::marker::Model;
 
-/// A packet that waits, and the key of the one behind it in its flow. The last one of a flow has none behind it.
+/// A packet that waits, and the key of the one behind it in its flow. That of a flow's last one isn't read:
+/// the number of packets says where they end.
 #[derive(Clone, Copy, Debug)]
 struct Link {
     waiting: Waiting,
-    next: Option<usize>,
+    next: usize,
 }
 
-/// The packets of a flow that isn't empty: the keys of the first and of the last one, and how many there are.
+/// The packets of a flow: the keys of the first and of the last one, and how many there are. Where there are none, the
+/// keys aren't read.
 #[derive(Clone, Copy, Debug)]
 struct Chain {
     first: usize,
@@ -34,21 +36,6 @@ impl Chain {
             len: 1,
         }
     }
-
-    /// What is left once the first one goes, where that one had the key of the next. None where it was the last.
-    fn without_first(self, next: Option<usize>) -> Option<Chain>
-        requires { 1 ≤ self.len }
-        ensures { result ≡ option_map (λ first. record { first = first; last = self.last; len = self.len - 1 }) next }
-    {
-        match next {
-            Some(first) => Some(Chain {
-                first,
-                last: self.last,
-                len: self.len - 1,
-            }),
-            None => None,
-        }
-    }
 }
 
 /// The queues of all flows. A flow is called by its number, from 0. All packets stand in one slab, and each has
@@ -57,7 +44,7 @@ impl Chain {
 #[derive(Debug, Drop)]
 pub(crate) struct Chains {
     slots: Slab<Link>,
-    chains: Vec<Option<Chain>>,
+    chains: Vec<Chain>,
     room: u64,
 }
 
@@ -79,7 +66,12 @@ impl Chains {
         requires { flows ≤ MAX_FLOWS }
         ensures { IfOk result (λ c. c.queues ≡ replicate flows []) }
     {
-        let chains = vec![in alloc; None; flows as usize]?;
+        let empty = Chain {
+            first: 0,
+            last: 0,
+            len: 0,
+        };
+        let chains = vec![in alloc; empty; flows as usize]?;
         Ok(Chains {
             slots: Slab::new(alloc),
             chains,
@@ -113,23 +105,16 @@ impl Chains {
         ensures room { self.new.room + 1 ≡ self.old.room }
     {
         self.room -= 1;
-        let key = self.slots.insert_reserved(Link {
-            waiting,
-            next: None,
-        });
-        match self.chains[flow as usize] {
-            Some(chain) => {
-                self.slots[chain.last].next = Some(key);
-                self.chains[flow as usize] = Some(Chain {
-                    first: chain.first,
-                    last: key,
-                    len: chain.len + 1,
-                });
-            }
-            None => {
-                self.chains[flow as usize] = Some(Chain::of_one(key));
-            }
+        let key = self.slots.insert_reserved(Link { waiting, next: 0 });
+        let chain = &mut self.chains[flow as usize];
+        if chain.len == 0 {
+            *chain = Chain::of_one(key);
+            return;
         }
+        let last = chain.last;
+        chain.last = key;
+        chain.len += 1;
+        self.slots[last].next = key;
     }
 
     /// Takes the packet at the head of a flow's queue. None where the flow is empty. The room stays, since it
@@ -141,9 +126,13 @@ impl Chains {
           queues = set self.old.queues flow (drop 1 (get_or self.old.queues flow []));
         } }
     {
-        let chain = self.chains[flow as usize]?;
+        let chain = &mut self.chains[flow as usize];
+        if chain.len == 0 {
+            return None;
+        }
         let first = self.slots.remove(chain.first);
-        self.chains[flow as usize] = chain.without_first(first.next);
+        chain.first = first.next;
+        chain.len -= 1;
         Some(first.waiting)
     }
 
@@ -153,10 +142,7 @@ impl Chains {
         ensures value { result ≡ length (get_or self.now.queues flow []) }
         ensures size { result ≤ MAX_WAITING }
     {
-        match self.chains[flow as usize] {
-            Some(chain) => chain.len,
-            None => 0,
-        }
+        self.chains[flow as usize].len
     }
 
     /// How many packets wait, in all flows together.

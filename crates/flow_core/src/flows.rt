@@ -89,6 +89,7 @@ impl Flows {
 
     /// Takes the packet at the head of a flow's queue, with at most `levels` comparisons. None, with no comparison,
     /// where the flow is empty.
+    #[inline(always)]
     pub fn pop(&mut self, flow: u32) -> Option<Waiting>
         requires { flow < length self.old.lists.queues }
         ensures head { result ≡ slice_get (queue_at self.old.lists flow) 0 }
@@ -295,6 +296,7 @@ impl Pull for Line<'_> {
     ghost pulled_more = { λ a b c n first then'.
         pulls_more a.flow a.flows b.flow b.flows c.flow c.flows n a.within first then' };
 
+    #[inline(always)]
     fn pull(&mut self) -> Option<Waiting> {
         self.flows.pop(self.flow)
     }

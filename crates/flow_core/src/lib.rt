@@ -2,8 +2,8 @@
 //!
 //! All packets that wait stand in one slab, chained flow by flow (`chains`). Both lists are ring buffers with room for
 //! all flows, and a mark says whether a flow is in one of them (`listed_flows`). A tree of winners over the flows' byte
-//! counts has the fattest flow at its root (`winner_tree`). So a call costs the same whatever waits, and a packet that
-//! comes or goes costs one path of that tree besides.
+//! counts has the fattest flow at its top, the node that all flows with bytes stand below (`winner_tree`). So a call
+//! costs the same whatever waits, and a packet that comes or goes costs one path of that tree besides.
 #![tactic(auto)]
 
 mod chains;

@@ -1,9 +1,11 @@
-//! The bytes that wait in each flow, and the flow that has the most, in a tree of winners. A change of one flow's
-//! bytes is at most one walk between its leaf and the root, and the winner of all flows is read at the root.
+//! The bytes that wait in each flow, and the flow that has the most, in a tree of winners. All flows with bytes stand
+//! below one node, the top: a change of one flow's bytes is at most one walk between its leaf and the top, and the
+//! winner of all flows is read there. So a few busy flows whose leaves are near each other pay only for the levels
+//! among them.
 
 ghost use Rattle.std.specs.Prelude.{◌≡◌, ◌≢◌, ℕ, [], ◌+◌, ◌-◌, ◌*◌, ◌^◌, ◌<◌, ◌≤◌, ◌↔◌, All, IfOk, IfSome, IsNone, IsTrue, length, min, replicate, slice_index, slice_set, vec_len};
 ghost use Rattle.flow_core.specs.Winners.{CountsFew, HasMostBytes, IsLevels};
-ghost use Rattle.flow_core.specs.WinnerNodes.{AreWinners, beside, HasFallen, HasGrown, HasLeaves, WinsOver};
+ghost use Rattle.flow_core.specs.WinnerNodes.{AreBelowFrom, beside, IsBelow, IsTree, WinsOver};
 
 use crate::limits::{MAX_FLOWS, Memory};
 use std::alloc::Global;
@@ -13,13 +15,36 @@ use std::marker::Model;
 /// at overload). All memory is taken by `try_new`.
 #[derive(Debug, Drop)]
 pub(crate) struct WinnerTree {
+    // A count for each leaf, 0 where it has no flow, so that what a node holds always has one.
     bytes: Vec<u64>,
-    // The winner among the flows below each inner node. Node 1 is the root, 2 * n and 2 * n + 1 are the nodes below
-    // node n, and what stands at place 0 is of no use. A flow's leaf takes no place: its node is the list's length and
-    // the flow's number, added.
+    // The top and each node below it hold the winner among the flows with bytes below the node; where there are none,
+    // and at each other node, some leaf's flow below it. Node 1 is the root, 2 * n and 2 * n + 1 are the nodes below
+    // node n, and what stands at place 0 is of no use. A flow's leaf is the node of the number of leaves and the flow's
+    // number, added. The leaves stand here too, so that no branch tells them from inner nodes.
     winners: Vec<u32>,
+    top: Top,
+    flows: u32,
     levels: u32,
     comparisons: u64,
+}
+
+// A node that each flow with bytes stands below, and how many levels it is above the leaves.
+#[derive(Clone, Copy, Debug)]
+struct Top {
+    node: usize,
+    height: u32,
+}
+
+impl Top {
+    // A leaf alone.
+    fn of_leaf(leaf: usize) -> Top
+        ensures { result ≡ record { node = leaf; height = 0 } }
+    {
+        Top {
+            node: leaf,
+            height: 0,
+        }
+    }
 }
 
 impl Model for WinnerTree {
@@ -42,9 +67,12 @@ impl WinnerTree {
         ensures { IfOk result (λ t. t ≡ record { bytes = replicate flows 0; comparisons = 0 }) }
     {
         let levels = levels_over(flows);
+        let leaves = 1 << levels;
         Ok(WinnerTree {
-            bytes: vec![in alloc; 0; flows as usize]?,
-            winners: first_winners(alloc, 1 << levels)?,
+            bytes: vec![in alloc; 0; leaves]?,
+            winners: first_winners(alloc, leaves)?,
+            top: Top::of_leaf(leaves),
+            flows,
             levels,
             comparisons: 0,
         })
@@ -58,8 +86,9 @@ impl WinnerTree {
         ensures few_comparisons { CountsFew (length self.old.bytes) 1 self.old.comparisons self.new.comparisons }
         ensures compares { 2 ≤ length self.old.bytes → min (self.old.comparisons + 1) u64.MAX ≤ self.new.comparisons }
     {
-        self.bytes[flow as usize] += bytes;
-        let made = raise(&self.bytes, &mut self.winners, flow);
+        let own = self.bytes[flow as usize] + bytes;
+        let made = raise(&self.bytes, &mut self.winners, &mut self.top, flow, own);
+        self.bytes[flow as usize] = own;
         count(&mut self.comparisons, made);
     }
 
@@ -70,9 +99,13 @@ impl WinnerTree {
         ensures bytes { self.new.bytes ≡ slice_set self.old.bytes flow (slice_index self.old.bytes flow - bytes) }
         ensures few_comparisons { CountsFew (length self.old.bytes) 1 self.old.comparisons self.new.comparisons }
     {
-        self.bytes[flow as usize] -= bytes;
-        let made = lower(&self.bytes, &mut self.winners, flow);
-        count(&mut self.comparisons, made);
+        // A flow that has none may stand outside of the top.
+        if bytes > 0 {
+            let own = self.bytes[flow as usize] - bytes;
+            let made = lower(&self.bytes, &mut self.winners, self.top, flow, own);
+            self.bytes[flow as usize] = own;
+            count(&mut self.comparisons, made);
+        }
     }
 
     /// How many flows there are, from 1 to 65,536.
@@ -81,7 +114,7 @@ impl WinnerTree {
         ensures least { 1 ≤ result }
         ensures most { result ≤ MAX_FLOWS }
     {
-        self.bytes.len() as u32
+        self.flows
     }
 
     /// The bytes of a flow.
@@ -98,10 +131,9 @@ impl WinnerTree {
         ensures none { IsNone result ↔ All (λ b. b ≡ 0) self.now.bytes }
         ensures winner { IfSome result (HasMostBytes self.now.bytes) }
     {
-        // The one flow of a tree with no inner node is flow 0.
-        let root = self.winners.get(1).copied().unwrap_or(0);
-        if self.bytes[root as usize] > 0 {
-            Some(root)
+        let most = self.winners[self.top.node];
+        if self.bytes[most as usize] > 0 {
+            Some(most)
         } else {
             None
         }
@@ -145,42 +177,25 @@ fn levels_over(flows: u32) -> u32
     levels
 }
 
-// The winners in a tree of so many leaves, where no flow has bytes.
+// What the nodes hold in a tree of so many leaves, where no flow has bytes: a leaf holds its flow, and an inner node
+// what the left one of the nodes below it does.
 fn first_winners(alloc: Global, leaves: usize) -> Result<Vec<u32>, Memory>
     requires { leaves ≤ MAX_FLOWS }
-    ensures leaves { IfOk result (λ w. vec_len w ≡ leaves) }
-    ensures winners { IfOk result (λ w. AreWinners [] w.items) }
+    ensures nodes { IfOk result (λ w. vec_len w ≡ 2 * leaves) }
+    ensures below { IfOk result (λ w. AreBelowFrom leaves 1 w.items) }
 {
-    let mut winners = vec![in alloc; 0; leaves]?;
-    let mut node = leaves;
+    let mut winners = vec![in alloc; 0; 2 * leaves]?;
+    let mut node = 2 * leaves;
     while node > 1 {
         node -= 1;
-        let left = winner_at(&winners, 2 * node);
-        let right = winner_at(&winners, 2 * node + 1);
-        winners[node] = left.min(right);
+        let held = if node < leaves {
+            winners[2 * node]
+        } else {
+            (node - leaves) as u32
+        };
+        winners[node] = held;
     }
     Ok(winners)
-}
-
-// The winner at a node, which at a leaf is the leaf's flow.
-fn winner_at(winners: &[u32], node: usize) -> u32
-    requires node { node < 2 * length winners.now }
-    requires most { length winners.now ≤ MAX_FLOWS }
-    ensures inner { node < length winners.now → result ≡ slice_index winners.now node }
-    ensures leaf { length winners.now ≤ node → result + length winners.now ≡ node }
-{
-    if node < winners.len() {
-        winners[node]
-    } else {
-        (node - winners.len()) as u32
-    }
-}
-
-// The bytes of a flow, 0 for a leaf that has none.
-fn bytes_of(bytes: &[u64], flow: u32) -> u64
-    ensures { result ≡ slice_index bytes.now flow }
-{
-    bytes.get(flow as usize).copied().unwrap_or(0)
 }
 
 // So many comparisons more. At `u64::MAX` the number stays there.
@@ -209,31 +224,42 @@ fn node_beside(node: usize) -> usize
     node ^ 1
 }
 
-// A flow's count grew: it wins at each node above its leaf, up to the first where another flow still does. The result
-// is how often two counts were compared.
-fn raise(bytes: &[u64], winners: &mut [u32], flow: u32) -> u64
+// A flow's count grows to that one, which isn't among the bytes yet: it wins at each node above its leaf, up to the
+// first where another flow still does, or to the top. Where it stands outside of that, the top moves: to its leaf if no
+// flow had bytes, else up. The result is how often two counts were compared.
+fn raise(bytes: &[u64], winners: &mut [u32], top: &mut Top, flow: u32, own: u64) -> u64
     requires flow { flow < length bytes.now }
     requires small { All (λ b. b < 2 ^ 63) bytes.now }
-    requires leaves { HasLeaves (length bytes.now) (length winners.old) }
-    requires grown { HasGrown bytes.now winners.old flow }
-    ensures winners { AreWinners bytes.now winners.new }
-    ensures few { (levels : ℕ) → length winners.old ≡ 2 ^ levels → result ≤ levels }
-    ensures compares { 2 ≤ length winners.old → 1 ≤ result }
+    requires tree { IsTree (length bytes.now) bytes.now winners.old top.old.node top.old.height }
+    requires grows { slice_index bytes.now flow ≤ own }
+    ensures tree { IsTree (length bytes.now) (slice_set bytes.now flow own) winners.new top.new.node top.new.height }
+    ensures few { (levels : ℕ) → length bytes.now ≡ 2 ^ levels → result ≤ levels }
+    ensures compares { 2 ≤ length bytes.now → 1 ≤ result }
 {
-    let mut node = winners.len() + flow as usize;
+    let leaf = bytes.len() + flow as usize;
     // One flow has no node above its leaf.
-    if node < 2 {
+    if leaf < 2 {
         return 0;
     }
+    let most = winners[top.node];
+    let most_bytes = bytes[most as usize];
+    if most_bytes > 0 && leaf >> top.height != top.node {
+        return rise(bytes, winners, top, flow, own);
+    }
     let mut comparisons = 0;
-    let own = bytes[flow as usize];
-    let root = winners[1];
-    if !wins_over(&mut comparisons, flow, own, root, bytes_of(bytes, root)) {
-        return climb(bytes, winners, flow);
+    let wins = wins_over(&mut comparisons, flow, own, most, most_bytes);
+    if most_bytes == 0 {
+        // No flow had bytes, and so no other one has.
+        *top = Top::of_leaf(leaf);
+        return comparisons;
+    }
+    if !wins {
+        return climb(bytes, winners, *top, flow, own);
     }
     // It wins over the winner of all flows, and so over each one. Where it is that winner, no node changes.
-    if root != flow {
-        while node > 1 {
+    if most != flow {
+        let mut node = leaf;
+        while node != top.node {
             node /= 2;
             winners[node] = flow;
         }
@@ -241,29 +267,27 @@ fn raise(bytes: &[u64], winners: &mut [u32], flow: u32) -> u64
     comparisons
 }
 
-// The same where another flow still wins at the root, which isn't compared again: that one comparison is in the result.
-fn climb(bytes: &[u64], winners: &mut [u32], flow: u32) -> u64
+// The same where another flow still wins at the top, which isn't compared again: that one comparison is in the result.
+fn climb(bytes: &[u64], winners: &mut [u32], top: Top, flow: u32, own: u64) -> u64
     requires flow { flow < length bytes.now }
-    requires some { 2 ≤ length winners.old }
     requires small { All (λ b. b < 2 ^ 63) bytes.now }
-    requires leaves { HasLeaves (length bytes.now) (length winners.old) }
-    requires grown { HasGrown bytes.now winners.old flow }
-    requires another { slice_index winners.old 1 ≢ flow }
-    requires loses { WinsOver bytes.now (slice_index winners.old 1) flow }
-    ensures winners { AreWinners bytes.now winners.new }
-    ensures few { (levels : ℕ) → length winners.old ≡ 2 ^ levels → result ≤ levels }
+    requires tree { IsTree (length bytes.now) bytes.now winners.old top.node top.height }
+    requires below { IsBelow (length bytes.now) top.node flow }
+    requires grows { slice_index bytes.now flow ≤ own }
+    requires another { slice_index winners.old top.node ≢ flow }
+    requires loses { WinsOver (slice_set bytes.now flow own) (slice_index winners.old top.node) flow }
+    ensures tree { IsTree (length bytes.now) (slice_set bytes.now flow own) winners.new top.node top.height }
+    ensures few { (levels : ℕ) → length bytes.now ≡ 2 ^ levels → result ≤ levels }
     ensures compares { 1 ≤ result }
 {
-    let own = bytes[flow as usize];
     let mut comparisons = 1;
-    let mut node = winners.len() + flow as usize;
-    // The root stands over nodes 2 and 3.
-    while node > 3 {
+    let mut node = bytes.len() + flow as usize;
+    while node / 2 > top.node {
         node /= 2;
         let winner = winners[node];
         // Where it won already it still does, with nothing to compare.
         if winner != flow {
-            if !wins_over(&mut comparisons, flow, own, winner, bytes_of(bytes, winner)) {
+            if !wins_over(&mut comparisons, flow, own, winner, bytes[winner as usize]) {
                 return comparisons;
             }
             winners[node] = flow;
@@ -272,32 +296,66 @@ fn climb(bytes: &[u64], winners: &mut [u32], flow: u32) -> u64
     comparisons
 }
 
-// A flow's count fell: each node above its leaf gets its winner anew, up to the first where another flow won. The
-// result is how often two counts were compared: once at each node where the flow had won.
-fn lower(bytes: &[u64], winners: &mut [u32], flow: u32) -> u64
+// The top rises to the lowest node above it and above the leaf of a flow outside of it. On the way up there the nodes
+// above the old top get its winner and those above the leaf get the flow, and where both ways meet the two are
+// compared. It is seldom called, and so kept out of its caller: the top only rises while any flow has bytes.
+#[inline(never)]
+fn rise(bytes: &[u64], winners: &mut [u32], top: &mut Top, flow: u32, own: u64) -> u64
     requires flow { flow < length bytes.now }
     requires small { All (λ b. b < 2 ^ 63) bytes.now }
-    requires leaves { HasLeaves (length bytes.now) (length winners.old) }
-    requires fallen { HasFallen bytes.now winners.old flow }
-    ensures winners { AreWinners bytes.now winners.new }
-    ensures few { (levels : ℕ) → length winners.old ≡ 2 ^ levels → result ≤ levels }
+    requires tree { IsTree (length bytes.now) bytes.now winners.old top.old.node top.old.height }
+    requires waits { 0 < slice_index bytes.now (slice_index winners.old top.old.node) }
+    requires outside { ¬ IsBelow (length bytes.now) top.old.node flow }
+    ensures tree { IsTree (length bytes.now) (slice_set bytes.now flow own) winners.new top.new.node top.new.height }
+    ensures counted { result ≡ 1 }
 {
-    let mut node = winners.len() + flow as usize;
+    let most = winners[top.node];
+    let mut node = bytes.len() + flow as usize;
+    // Neither goes past the node where they meet: the one of the lesser number waits.
+    while node != top.node {
+        if node > top.node {
+            node /= 2;
+            winners[node] = flow;
+        } else {
+            top.node /= 2;
+            top.height += 1;
+            winners[top.node] = most;
+        }
+    }
+    let mut comparisons = 0;
+    let wins = wins_over(&mut comparisons, flow, own, most, bytes[most as usize]);
+    winners[node] = if wins { flow } else { most };
+    comparisons
+}
+
+// A flow's count falls to that one, which isn't among the bytes yet: each node from its leaf to the top gets its
+// winner anew, up to the first where another flow won. The result is how often two counts were compared: once at each
+// node where the flow had won.
+fn lower(bytes: &[u64], winners: &mut [u32], top: Top, flow: u32, own: u64) -> u64
+    requires flow { flow < length bytes.now }
+    requires small { All (λ b. b < 2 ^ 63) bytes.now }
+    requires tree { IsTree (length bytes.now) bytes.now winners.old top.node top.height }
+    requires waits { 0 < slice_index bytes.now flow }
+    requires falls { own ≤ slice_index bytes.now flow }
+    ensures tree { IsTree (length bytes.now) (slice_set bytes.now flow own) winners.new top.node top.height }
+    ensures few { (levels : ℕ) → length bytes.now ≡ 2 ^ levels → result ≤ levels }
+{
+    let mut node = bytes.len() + flow as usize;
     let mut comparisons = 0;
     // The winner so far and its bytes are carried along, so that no level waits for what the one below wrote.
     let mut winner = flow;
-    let mut own = bytes[flow as usize];
-    while node > 1 {
+    let mut most = own;
+    while node > top.node {
         let beside = node_beside(node);
         node /= 2;
         if winners[node] != flow {
             return comparisons;
         }
-        let other = winner_at(winners, beside);
-        let other_bytes = bytes_of(bytes, other);
-        if !wins_over(&mut comparisons, winner, own, other, other_bytes) {
+        let other = winners[beside];
+        let other_bytes = bytes[other as usize];
+        if !wins_over(&mut comparisons, winner, most, other, other_bytes) {
             winner = other;
-            own = other_bytes;
+            most = other_bytes;
         }
         winners[node] = winner;
     }

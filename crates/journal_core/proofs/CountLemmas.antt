@@ -57,9 +57,9 @@ module _ (c c' : Counts) (events : List Event) (e : Event) (h : AreCounts c even
       counts_push grow (ap (λ accepted. bytes_named accepted (filter_map sent_of (events ++ e ∷ []))) same) (ap (λ accepted. bytes_named accepted (filter_map dropped_of (events ++ e ∷ []))) same)
 
 -- an acceptance
-pub counts_accept : (c : Counts) (events : List Event) (id moment lane flow : ℕ) (packet : PacketParts) → AreFound (acceptances events) (fate_ids events) → AreCounts c events → AreCounts (count_accepted c packet.len) (events ++ Accepted id moment lane flow packet ∷ [])
+pub counts_accept : (c : Counts) (events : List Event) (id moment lane flow : ℕ) (packet : PacketParts) → AreFound (acceptances events) (fate_ids events) → AreCounts c events → AreCounts (count_accepted c packet.len) (events ++ Accepted lane id moment flow packet ∷ [])
 counts_accept c events id moment lane flow packet found h =
-    let e : Event = Accepted id moment lane flow packet in
+    let e : Event = Accepted lane id moment flow packet in
     let a : Acceptance = record { id = id; moment = moment; lane = lane; flow = flow; packet = packet } in
     let accepted : acceptances (events ++ e ∷ []) ≡ acceptances events ++ a ∷ [] = filter_map_push acceptance_of events e a refl in
     let parts = parts_of (λ i. (b : Acceptance) × (named (acceptances events) i ≡ Some b)) events found in
@@ -70,7 +70,7 @@ counts_accept c events id moment lane flow packet found h =
     -- what holds of each fate's id holds of those sent, and of those dropped
     parts_of : (P : ℕ → Type 0) (events : List Event) → AllByRecursion P (fate_ids events) → AllByRecursion P (filter_map sent_of events) × AllByRecursion P (filter_map dropped_of events)
     parts_of P [] h = (tt, tt)
-    parts_of P (Accepted id moment lane flow packet ∷ events) h = parts_of P events h
+    parts_of P (Accepted lane id moment flow packet ∷ events) h = parts_of P events h
     parts_of P (Sent id moment ecn mark ∷ events) h = let rest = parts_of P events h.1 in ((h.0, rest.0), rest.1)
     parts_of P (Dropped id moment cause ∷ events) h = let rest = parts_of P events h.1 in (rest.0, (h.0, rest.1))
     parts_of P (Closed moment ∷ events) h = parts_of P events h

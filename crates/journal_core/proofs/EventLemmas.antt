@@ -75,7 +75,7 @@ found_stays None other P h = absurd h
 found_stays (Some a) other P h = h
 
 honest_stays : (accepted more : List Acceptance) (e : Event) → IsHonest accepted e → IsHonest (accepted ++ more) e
-honest_stays accepted more (Accepted id moment lane flow packet) h = tt
+honest_stays accepted more (Accepted lane id moment flow packet) h = tt
 honest_stays accepted more (Sent id moment ecn mark) h = rw (find-append (λ (b : Acceptance). b.id == id) accepted more) (found_stays (named accepted id) (named more id) _ h)
 honest_stays accepted more (Dropped id moment cause) h = tt
 honest_stays accepted more (Closed moment) h = tt

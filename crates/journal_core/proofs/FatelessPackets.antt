@@ -63,7 +63,7 @@ count_fated test accepted ids = λ k. sum_by (λ id. at (named accepted id) k) i
 -- A fate is a packet sent or a packet dropped.
 pub sum_fates : (g : ℕ → ℕ) (events : List Event) → sum_by g (fate_ids events) ≡ sum_by g (filter_map sent_of events) + sum_by g (filter_map dropped_of events)
 sum_fates g [] = omega arith
-sum_fates g (Accepted id moment lane flow packet ∷ events) = sum_fates g events
+sum_fates g (Accepted lane id moment flow packet ∷ events) = sum_fates g events
 sum_fates g (Sent id moment ecn mark ∷ events) =
     let ih = sum_fates g events in let one = sum_by-cons g id (fate_ids events) in let other = sum_by-cons g id (filter_map sent_of events) in omega arith
 sum_fates g (Dropped id moment cause ∷ events) =

@@ -59,9 +59,9 @@ module _ (flow_of : FiveTuple → ℕ) (events : List Event) (n last : ℕ) wher
 
   -- A packet is accepted at a moment that is not before the last one, where there was no close.
   pub history_accepts : (queue_of : ℕ → List Waiting) (moment lane : ℕ) (packet : PacketParts) → IsHistory flow_of queue_of events n last false → last ≤ moment
-      → IsHistory flow_of (with_arrival queue_of (flow_of packet.tuple) (record { id = n; stamp = moment; packet = packet })) (events ++ Accepted n moment lane (flow_of packet.tuple) packet ∷ []) (n + 1) moment false
+      → IsHistory flow_of (with_arrival queue_of (flow_of packet.tuple) (record { id = n; stamp = moment; packet = packet })) (events ++ Accepted lane n moment (flow_of packet.tuple) packet ∷ []) (n + 1) moment false
   history_accepts queue_of moment lane packet h later =
-      let e : Event = Accepted n moment lane (flow_of packet.tuple) packet in
+      let e : Event = Accepted lane n moment (flow_of packet.tuple) packet in
       let a : Acceptance = record { id = n; moment = moment; lane = lane; flow = flow_of packet.tuple; packet = packet } in
       let accepted : acceptances (events ++ e ∷ []) ≡ acceptances events ++ a ∷ [] = filter_map_push acceptance_of events e a refl in
       let fated : fate_ids (events ++ e ∷ []) ≡ fate_ids events = filter_map_same fate_of events e refl in

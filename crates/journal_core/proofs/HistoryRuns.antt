@@ -118,7 +118,7 @@ module _ {Q : Type 0} (d : Discipline Q) (queue_of : Q → ℕ → List Waiting)
   keeps_admits old new moment lane packet made events fits m h =
       let known = (enqueue_open old moment lane packet fits).0 in
       let w = arrival old moment packet in
-      let e = Accepted old.next_id moment lane (d.flow_of packet.tuple) packet in
+      let e = Accepted lane old.next_id moment (d.flow_of packet.tuple) packet in
       let before : IsHistory d.flow_of (queue_of old.queues) events old.next_id old.last false = subst (λ b. IsHistory d.flow_of (queue_of old.queues) events old.next_id old.last b) known.open' h in
       let accepted = history_accepts d.flow_of events old.next_id old.last (queue_of old.queues) moment lane packet before known.next.later in
       let batches = fifo.admits old.queues w m.lost new.queues m.queues in

@@ -3,7 +3,7 @@ use Rattle.std.proofs.Common.{◌≡◌, ℕ, ◌<◌, Bool, true, not, List, �
 use Rattle.std.specs.Str.{bytes_eq}
 use Rattle.std.proofs.lemmas.Slice.Eq.{bytes_eq-Decides}
 use Rattle.packet_core.specs.declared.packet.Ip.{Ip}
-use Rattle.packet_core.specs.declared.packet.Ip.TheVariants.{V4}
+use Rattle.packet_core.specs.declared.packet.Ip.TheVariants.{V4, V6}
 use Rattle.journal_core.proofs.Words.{AllByRecursion, range_with_len, eq-eqb, Decides-and, Decides-eqb, Decides-like, map-append, take_at, length-map, recursion_from_All, filter-append, length-range_with_len, same_ip, same_tuple, FiveTuple, Waiting, Event, Acceptance, waiting_of, acceptances, fate_ids, named, is_among, passes, JournalLaws, WaitWithoutFate, IsHistory, IsLine}
 use Rattle.journal_core.proofs.ListLemmas.{filter_agree_on, filter_comm, filter_within, filter-map, All-found, ByRecursion-weaker, ByRecursion-all}
 use Rattle.journal_core.proofs.IdLemmas.{id_of, Rises, Rises-range, Rises-filter, Rises-rest, passes_at, is_among-filter}
@@ -14,6 +14,9 @@ use Rattle.journal_core.proofs.EventLemmas.{all_found}
 -- the tests of addresses and of five-tuples are right
 same_ip-Decides : (a b : Ip) → Decides (same_ip a b) (a ≡ b)
 same_ip-Decides (V4 a) (V4 b) = Decides-like (bytes_eq a b) (ap V4) (λ e. cc) (bytes_eq-Decides a b)
+same_ip-Decides (V6 a) (V6 b) = Decides-like (bytes_eq a b) (ap V6) (λ e. cc) (bytes_eq-Decides a b)
+same_ip-Decides (V4 a) (V6 b) = (λ e. cc, λ e. cc)
+same_ip-Decides (V6 a) (V4 b) = (λ e. cc, λ e. cc)
 
 pub same_tuple-Decides : (a b : FiveTuple) → Decides (same_tuple a b) (a ≡ b)
 same_tuple-Decides a b =

@@ -16,3 +16,4 @@ pub mod StepTotals
 pub mod RunsWithoutRefused
 pub mod TallyLemmas
 pub mod Walks
+pub mod TupleEquality

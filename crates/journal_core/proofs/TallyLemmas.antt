@@ -75,8 +75,8 @@ tallied_adds tuples rows places accepted a place at h = record {
     placed false at = placed_push tuples (tuple_of a ∷ []) places accepted place a at h.places_are
 
 -- an event that is no acceptance
-pub nothing_accepted : (e : Event) → ((id moment lane flow : ℕ) (packet : PacketParts) → e ≡ Accepted id moment lane flow packet → ⊥) → acceptance_of e ≡ None
-nothing_accepted (Accepted id moment lane flow packet) other = absurd (other id moment lane flow packet refl)
+pub nothing_accepted : (e : Event) → ((lane id moment flow : ℕ) (packet : PacketParts) → e ≡ Accepted lane id moment flow packet → ⊥) → acceptance_of e ≡ None
+nothing_accepted (Accepted lane id moment flow packet) other = absurd (other lane id moment flow packet refl)
 nothing_accepted (Sent id moment ecn mark) other = refl
 nothing_accepted (Dropped id moment cause) other = refl
 nothing_accepted (Closed moment) other = refl
@@ -137,8 +137,8 @@ module _ (accepted : List Acceptance) (seen : List Event) (first : Acceptance) w
 
   row_counts : (e : Event) (id : ℕ) (who : Acceptance) → packet_id_of e ≡ Some id → named accepted id ≡ Some who → ((a : Acceptance) → acceptance_of e ≡ Some a → a ≡ who)
       → row_so_far accepted (seen ++ e ∷ []) first ≡ cond (own who) (counted e (row_so_far accepted seen first)) (row_so_far accepted seen first)
-  row_counts (Accepted n moment lane flow packet) id who of_id found same =
-      let e : Event = Accepted n moment lane flow packet in
+  row_counts (Accepted lane n moment flow packet) id who of_id found same =
+      let e : Event = Accepted lane n moment flow packet in
       let one = sum_more (λ x. cond (own x) 1 0) acceptance_of seen e ∙ ap (λ (b : Acceptance). count_by own (acceptances seen) + (0 + cond (own b) 1 0)) (same (record { id = n; moment = moment; lane = lane; flow = flow; packet = packet }) refl) in
       grown (own who) _ _ _ _ _ _ _ _ _ (one_more (own who) _ _ one) (none_more (own who) _ _ (sum_more (λ x. cond (named_own x) 1 0) sent_of seen e)) (none_more (own who) _ _ (sum_more (λ x. cond (named_own x) 1 0) dropped_of seen e))
   row_counts (Sent n moment ecn mark) id who of_id found same =
@@ -151,7 +151,7 @@ module _ (accepted : List Acceptance) (seen : List Event) (first : Acceptance) w
 
   -- one that is of no packet changes none
   row_stays : (e : Event) → packet_id_of e ≡ None → row_so_far accepted (seen ++ e ∷ []) first ≡ row_so_far accepted seen first
-  row_stays (Accepted n moment lane flow packet) none = absurd cc
+  row_stays (Accepted lane n moment flow packet) none = absurd cc
   row_stays (Sent n moment ecn mark) none = absurd cc
   row_stays (Dropped n moment cause) none = absurd cc
   row_stays (Closed moment) none =
@@ -205,7 +205,7 @@ module _ (events : List Event) (ids : IdsInOrder events) (follow : FatesFollow e
       record { who = found.0; below = below; found = found.1; same = λ a is. absurd cc }
 
   pub event_packet : (place : ℕ) (d e : Event) (id : ℕ) → place < length events → get_or events place d ≡ e → packet_id_of e ≡ Some id → IsOfPacket (acceptances events) e id
-  event_packet place d (Accepted n moment lane flow packet) id low is of_id =
+  event_packet place d (Accepted lane n moment flow packet) id low is of_id =
       let a : Acceptance = record { id = n; moment = moment; lane = lane; flow = flow; packet = packet } in
       let accepted = acceptances events in
       let is_id : n ≡ id = cc in

@@ -19,7 +19,7 @@ abbrev pub waiting_of : Acceptance → Waiting
 waiting_of a = record { id = a.id; stamp = a.moment; packet = a.packet }
 
 abbrev pub acceptance_of : Event → Option Acceptance
-acceptance_of (Accepted id moment lane flow packet) =
+acceptance_of (Accepted lane id moment flow packet) =
     Some (record { id = id; moment = moment; lane = lane; flow = flow; packet = packet })
 acceptance_of (Sent id moment ecn mark) = None
 acceptance_of (Dropped id moment cause) = None
@@ -27,26 +27,26 @@ acceptance_of (Closed moment) = None
 
 -- A fate is a Sent or a Dropped: the id that it names.
 abbrev pub fate_of : Event → Option ℕ
-fate_of (Accepted id moment lane flow packet) = None
+fate_of (Accepted lane id moment flow packet) = None
 fate_of (Sent id moment ecn mark) = Some id
 fate_of (Dropped id moment cause) = Some id
 fate_of (Closed moment) = None
 
 -- the id of the packet that the event is of; a close is of none
 abbrev pub packet_id_of : Event → Option ℕ
-packet_id_of (Accepted id moment lane flow packet) = Some id
+packet_id_of (Accepted lane id moment flow packet) = Some id
 packet_id_of (Sent id moment ecn mark) = Some id
 packet_id_of (Dropped id moment cause) = Some id
 packet_id_of (Closed moment) = None
 
 abbrev pub moment_of : Event → ℕ
-moment_of (Accepted id moment lane flow packet) = moment
+moment_of (Accepted lane id moment flow packet) = moment
 moment_of (Sent id moment ecn mark) = moment
 moment_of (Dropped id moment cause) = moment
 moment_of (Closed moment) = moment
 
 abbrev pub is_closed : Event → Bool
-is_closed (Accepted id moment lane flow packet) = false
+is_closed (Accepted lane id moment flow packet) = false
 is_closed (Sent id moment ecn mark) = false
 is_closed (Dropped id moment cause) = false
 is_closed (Closed moment) = true

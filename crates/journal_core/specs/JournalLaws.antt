@@ -47,7 +47,7 @@ LeaveInOrder test events =
 
 -- an entry that may not stand behind a Closed
 abbrev pub is_barred : Event → Bool
-is_barred (Accepted id moment lane flow packet) = true
+is_barred (Accepted lane id moment flow packet) = true
 is_barred (Sent id moment ecn mark) = false
 is_barred (Dropped id moment cause) = false
 is_barred (Closed moment) = true
@@ -62,7 +62,7 @@ IsClosedForGood (e ∷ events) = (is_closed e ≡ true → list_any is_barred ev
 -- A packet is sent with the field that it was accepted with, or with CE where it has a mark, and then its sender
 -- takes part.
 abbrev pub IsHonest : List Acceptance → Event → Type 0
-IsHonest accepted (Accepted id moment lane flow packet) = Unit {0}
+IsHonest accepted (Accepted lane id moment flow packet) = Unit {0}
 IsHonest accepted (Sent id moment ecn mark) =
     IsSomeAnd (named accepted id) (λ a. (ecn ≡ sent_ecn mark a.packet.ecn) × MayHave mark a.packet.ecn)
 IsHonest accepted (Dropped id moment cause) = Unit {0}

@@ -10,21 +10,21 @@ use Rattle.journal_core.specs.Happened.{Acceptance, is_closed, acceptances, name
 
 -- the id that a Sent names
 abbrev pub sent_of : Event → Option ℕ
-sent_of (Accepted id moment lane flow packet) = None
+sent_of (Accepted lane id moment flow packet) = None
 sent_of (Sent id moment ecn mark) = Some id
 sent_of (Dropped id moment cause) = None
 sent_of (Closed moment) = None
 
 -- the id that a Dropped names
 abbrev pub dropped_of : Event → Option ℕ
-dropped_of (Accepted id moment lane flow packet) = None
+dropped_of (Accepted lane id moment flow packet) = None
 dropped_of (Sent id moment ecn mark) = None
 dropped_of (Dropped id moment cause) = Some id
 dropped_of (Closed moment) = None
 
 -- a drop by CoDel
 abbrev pub is_codel_drop : Event → Bool
-is_codel_drop (Accepted id moment lane flow packet) = false
+is_codel_drop (Accepted lane id moment flow packet) = false
 is_codel_drop (Sent id moment ecn mark) = false
 is_codel_drop (Dropped id moment Codel) = true
 is_codel_drop (Dropped id moment Overflow) = false
@@ -32,7 +32,7 @@ is_codel_drop (Closed moment) = false
 
 -- a drop by overflow
 abbrev pub is_overflow_drop : Event → Bool
-is_overflow_drop (Accepted id moment lane flow packet) = false
+is_overflow_drop (Accepted lane id moment flow packet) = false
 is_overflow_drop (Sent id moment ecn mark) = false
 is_overflow_drop (Dropped id moment Codel) = false
 is_overflow_drop (Dropped id moment Overflow) = true
@@ -40,7 +40,7 @@ is_overflow_drop (Closed moment) = false
 
 -- a packet sent with a mark of CoDel's
 abbrev pub is_marked : Event → Bool
-is_marked (Accepted id moment lane flow packet) = false
+is_marked (Accepted lane id moment flow packet) = false
 is_marked (Sent id moment ecn NoMark) = false
 is_marked (Sent id moment ecn CodelMark) = true
 is_marked (Sent id moment ecn Threshold) = false
@@ -49,7 +49,7 @@ is_marked (Closed moment) = false
 
 -- a packet sent with a mark for the threshold
 abbrev pub is_threshold_marked : Event → Bool
-is_threshold_marked (Accepted id moment lane flow packet) = false
+is_threshold_marked (Accepted lane id moment flow packet) = false
 is_threshold_marked (Sent id moment ecn NoMark) = false
 is_threshold_marked (Sent id moment ecn CodelMark) = false
 is_threshold_marked (Sent id moment ecn Threshold) = true

@@ -33,7 +33,7 @@ pub record Admits {Q : Type 0} (d : Discipline Q) (old : State Q) (moment lane :
     (events : List Event) (new : State Q) : Type 0 where
   pub lost : List Waiting
   pub queues : d.admits old.queues (arrival old moment packet) lost new.queues
-  pub told : events ≡ event.Accepted old.next_id moment lane (d.flow_of packet.tuple) packet
+  pub told : events ≡ event.Accepted lane old.next_id moment (d.flow_of packet.tuple) packet
       ∷ map (drop_event moment cause.Overflow) lost
   pub next_id : new.next_id ≡ old.next_id + 1
   pub last : new.last ≡ moment

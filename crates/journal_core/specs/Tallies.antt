@@ -24,7 +24,7 @@ empty_row tuple flow = record { tuple = tuple; flow = flow; accepted = 0; sent =
 
 -- a row with one event more
 abbrev pub counted : Event → TupleRow → TupleRow
-counted (Accepted id moment lane flow packet) row = record row { accepted = row.accepted + 1 }
+counted (Accepted lane id moment flow packet) row = record row { accepted = row.accepted + 1 }
 counted (Sent id moment ecn mark) row = record row { sent = row.sent + 1 }
 counted (Dropped id moment cause) row = record row { dropped = row.dropped + 1 }
 counted (Closed moment) row = row

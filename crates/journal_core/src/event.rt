@@ -20,12 +20,13 @@ pub enum Cause {
 pub enum Event {
     /// A packet was accepted into the queue of a flow.
     Accepted {
+        /// The lane that it came from.
+        // It stands first since it fills the place behind the mark of the variant: an event has 72 bytes, and not 80.
+        lane: u32,
         /// The packet's id.
         id: u64,
         /// The moment of the enqueue.
         moment: u64,
-        /// The lane that it came from.
-        lane: u32,
         /// The flow.
         flow: u32,
         /// The packet as it came.

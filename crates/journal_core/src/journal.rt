@@ -107,7 +107,7 @@ impl<K: Keeps<Event>> Journal<K> {
     pub fn accept(&mut self, waiting: &Waiting, lane: u32, flow: u32)
         requires { 0 < self.old.room }
         ensures { self.new ≡ with_event self.old
-            (Accepted waiting.now.id waiting.now.stamp lane flow waiting.now.packet)
+            (Accepted lane waiting.now.id waiting.now.stamp flow waiting.now.packet)
             (count_accepted self.old.counts waiting.now.packet.len) }
     {
         self.counts.accepted += 1;

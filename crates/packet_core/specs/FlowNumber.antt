@@ -8,12 +8,12 @@ use Rattle.packet_core.specs.declared.flow.Seed.{Seed}
 use Rattle.packet_core.specs.declared.params.Classify.{Classify}
 use Rattle.packet_core.specs.declared.params.Classify.TheVariants.{Dport, Hash}
 
--- the 13 bytes of a five-tuple: protocol, source address, destination address, source port and destination port,
--- each with its high byte first
+-- the bytes of a five-tuple: protocol, source address, destination address, source port and destination port, each with
+-- its high byte first; 13 where both addresses are of IPv4, 37 where both are of IPv6
 abbrev pub tuple_bytes : FiveTuple → List ℕ
 tuple_bytes t = t.proto ∷ ip_bytes t.src ++ ip_bytes t.dst ++ to_be_bytes w16 t.sport ++ to_be_bytes w16 t.dport
 
--- the 29 bytes that are hashed
+-- what is hashed: 29 bytes for IPv4, 53 for IPv6, which are one block of the hash
 unfoldable pub hashed_message : Seed → FiveTuple → List ℕ
 hashed_message seed tuple = seed.0 ++ tuple_bytes tuple
 

@@ -14,17 +14,31 @@ pub const MAX_LENGTH: u32 = 65_535;
 pub enum Ip {
     /// The four bytes of an IPv4 address, the first one first.
     V4([u8; 4]),
+    /// The sixteen bytes of an IPv6 address (RFC 4291, section 2), the first one first.
+    V6([u8; 16]),
 }
 
 impl Ip {
-    ghost use Rattle.packet_core.specs.Packets.{ip_bytes};
+    ghost use Rattle.packet_core.specs.Packets.{ip_bytes, is_ipv6};
 
-    /// The address's bytes, the first one first.
-    pub fn octets(self) -> [u8; 4]
-        ensures { result ≡ ip_bytes self }
+    /// The address's bytes, the first one first: four of IPv4, sixteen of IPv6.
+    pub fn octets(&self) -> &[u8]
+        ensures { result.now ≡ ip_bytes self.now }
     {
-        let Ip::V4(octets) = self;
-        octets
+        match self {
+            Ip::V4(octets) => octets,
+            Ip::V6(octets) => octets,
+        }
+    }
+
+    /// Whether it is an address of IPv6.
+    pub fn is_ipv6(&self) -> bool
+        ensures { result ≡ is_ipv6 self.now }
+    {
+        match self {
+            Ip::V4(_) => false,
+            Ip::V6(_) => true,
+        }
     }
 }
 
@@ -60,7 +74,8 @@ pub enum Ecn {
 #[derive(Clone, Copy, Debug, PartialEq, Eq, Hash)]
 pub struct Packet {
     tuple: FiveTuple,
-    len: u32,
+    // Two bytes are enough, and keep what waits and the journal small.
+    len: u16,
     ecn: Ecn,
 }
 
@@ -87,10 +102,10 @@ impl Packet {
         ensures range { IsOk result ↔ IsLengthInRange len }
         ensures parts { IfOk result (λ p. p ≡ record { tuple = tuple; len = len; ecn = ecn }) }
     {
-        if len == 0 || len > MAX_LENGTH {
-            return Err(LengthOutOfRange);
+        match u16::try_from(len) {
+            Ok(len) if len > 0 => Ok(Packet { tuple, len, ecn }),
+            _ => Err(LengthOutOfRange),
         }
-        Ok(Packet { tuple, len, ecn })
     }
 
     /// The five-tuple.
@@ -105,7 +120,7 @@ impl Packet {
         ensures value { result ≡ self.now.len }
         ensures range { IsLengthInRange result }
     {
-        self.len
+        u32::from(self.len)
     }
 
     /// The ECN field.

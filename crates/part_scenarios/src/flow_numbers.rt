@@ -53,6 +53,33 @@ const ENDS: FiveTuple = FiveTuple {
     dport: 1,
 };
 
+/// A request of IPv6 for a page, from 2001:db8::1 to 2001:db8::2.
+const IPV6_REQUEST: FiveTuple = FiveTuple {
+    proto: 6,
+    src: Ip::V6([32, 1, 13, 184, 0, 0, 0, 0, 0, 0, 0, 0, 0, 0, 0, 1]),
+    dst: Ip::V6([32, 1, 13, 184, 0, 0, 0, 0, 0, 0, 0, 0, 0, 0, 0, 2]),
+    sport: 5000,
+    dport: 443,
+};
+
+/// The query with its addresses mapped into IPv6, which makes it another five-tuple.
+const MAPPED_QUERY: FiveTuple = FiveTuple {
+    proto: 17,
+    src: Ip::V6([0, 0, 0, 0, 0, 0, 0, 0, 0, 0, 255, 255, 10, 0, 0, 1]),
+    dst: Ip::V6([0, 0, 0, 0, 0, 0, 0, 0, 0, 0, 255, 255, 10, 0, 0, 2]),
+    sport: 5000,
+    dport: 53,
+};
+
+/// A five-tuple with an address of each kind, as only a caller can make it.
+const BOTH_KINDS: FiveTuple = FiveTuple {
+    proto: 17,
+    src: Ip::V4([10, 0, 0, 1]),
+    dst: Ip::V6([32, 1, 13, 184, 0, 0, 0, 0, 0, 0, 0, 0, 0, 0, 0, 2]),
+    sport: 5000,
+    dport: 53,
+};
+
 /// The standard parameters with this number of flows, found in this way.
 fn with_flows(classify: Classify, flows: u32) -> Result<Params, ParamName> {
     Params::try_new(ParamFields {
@@ -62,7 +89,7 @@ fn with_flows(classify: Classify, flows: u32) -> Result<Params, ParamName> {
     })
 }
 
-/// The flow numbers were computed with the SHA-256 of python's hashlib, over the 29 bytes
+/// The flow numbers were computed with the SHA-256 of python's hashlib, over the query's 29 bytes
 /// 00000000000000000000000000000000 11 0a000001 0a000002 1388 0035. The hash is 4184301397059139397.
 #[test]
 fn hashed_message(rt: HostRuntime) -> Result<(), ParamName> {
@@ -80,7 +107,26 @@ fn hashed_message(rt: HostRuntime) -> Result<(), ParamName> {
     Ok(())
 }
 
-/// As computed with python's hashlib, with the seed of zeros and with the rising one; the ports by hand.
+/// The same over the 53 bytes 00000000000000000000000000000000 06 20010db8000000000000000000000001
+/// 20010db8000000000000000000000002 1388 01bb. The hash is 15403021339092855209.
+#[test]
+fn hashed_ipv6_message(rt: HostRuntime) -> Result<(), ParamName> {
+    for (flows, flow) in [
+        (1, 0),
+        (11, 5),
+        (1000, 209),
+        (1024, 425),
+        (65535, 7709),
+        (65536, 10665),
+    ] {
+        let params = with_flows(Classify::Hash, flows)?;
+        assert_eq!(rt; flow_of(&params, &ZERO_SEED, &IPV6_REQUEST), flow);
+    }
+    Ok(())
+}
+
+/// As computed with python's hashlib, with the seed of zeros and with the rising one; the ports by hand. Of a five-tuple
+/// with both kinds of address 41 bytes are hashed.
 #[test]
 fn flows_of_five_tuples(rt: HostRuntime) -> Result<(), ParamName> {
     let hashed = with_flows(Classify::Hash, 65536)?;
@@ -91,6 +137,9 @@ fn flows_of_five_tuples(rt: HostRuntime) -> Result<(), ParamName> {
         (REQUEST, 58405, 986, 443),
         (PING, 52606, 25737, 0),
         (ENDS, 19333, 40771, 1),
+        (IPV6_REQUEST, 10665, 60958, 443),
+        (MAPPED_QUERY, 7407, 30696, 53),
+        (BOTH_KINDS, 22584, 41426, 53),
     ] {
         for (params, seed, flow) in [
             (hashed, ZERO_SEED, flow_of_zeros),

@@ -36,10 +36,10 @@ none_sent lane moment None = refl
 none_sent lane moment (Some g) = refl
 
 -- an acceptance from a lane
-one_accepted : (lane id moment from flow : ℕ) (packet : PacketParts) → accepted lane (event.Accepted id moment from flow packet ∷ []) ≡ cond (from == lane) (packet ∷ []) []
+one_accepted : (lane id moment from flow : ℕ) (packet : PacketParts) → accepted lane (event.Accepted from id moment flow packet ∷ []) ≡ cond (from == lane) (packet ∷ []) []
 one_accepted lane id moment from flow packet = go (from == lane) refl
   where
-    go : (b : Bool) → (from == lane) ≡ b → accepted lane (event.Accepted id moment from flow packet ∷ []) ≡ cond (from == lane) (packet ∷ []) []
+    go : (b : Bool) → (from == lane) ≡ b → accepted lane (event.Accepted from id moment flow packet ∷ []) ≡ cond (from == lane) (packet ∷ []) []
     go true is = rw is refl
     go false is = rw is refl
 
@@ -61,7 +61,7 @@ stays_closed d old new moment a lane = stays lane old.events a.made new.events a
 pub grows_accepted : {Q : Type 0} (d : Discipline Q) (old new : Standing Q) (moment from : ℕ) (packet : PacketParts) → Advances d old (Enqueue moment from packet) answer.Accepted new
     → (lane : ℕ) → accepted lane new.events ≡ accepted lane old.events ++ cond (from == lane) (packet ∷ []) []
 grows_accepted d old new moment from packet a lane =
-    let first = event.Accepted old.state.next_id moment from (d.flow_of packet.tuple) packet in
+    let first = event.Accepted from old.state.next_id moment (d.flow_of packet.tuple) packet in
     let drops = map (drop_event moment cause.Overflow) a.makes.1.lost in
     let no_drops : accepted lane drops ≡ [] = ap (λ es. map (λ x. x.packet) (filter_map acceptance_of es)) (none_of_drops lane moment cause.Overflow a.makes.1.lost) in
     let made : accepted lane a.made ≡ cond (from == lane) (packet ∷ []) [] =

@@ -24,7 +24,7 @@ pub record Seat : Type 0 where
 
 -- the acceptance that an answer tells of, for that packet of the seat's
 abbrev pub told_event : Seat → Admitted → PacketParts → Event
-told_event s a packet = Accepted a.id a.moment s.lane a.flow packet
+told_event s a packet = Accepted s.lane a.id a.moment a.flow packet
 
 -- the seat, told of one more acceptance of its own
 abbrev pub told_also : Seat → Admitted → PacketParts → Seat
@@ -45,7 +45,7 @@ new_seats (suc n) = new_seats n ++ new_seat n ∷ []
 
 -- whether an event is an acceptance from that lane
 abbrev pub is_of : ℕ → Event → Bool
-is_of lane (Accepted id moment from flow packet) = from == lane
+is_of lane (Accepted from id moment flow packet) = from == lane
 is_of lane (Sent id moment ecn mark) = false
 is_of lane (Dropped id moment cause) = false
 is_of lane (Closed moment) = false

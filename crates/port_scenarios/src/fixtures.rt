@@ -1,13 +1,8 @@
-//! The parameters, the seed and the packets of the tests, and what every one of them does with a port or with lanes.
-
-ghost use Rattle.std.specs.Prelude.{◌≡◌, ◌≤◌, ◌<◌};
-ghost use Rattle.port_core.specs.Devices.{rings_of};
+//! The parameters, the seed and the packets of the tests, and what every one of them does with a port.
 
 use packet_core::{Classify, Ecn, FiveTuple, Ip, Packet, ParamFields, Params, Seed};
-use port_core::{
-    BookName, Device, LaneFull, LaneSender, LockedPort, MAX_BURST, PortSeat, Screen, Shown,
-};
-use sched_core::{Admitted, Engine, Event, Keeps, Refusal, Step, Totals};
+use port_core::{LockedPort, PortSeat};
+use sched_core::{Admitted, Engine, Totals};
 use std::process::Abort;
 use std::sync::Wait;
 use std::sync::ledger::Ledger;
@@ -83,68 +78,4 @@ pub(crate) fn settled<A: Ledger, S: Ledger>(
     seats: Vec<PortSeat<A, S>>,
 ) -> Result<Engine, Fail> {
     Ok(port.settle(seats).ok().ok_or("an engine")?)
-}
-
-/// The sender submits a packet to that destination port, and gets it back exactly where the lane is full.
-pub(crate) fn submits<R: Abort>(
-    rt: &R,
-    sender: &mut LaneSender,
-    dport: u16,
-    is_full: bool,
-) -> Result<(), Fail>
-    ensures { sender.new.ring ≡ sender.old.ring }
-{
-    let packet = packet(dport)?;
-    let wanted = if is_full {
-        Err(LaneFull(packet))
-    } else {
-        Ok(())
-    };
-    assert_eq!(rt; sender.submit(packet), wanted);
-    Ok(())
-}
-
-/// The device's pump of the lane at `now` is answered like that.
-pub(crate) fn pumps<
-    J: BookName,
-    X: Screen<Shown<J>> + Drop,
-    K: Keeps<Event>,
-    S: Keeps<Step>,
-    R: Abort,
->(
-    rt: &R,
-    device: &mut Device<J, X, K, S>,
-    lane: u32,
-    now: u64,
-    burst: u64,
-    wanted: Result<u64, Refusal>,
-)
-    requires { (0 < burst) × (burst ≤ MAX_BURST) }
-    ensures { rings_of device.new.lanes ≡ rings_of device.old.lanes }
-{
-    assert!(rt; lane < device.lanes());
-    assert_eq!(rt; device.pump(lane, now, burst), wanted);
-}
-
-/// Those packets were accepted and no other, told by their lanes and their destination ports, in order.
-pub(crate) fn are_accepted<J: BookName, X: Screen<Shown<J>> + Drop, R: Abort>(
-    rt: &R,
-    device: &Device<J, X>,
-    wanted: &[(u32, u16)],
-) -> Result<(), Fail> {
-    let mut met = 0;
-    for event in device.engine().events() {
-        if let Event::Accepted {
-            lane,
-            packet: accepted,
-            ..
-        } = *event
-        {
-            let (from, dport) = *wanted.get(met).ok_or("a packet that was wanted")?;
-            assert_eq!(rt; (lane, accepted), (from, packet(dport)?));
-            met += 1;
-        }
-    }
-    assert_eq!(rt; met, wanted.len());
-    Ok(())
 }

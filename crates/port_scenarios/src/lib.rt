@@ -1,16 +1,10 @@
 //! Tests of locked ports: by one thread, what each call answers and what a settling gives; by several, that senders run
-//! at once. And of lanes: what goes through them, when they are full, and what a device refuses. And of monitors: what
-//! they see, and when. What is expected was
-//! worked out by hand from the rules.
+//! at once. What is expected was worked out by hand from the rules.
 #![tactic(auto)]
 
 #[cfg(test)]
 mod alone;
 #[cfg(test)]
 mod fixtures;
-#[cfg(test)]
-mod lanes;
-#[cfg(test)]
-mod monitors;
 #[cfg(test)]
 mod together;

@@ -28,10 +28,10 @@ subsequence_length (leaves {some} {all} x h) = let shorter = subsequence_length 
 -- what a lane's acceptances tell of is as many packets
 packets_of_lane : (lane : ℕ) (events : List Event) → length (packets_told (of_lane lane events)) ≡ length (of_lane lane events)
 packets_of_lane lane [] = refl
-packets_of_lane lane (Accepted id moment from flow packet ∷ events) = go (from == lane) refl (packets_of_lane lane events)
+packets_of_lane lane (Accepted from id moment flow packet ∷ events) = go (from == lane) refl (packets_of_lane lane events)
   where
     go : (b : Bool) → (from == lane) ≡ b → length (packets_told (of_lane lane events)) ≡ length (of_lane lane events)
-        → length (packets_told (of_lane lane (Accepted id moment from flow packet ∷ events))) ≡ length (of_lane lane (Accepted id moment from flow packet ∷ events))
+        → length (packets_told (of_lane lane (Accepted from id moment flow packet ∷ events))) ≡ length (of_lane lane (Accepted from id moment flow packet ∷ events))
     go true is rest = rw is (ap suc rest)
     go false is rest = rw is rest
 packets_of_lane lane (Sent id moment ecn mark ∷ events) = packets_of_lane lane events

@@ -118,9 +118,11 @@ fn help_on_the_lanes(rt: HostRuntime) -> Result<(), Fail> {
 #[test]
 fn help_on_the_formats(rt: HostRuntime) -> Result<(), Fail> {
     let texts = [
+        "\n  version,2 ",
         "\n  enq,MOMENT,PROTO,SRC,DST,SPORT,DPORT,LEN,ECN ",
         "\n  deq,MOMENT ",
         "\n  close,MOMENT ",
+        "An IPv6 address\nis 32 hexadecimal digits of either case",
         "\n  accepted,ID,FLOW ",
         "\n  dropped,ID,overflow ",
         "\n  dropped,ID,codel ",

@@ -19,8 +19,8 @@ use Rattle.journal_core.specs.declared.step.Step.{Step}
 use Rattle.row_core.specs.declared.faults.TraceFault.{TraceFault}
 use Rattle.row_core.specs.declared.faults.TraceFaultKind.TheVariants.{Read}
 use Rattle.row_core.specs.declared.reader.TraceRows.{TraceRows}
-use Rattle.row_core.specs.Traces.{HasRead, HasTaken, IsFaultOf, IsRowsFault, ReadFails, ReadsUpTo, TextReader}
-use Rattle.row_core.specs.Traces.{csv_fault, steps_of, steps_of_records, text_left, with_record}
+use Rattle.row_core.specs.Traces.{HasRead, HasTaken, IsFaultOf, IsRowsFault, ReadFails, ReadsUpTo, RowsSoFar, TextReader}
+use Rattle.row_core.specs.Traces.{csv_fault, no_rows, rows_of_records, steps_of, steps_told, text_left, with_record}
 
 -- a record leaves no more than the text behind its first byte
 shorter : (cfg : Config) (s : State) (fields : List (List ℕ)) (field xs : List ℕ) (p : Cut)
@@ -103,9 +103,9 @@ module _ (text : List ℕ) (reader : TextReader) (before : List (List (List ℕ)
   all_records e = follow.1 ∙ ap (λ l. before ++ l) (no-more default_config follow.0 (reader_state reader) h.rest e) ∙ append-nil before
 
   -- the text reads up to the row behind them
-  abbrev pub reads_up_to : (steps : List Step) → steps_of_records before ≡ Ok steps → ReadsUpTo (1 + length steps) text
-  reads_up_to steps e =
-      record { before = before; behind = records_from default_config follow.0 (reader_state reader) h.rest; cut = follow.1; steps = steps; read = e; row_number = refl }
+  abbrev pub reads_up_to : (rows : RowsSoFar) → rows_of_records before ≡ Ok rows → ReadsUpTo rows.next_row text
+  reads_up_to rows e =
+      record { before = before; behind = records_from default_config follow.0 (reader_state reader) h.rest; cut = follow.1; so_far = rows; read = e; row_number = refl }
 
 -- the turns of a loop over the records of a text are few
 pub few_turns : (text : List ℕ) (rows : TraceRows) (turns : ℕ) (steps : List Step) → HasTaken text rows turns steps → turns ≤ 134217729
@@ -124,22 +124,22 @@ io_alone (csv_error.UnequalLengths place expected len) old new flexible explaine
 io_alone (csv_error.Serialize why) old new flexible explained told = absurd explained
 io_alone (csv_error.Deserialize place why) old new flexible explained told = absurd explained
 
--- the steps of one record more
-pub record_more : (before : List (List (List ℕ))) (fields : List (List ℕ)) (steps : List Step) → steps_of_records before ≡ Ok steps
-    → steps_of_records (before ++ fields ∷ []) ≡ with_record (Ok steps) fields
-unfolding steps_of_records
-record_more before fields steps e = fold_push with_record (Ok []) before fields ∙ ap (λ so_far. with_record so_far fields) e
+-- what the rows with one record more told
+pub record_more : (before : List (List (List ℕ))) (fields : List (List ℕ)) (rows : RowsSoFar) → rows_of_records before ≡ Ok rows
+    → rows_of_records (before ++ fields ∷ []) ≡ with_record (Ok rows) fields
+unfolding rows_of_records
+record_more before fields rows e = fold_push with_record (Ok no_rows) before fields ∙ ap (λ so_far. with_record so_far fields) e
 
 -- a fault of one record more is that of the text
-pub fault_behind : (text : List ℕ) (reader : TextReader) (before : List (List (List ℕ))) (fields : List (List ℕ)) (steps : List Step) (fault : TraceFault)
-    → HasRead text reader (before ++ fields ∷ []) → steps_of_records before ≡ Ok steps → with_record (Ok steps) fields ≡ Err fault
+pub fault_behind : (text : List ℕ) (reader : TextReader) (before : List (List (List ℕ))) (fields : List (List ℕ)) (rows : RowsSoFar) (fault : TraceFault)
+    → HasRead text reader (before ++ fields ∷ []) → rows_of_records before ≡ Ok rows → with_record (Ok rows) fields ≡ Err fault
     → steps_of text ≡ Err fault
-unfolding steps_of_records
-fault_behind text reader before fields steps fault read e faulty =
+unfolding rows_of_records
+fault_behind text reader before fields rows fault read e faulty =
     let all = follow text reader (before ++ fields ∷ []) read in
     let rest = records_from default_config all.0 (reader_state reader) read.rest in
-    ap (fold with_record (Ok [])) all.1 ∙ fold-append with_record (Ok []) (before ++ fields ∷ []) rest
-    ∙ ap (λ so_far. fold with_record so_far rest) (record_more before fields steps e ∙ faulty) ∙ fold_stays with_record (Err fault) (λ x. refl) rest
+    ap steps_told (ap (fold with_record (Ok no_rows)) all.1 ∙ fold-append with_record (Ok no_rows) (before ++ fields ∷ []) rest
+    ∙ ap (λ so_far. fold with_record so_far rest) (record_more before fields rows e ∙ faulty) ∙ fold_stays with_record (Err fault) (λ x. refl) rest)
 
 module _ (known : Option (List ℕ)) (text : List ℕ) (reader : TextReader) (fault : TraceFault)
     (same : IfSome known (λ bytes. text ≡ bytes)) (stops : IsRowsFault text reader fault) where

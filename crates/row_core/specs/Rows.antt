@@ -1,21 +1,27 @@
 -- How a row's fields read, as the step that they ask for or the first fault.
 use Rattle.std.specs.Prelude.{ℕ, ◌+◌, ◌^◌, Bool, List, [], ◌∷◌, Option, Some, None, Result, Ok, Err, option_and_then, option_map, length, get_or, take, drop, nat_lt, nat_le, ◌==◌, ◌&&◌, if◌then◌else◌}
 use Rattle.std.specs.Prelude.{ok_or, codes, unwrap_or}
+use Rattle.std.specs.Bool.{beq}
 use Rattle.std.specs.List.{position}
+use Rattle.std.specs.Option.{option_or}
+use Rattle.std.specs.Result.{result_ok}
 use Rattle.std.specs.Str.{bytes_eq}
 use Rattle.csv.specs.Records.{field_at}
+use Rattle.hex.specs.Hex.{decode_sized}
 use Rattle.packet_core.specs.Numerals.{numeral_of}
-use Rattle.packet_core.specs.Packets.{PacketParts}
+use Rattle.packet_core.specs.Packets.{PacketParts, is_ipv6}
 use Rattle.packet_core.specs.declared.packet.Ecn.{Ecn}
 use Rattle.packet_core.specs.declared.packet.Ecn.TheVariants.{NotEct, Ect1, Ect0, Ce}
 use Rattle.packet_core.specs.declared.packet.Ip.{Ip}
-use Rattle.packet_core.specs.declared.packet.Ip.TheVariants.{V4}
+use Rattle.packet_core.specs.declared.packet.Ip.TheVariants.{V4, V6}
 use Rattle.journal_core.specs.declared.step.Step.{Step}
 use Rattle.journal_core.specs.declared.step.Step.TheVariants as step
 use Rattle.row_core.specs.declared.faults.TraceFaultKind.{TraceFaultKind}
 use Rattle.row_core.specs.declared.faults.TraceFaultKind.TheVariants.{BadKind, BadFieldCount, BadNumber, BadAddress, BadEcn, LengthOutOfRange}
 use Rattle.row_core.specs.declared.row.RowKind.{RowKind}
 use Rattle.row_core.specs.declared.row.RowKind.TheVariants.{Enqueue, Dequeue, Close}
+use Rattle.row_core.specs.declared.row.Version.{Version}
+use Rattle.row_core.specs.declared.row.Version.TheVariants.{One, Two}
 
 infixl 10 ◌>>=◌
 infixl 10 ◌>>?◌
@@ -84,20 +90,34 @@ four_octets_of text =
     octet_of three.1 >>? λ d.
     Some (V4 (a ∷ b ∷ c ∷ d ∷ []))
 
+-- an address of IPv6: 32 hexadecimal digits of either case, two for a byte, the first of them the high one
+unfoldable pub sixteen_octets_of : List ℕ → Option Ip
+sixteen_octets_of text = result_ok (decode_sized text 16) >>? λ bytes. Some (V6 bytes)
+
+-- an address of a kind that a trace of this version can name
+abbrev pub ip_of : Version → List ℕ → Option Ip
+ip_of One text = four_octets_of text
+ip_of Two text = option_or (four_octets_of text) (sixteen_octets_of text)
+
 -- an address
-unfoldable pub address_of : List ℕ → Result Ip TraceFaultKind
-address_of text = ok_or (four_octets_of text) BadAddress
+unfoldable pub address_of : Version → List ℕ → Result Ip TraceFaultKind
+address_of version text = ok_or (ip_of version text) BadAddress
+
+-- the destination of a packet, which is of the same kind as its source
+unfoldable pub destination_of : Version → Ip → List ℕ → Result Ip TraceFaultKind
+destination_of version src text =
+    address_of version text >>= λ dst. if beq (is_ipv6 dst) (is_ipv6 src) then Ok dst else Err BadAddress
 
 -- the field of a row at a place, from 0, and an empty one behind the last
 abbrev pub field_of : List (List ℕ) → ℕ → List ℕ
 field_of fields place = unwrap_or (field_at fields place) []
 
 -- the packet of a row, its fields read from left to right
-unfoldable pub packet_of : List (List ℕ) → Result PacketParts TraceFaultKind
-packet_of fields =
+unfoldable pub packet_of : Version → List (List ℕ) → Result PacketParts TraceFaultKind
+packet_of version fields =
     number_below (2 ^ 8) (field_of fields 2) >>= λ proto.
-    address_of (field_of fields 3) >>= λ src.
-    address_of (field_of fields 4) >>= λ dst.
+    address_of version (field_of fields 3) >>= λ src.
+    destination_of version src (field_of fields 4) >>= λ dst.
     number_below (2 ^ 16) (field_of fields 5) >>= λ sport.
     number_below (2 ^ 16) (field_of fields 6) >>= λ dport.
     length_of (field_of fields 7) >>= λ len.
@@ -115,16 +135,31 @@ fields_of_kind Dequeue = 2
 fields_of_kind Close = 2
 
 -- the step of a row of this kind, at this moment; every packet comes from lane 0
-abbrev pub step_of : RowKind → ℕ → List (List ℕ) → Result Step TraceFaultKind
-step_of Enqueue moment fields = packet_of fields >>= λ packet. Ok (step.Enqueue moment 0 packet)
-step_of Dequeue moment fields = Ok (step.Dequeue moment)
-step_of Close moment fields = Ok (step.Close moment)
+abbrev pub step_of : Version → RowKind → ℕ → List (List ℕ) → Result Step TraceFaultKind
+step_of version Enqueue moment fields = packet_of version fields >>= λ packet. Ok (step.Enqueue moment 0 packet)
+step_of version Dequeue moment fields = Ok (step.Dequeue moment)
+step_of version Close moment fields = Ok (step.Close moment)
 
--- The step that a row asks for, or its first fault: a first field that names no kind, then another number of
--- fields than the kind has, then the first faulty field from the left.
-unfoldable pub row_of : List (List ℕ) → Result Step TraceFaultKind
-row_of fields =
+-- The step that a row of a trace of this version asks for, or its first fault: a first field that names no kind, then
+-- another number of fields than the kind has, then the first faulty field from the left.
+unfoldable pub row_of : Version → List (List ℕ) → Result Step TraceFaultKind
+row_of version fields =
     kind_of (field_of fields 0) >>= λ kind.
     if length fields == fields_of_kind kind
-    then (number_below (2 ^ 60) (field_of fields 1) >>= λ moment. step_of kind moment fields)
+    then (number_below (2 ^ 60) (field_of fields 1) >>= λ moment. step_of version kind moment fields)
     else Err BadFieldCount
+
+-- whether the row with this number tells the trace's version: the first row does, where its first field says so
+unfoldable pub tells_version : ℕ → List (List ℕ) → Bool
+tells_version row fields = (row == 1) && bytes_eq (field_of fields 0) (codes "version")
+
+-- the version with this number, which is 2
+abbrev pub version_told : Option ℕ → Result Version TraceFaultKind
+version_told None = Err BadNumber
+version_told (Some number) = if number == 2 then Ok Two else Err BadNumber
+
+-- The version that such a row tells, or its first fault: another number of fields than two, then a second field that
+-- isn't a number of value 2.
+unfoldable pub version_of : List (List ℕ) → Result Version TraceFaultKind
+version_of fields =
+    if length fields == 2 then version_told (numeral_of (field_of fields 1)) else Err BadFieldCount

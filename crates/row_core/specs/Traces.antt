@@ -18,7 +18,9 @@ use Rattle.row_core.specs.declared.faults.TraceFault.{TraceFault}
 use Rattle.row_core.specs.declared.faults.TraceFaultKind.{TraceFaultKind}
 use Rattle.row_core.specs.declared.faults.TraceFaultKind.TheVariants.{Memory, Read, TooLarge}
 use Rattle.row_core.specs.declared.reader.TraceRows.{TraceRows}
-use Rattle.row_core.specs.Rows.{◌>>=◌, field_of, row_of}
+use Rattle.row_core.specs.declared.row.Version.{Version}
+use Rattle.row_core.specs.declared.row.Version.TheVariants.{One}
+use Rattle.row_core.specs.Rows.{◌>>=◌, field_of, row_of, tells_version, version_of}
 
 -- whether a record's only field is empty: it stands for no row, and isn't counted
 abbrev pub is_blank : List (List ℕ) → Bool
@@ -29,36 +31,61 @@ abbrev pub at_row : {A : Type 0} → ℕ → Result A TraceFaultKind → Result 
 at_row row (Ok x) = Ok x
 at_row row (Err what) = Err (record { row = row; what = what })
 
--- These steps, and that of one row more. There are at most 1,000,000 rows, which are counted from 1.
-abbrev pub with_row : List Step → List (List ℕ) → Result (List Step) TraceFault
-with_row steps fields =
-    if nat_lt 1000000 (1 + length steps) then Err (record { row = 1 + length steps; what = TooLarge })
-    else (at_row (1 + length steps) (row_of fields) >>= λ step. Ok (steps ++ step ∷ []))
+-- What the rows so far told: the number of the next row, from 1, the version of the trace, which is 1 where no row told
+-- another, and the steps that they asked for.
+pub record RowsSoFar : Type 0 where
+  pub next_row : ℕ
+  pub version : Version
+  pub steps : List Step
 
--- the same of a record, and of steps that were refused, if there was a faulty row before
-abbrev pub with_record : Result (List Step) TraceFault → List (List ℕ) → Result (List Step) TraceFault
-with_record so_far fields = so_far >>= λ steps. if is_blank fields then Ok steps else with_row steps fields
+-- before the first row
+abbrev pub no_rows : RowsSoFar
+no_rows = record { next_row = 1; version = One; steps = [] }
 
--- the steps of records, or the fault of the first faulty row
-unfoldable pub steps_of_records : List (List (List ℕ)) → Result (List Step) TraceFault
-steps_of_records records = fold with_record (Ok []) records
+-- behind one row more, which asks for this step
+abbrev pub with_step : RowsSoFar → Step → RowsSoFar
+with_step rows step = record { next_row = rows.next_row + 1; version = rows.version; steps = rows.steps ++ step ∷ [] }
+
+-- behind one row more, which tells this version and asks for no step
+abbrev pub with_version : RowsSoFar → Version → RowsSoFar
+with_version rows version = record { next_row = rows.next_row + 1; version = version; steps = rows.steps }
+
+-- These rows and one more. There are at most 1,000,000, and the first one alone can tell the version.
+abbrev pub with_row : RowsSoFar → List (List ℕ) → Result RowsSoFar TraceFault
+with_row rows fields =
+    if nat_lt 1000000 rows.next_row then Err (record { row = rows.next_row; what = TooLarge })
+    else if tells_version rows.next_row fields
+    then (at_row rows.next_row (version_of fields) >>= λ version. Ok (with_version rows version))
+    else (at_row rows.next_row (row_of rows.version fields) >>= λ step. Ok (with_step rows step))
+
+-- the same of a record, and of rows that were refused, if there was a faulty row before
+abbrev pub with_record : Result RowsSoFar TraceFault → List (List ℕ) → Result RowsSoFar TraceFault
+with_record so_far fields = so_far >>= λ rows. if is_blank fields then Ok rows else with_row rows fields
+
+-- what the rows of records told, or the fault of the first faulty row
+unfoldable pub rows_of_records : List (List (List ℕ)) → Result RowsSoFar TraceFault
+rows_of_records records = fold with_record (Ok no_rows) records
+
+-- the steps that rows asked for, if none of them was refused
+abbrev pub steps_told : Result RowsSoFar TraceFault → Result (List Step) TraceFault
+steps_told so_far = so_far >>= λ rows. Ok rows.steps
 
 -- the steps of a text, which `csv` cuts into records
 abbrev pub steps_of : List ℕ → Result (List Step) TraceFault
-steps_of text = steps_of_records (records default_config (strip_bom text))
+steps_of text = steps_told (rows_of_records (records default_config (strip_bom text)))
 
 -- the steps of a trace, which has at most 134,217,728 bytes
 abbrev pub trace_of : List ℕ → Result (List Step) TraceFault
 trace_of text = if nat_lt 134217728 (length text) then Err (record { row = 0; what = TooLarge }) else steps_of text
 
--- The text reads up to this row: each row before it asks for a step.
+-- The text reads up to this row: no row before it is faulty.
 pub record ReadsUpTo (row : ℕ) (text : List ℕ) : Type 0 where
   pub before : List (List (List ℕ))
   pub behind : List (List (List ℕ))
   pub cut : records default_config (strip_bom text) ≡ before ++ behind
-  pub steps : List Step
-  pub read : steps_of_records before ≡ Ok steps
-  pub row_number : row ≡ 1 + length steps
+  pub so_far : RowsSoFar
+  pub read : rows_of_records before ≡ Ok so_far
+  pub row_number : row ≡ so_far.next_row
 
 -- a reader of `csv` over a text, and the bytes that such a text has left
 abbrev pub TextReader : Type 0
@@ -140,6 +167,10 @@ reader_of rows = rows.records
 abbrev pub next_number : TraceRows → ℕ
 next_number rows = rows.row_number
 
+-- what the rows that were taken told, where they asked for these steps
+abbrev pub rows_so_far : TraceRows → List Step → RowsSoFar
+rows_so_far rows steps = record { next_row = next_number rows; version = rows.version; steps = steps }
+
 -- So many records or more of a text that is no longer than a trace were taken, which ask for these steps, and the
 -- next row has its number.
 pub record HasTaken (text : List ℕ) (rows : TraceRows) (turns : ℕ) (steps : List Step) : Type 0 where
@@ -147,15 +178,14 @@ pub record HasTaken (text : List ℕ) (rows : TraceRows) (turns : ℕ) (steps : 
   pub before : List (List (List ℕ))
   pub read : HasRead text (reader_of rows) before
   pub many : turns ≤ length before
-  pub asked : steps_of_records before ≡ Ok steps
-  pub next_row : next_number rows ≡ 1 + length steps
+  pub asked : rows_of_records before ≡ Ok (rows_so_far rows steps)
 
--- what was taken next: a row asks for one step more, a blank record for none, and at the end the steps are those of
--- the text
+-- What was taken next: a row asks for one step more, a blank record or the row that tells the version for none, and at
+-- the end the steps are those of the text.
 abbrev pub TakesNext : TraceRows → Next → TraceRows → Type 0
 TakesNext old (next.Row step) new = (text : List ℕ) (turns : ℕ) (steps : List Step)
     → HasTaken text old turns steps → HasTaken text new (turns + 1) (steps ++ step ∷ [])
-TakesNext old next.Blank new = (text : List ℕ) (turns : ℕ) (steps : List Step)
+TakesNext old next.NoStep new = (text : List ℕ) (turns : ℕ) (steps : List Step)
     → HasTaken text old turns steps → HasTaken text new (turns + 1) steps
 TakesNext old next.End new = (text : List ℕ) (turns : ℕ) (steps : List Step)
     → HasTaken text old turns steps → steps_of text ≡ Ok steps

@@ -17,16 +17,17 @@ pub enum TraceFaultKind {
     /// There are more than `MAX_BYTES` bytes or more than `MAX_ROWS` rows.
     #[error("TooLarge")]
     TooLarge,
-    /// The first field isn't `enq`, `deq` or `close`.
+    /// The first field isn't `enq`, `deq` or `close`, and in the first row not `version` either.
     #[error("BadKind")]
     BadKind,
     /// The row has another number of fields than its kind has.
     #[error("BadFieldCount")]
     BadFieldCount,
-    /// A number isn't written in decimal digits, or is too large for its field.
+    /// A number isn't written in decimal digits, or is too large for its field. A version has another value than 2.
     #[error("BadNumber")]
     BadNumber,
-    /// An address isn't four numbers from 0 to 255, without leading zeros and joined by dots.
+    /// An address isn't four numbers from 0 to 255, without leading zeros and joined by dots, nor, in version 2, 32
+    /// hexadecimal digits. Or a destination is of another kind than the source.
     #[error("BadAddress")]
     BadAddress,
     /// The ECN field isn't one digit from 0 to 3.

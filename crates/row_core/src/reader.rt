@@ -9,7 +9,7 @@ ghost use Rattle.row_core.specs.Traces as Traces;
 
 use crate::faults::{MAX_BYTES, MAX_ROWS, TraceFault, TraceFaultKind};
 use crate::interruptions::{Interruptions, MAX_INTERRUPTIONS};
-use crate::row::{field, read_row};
+use crate::row::{Version, field, read_row, read_version, tells_version};
 use crate::streams::{Source, Watched};
 use csv::{ByteRecord, ErrorKind, ReaderBuilder};
 use journal_core::Step;
@@ -19,8 +19,8 @@ use std::io::Read;
 /// How many bytes are asked for at once.
 const CHUNK: usize = 65_536;
 
-/// The steps of the trace that a reader gives, one for each row, in order. It refuses a trace whose bytes
-/// can't be read or are too many, and then the first faulty row.
+/// The steps of the trace that a reader gives, one for each row that asks for one, in order. It refuses a trace whose
+/// bytes can't be read or are too many, and then the first faulty row.
 pub fn read_trace<R: Read>(alloc: Global, reader: &mut R) -> Result<Vec<Step>, TraceFault>
     ensures steps { IfOk result (λ steps.
         IfSome (R.remaining reader.old) (λ bytes. Traces.trace_of bytes ≡ Ok steps.items)) }
@@ -137,8 +137,9 @@ fn read_some<S: Source>(
 pub enum Next {
     /// A row, which asks for that step.
     Row(Step),
-    /// A record with one empty field, which is no row and isn't counted.
-    Blank,
+    /// No step: a record with one empty field, which is no row and isn't counted, or the first row where that tells the
+    /// version of the trace.
+    NoStep,
     /// The end.
     End,
 }
@@ -149,6 +150,7 @@ pub struct TraceRows<'a> {
     records: csv::Reader<&'a [u8]>,
     row: ByteRecord,
     row_number: u64,
+    version: Version,
 }
 
 impl<'a> TraceRows<'a> {
@@ -164,6 +166,7 @@ impl<'a> TraceRows<'a> {
                 .from_reader(alloc, text),
             row: ByteRecord::new(alloc),
             row_number: 1,
+            version: Version::One,
         }
     }
 
@@ -179,17 +182,28 @@ impl<'a> TraceRows<'a> {
             Err(what) => return Err(fault(self.row_number, what)),
         }
         if is_blank(&self.row) {
-            return Ok(Next::Blank);
+            return Ok(Next::NoStep);
         }
         if self.row_number > MAX_ROWS {
             return Err(fault(self.row_number, TraceFaultKind::TooLarge));
         }
-        match read_row(&self.row) {
-            Ok(step) => {
-                self.row_number += 1;
-                Ok(Next::Row(step))
+        if tells_version(&self.row, self.row_number) {
+            match read_version(&self.row) {
+                Ok(version) => {
+                    self.version = version;
+                    self.row_number += 1;
+                    Ok(Next::NoStep)
+                }
+                Err(what) => Err(fault(self.row_number, what)),
             }
-            Err(what) => Err(fault(self.row_number, what)),
+        } else {
+            match read_row(&self.row, self.version) {
+                Ok(step) => {
+                    self.row_number += 1;
+                    Ok(Next::Row(step))
+                }
+                Err(what) => Err(fault(self.row_number, what)),
+            }
         }
     }
 
@@ -214,7 +228,7 @@ fn all_steps(alloc: Global, rows: &mut TraceRows<'_>) -> Result<Vec<Step>, Trace
         let row = rows.row_number();
         match rows.next()? {
             Next::End => return Ok(steps),
-            Next::Blank => {}
+            Next::NoStep => {}
             Next::Row(step) => {
                 if steps.push(step).is_err() {
                     return Err(fault(row, TraceFaultKind::Memory));

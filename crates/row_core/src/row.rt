@@ -1,18 +1,29 @@
-//! One row of a trace: its fields, from left to right, and the step that they ask for.
+//! One row of a trace: its fields, from left to right, and the step that they ask for, or the version that a first row
+//! tells. An address is one of IPv4, or in version 2 one of IPv6 (RFC 4291) too.
 ghost use Rattle.std.specs.Prelude.{◌≡◌, ◌≢◌, ◌<◌, ◌^◌, ◌-◌, min, option_map, IfErr, IfOk};
 ghost use Rattle.std.specs.Char.{digit_value};
 ghost use Rattle.std.specs.Option.{SomeIff};
 ghost use Rattle.packet_core.specs.Packets.{IsLengthInRange};
 ghost use Rattle.csv.specs.Records.{fields_of};
-ghost use Rattle.row_core.specs.Rows.{address_of, cut_of, ecn_of, field_of, fields_of_kind, four_octets_of, kind_of, length_of, number_below, octet_of, packet_of, row_of, starts_with_zero};
+ghost use Rattle.row_core.specs.Rows.{address_of, cut_of, destination_of, ecn_of, field_of, fields_of_kind, four_octets_of, kind_of, length_of, number_below, octet_of, packet_of, row_of, sixteen_octets_of, starts_with_zero, tells_version, version_of};
 
 use crate::faults::TraceFaultKind;
 use csv::ByteRecord;
+use hex::FromHex;
 use journal_core::{MAX_MOMENT, Step};
 use packet_core::{Ecn, FiveTuple, Ip, MAX_LENGTH, Packet, read_numeral};
 
 /// Every packet of a trace comes from the one lane.
 const TRACE_LANE: u32 = 0;
+
+/// How the addresses of a trace may be written. Its first row can tell it.
+#[derive(Clone, Copy, Debug, PartialEq, Eq)]
+pub(crate) enum Version {
+    /// Each is one of IPv4.
+    One,
+    /// Each is one of IPv4 or of IPv6.
+    Two,
+}
 
 /// What a row asks for. Its first field says it.
 #[derive(Clone, Copy, Debug, PartialEq, Eq)]
@@ -37,11 +48,35 @@ impl RowKind {
     }
 }
 
-/// The step that a row asks for. It refuses a first field that names no kind, then another number of fields
-/// than the kind has, then the first faulty field from the left.
+/// Whether the row with that number tells the trace's version: the first row does, where its first field says so.
+#[tactic(auto, unfolding(crate::specs::Rows::tells_version))]
+pub(crate) fn tells_version(row: &ByteRecord, row_number: u64) -> bool
+    ensures { result ≡ tells_version row_number (fields_of row.now) }
+{
+    row_number == 1 && field(row, 0) == b"version".as_slice()
+}
+
+/// The version that such a row tells. It refuses another number of fields than two, then a second field that isn't a
+/// number of value 2.
+#[tactic(auto, unfolding(crate::specs::Rows::version_of))]
+pub(crate) fn read_version(row: &ByteRecord) -> Result<Version, TraceFaultKind>
+    ensures value { result ≡ version_of (fields_of row.now) }
+    ensures fault { IfErr result (λ fault. fault ≢ TraceFaultKind.Read) }
+{
+    if row.len() != 2 {
+        return Err(TraceFaultKind::BadFieldCount);
+    }
+    match read_numeral(field(row, 1)) {
+        Some(2) => Ok(Version::Two),
+        _ => Err(TraceFaultKind::BadNumber),
+    }
+}
+
+/// The step that a row of a trace of that version asks for. It refuses a first field that names no kind, then another
+/// number of fields than the kind has, then the first faulty field from the left.
 #[tactic(auto, unfolding(crate::specs::Rows::row_of))]
-pub(crate) fn read_row(row: &ByteRecord) -> Result<Step, TraceFaultKind>
-    ensures value { result ≡ row_of (fields_of row.now) }
+pub(crate) fn read_row(row: &ByteRecord, version: Version) -> Result<Step, TraceFaultKind>
+    ensures value { result ≡ row_of version (fields_of row.now) }
     ensures fault { IfErr result (λ fault. fault ≢ TraceFaultKind.Read) }
 {
     let kind = read_kind(field(row, 0))?;
@@ -53,7 +88,7 @@ pub(crate) fn read_row(row: &ByteRecord) -> Result<Step, TraceFaultKind>
         RowKind::Enqueue => Ok(Step::Enqueue {
             moment,
             lane: TRACE_LANE,
-            packet: read_packet(row)?,
+            packet: read_packet(row, version)?,
         }),
         RowKind::Dequeue => Ok(Step::Dequeue { moment }),
         RowKind::Close => Ok(Step::Close { moment }),
@@ -89,13 +124,13 @@ fn read_kind(name: &[u8]) -> Result<RowKind, TraceFaultKind>
 
 /// The packet of a row that has all its fields, which are read from left to right.
 #[tactic(auto, unfolding(crate::specs::Rows::packet_of))]
-fn read_packet(row: &ByteRecord) -> Result<Packet, TraceFaultKind>
-    ensures value { result ≡ packet_of (fields_of row.now) }
+fn read_packet(row: &ByteRecord, version: Version) -> Result<Packet, TraceFaultKind>
+    ensures value { result ≡ packet_of version (fields_of row.now) }
     ensures fault { IfErr result (λ fault. fault ≢ TraceFaultKind.Read) }
 {
     let proto = read_u8(field(row, 2))?;
-    let src = read_address(field(row, 3))?;
-    let dst = read_address(field(row, 4))?;
+    let src = read_address(field(row, 3), version)?;
+    let dst = read_destination(field(row, 4), version, src)?;
     let sport = read_u16(field(row, 5))?;
     let dport = read_u16(field(row, 6))?;
     let len = read_length(field(row, 7))?;
@@ -175,16 +210,42 @@ fn read_ecn(text: &[u8]) -> Result<Ecn, TraceFaultKind>
     }
 }
 
-/// An address: four numbers from 0 to 255 without leading zeros, joined by dots.
-#[tactic(auto, unfolding(crate::specs::Rows::address_of))]
-fn read_address(text: &[u8]) -> Result<Ip, TraceFaultKind>
-    ensures value { result ≡ address_of text.now }
+/// The destination of a packet: an address of the same kind as its source.
+#[tactic(auto, unfolding(crate::specs::Rows::destination_of))]
+fn read_destination(text: &[u8], version: Version, src: Ip) -> Result<Ip, TraceFaultKind>
+    ensures value { result ≡ destination_of version src text.now }
     ensures fault { IfErr result (λ fault. fault ≢ TraceFaultKind.Read) }
 {
-    match four_octets(text) {
-        Some(ip) => Ok(ip),
-        None => Err(TraceFaultKind::BadAddress),
+    let dst = read_address(text, version)?;
+    if dst.is_ipv6() == src.is_ipv6() {
+        Ok(dst)
+    } else {
+        Err(TraceFaultKind::BadAddress)
     }
+}
+
+/// An address: four numbers from 0 to 255 without leading zeros, joined by dots, or in version 2 the 32 hexadecimal
+/// digits of an address of IPv6 too.
+#[tactic(auto, unfolding(crate::specs::Rows::address_of))]
+fn read_address(text: &[u8], version: Version) -> Result<Ip, TraceFaultKind>
+    ensures value { result ≡ address_of version text.now }
+    ensures fault { IfErr result (λ fault. fault ≢ TraceFaultKind.Read) }
+{
+    let read = match version {
+        Version::One => four_octets(text),
+        Version::Two => four_octets(text).or(sixteen_octets(text)),
+    };
+    read.ok_or(TraceFaultKind::BadAddress)
+}
+
+/// The address of IPv6 of 32 hexadecimal digits of either case, if the text is one. Two digits make a byte, the first
+/// of them the high one.
+#[tactic(auto, unfolding(crate::specs::Rows::sixteen_octets_of))]
+fn sixteen_octets(text: &[u8]) -> Option<Ip>
+    ensures { result ≡ sixteen_octets_of text.now }
+{
+    let octets = <[u8; 16] as FromHex>::from_hex(text).ok()?;
+    Some(Ip::V6(octets))
 }
 
 /// The address of four numbers that are joined by dots, if the text is one.

@@ -177,7 +177,7 @@ all_in_batches P (b ∷ batches) each =
 
 -- the event of an acceptance, and the journal with it
 abbrev accepted : ParamFields → Seed → Held → ℕ → ℕ → PacketParts → Event
-accepted p seed held moment lane packet = Accepted held.arrived moment lane ((fq_codel p seed).flow_of packet.tuple) packet
+accepted p seed held moment lane packet = Accepted lane held.arrived moment ((fq_codel p seed).flow_of packet.tuple) packet
 
 abbrev recorded : ParamFields → Seed → Held → Book → ℕ → ℕ → PacketParts → Book
 recorded p seed held book moment lane packet = with_event book (accepted p seed held moment lane packet) (count_accepted book.counts packet.len)

@@ -107,7 +107,7 @@ module _ (p : Policy) (drops : DropsFromHeads p) (decided : IsDecided p) (flows 
       let overflow = decided.overflows _ (arrived_lengths old.queues flow (arrival old moment packet) ready has) in
       let listed = with_flow_listed p old.queues flow in (
         answer.Accepted,
-        event.Accepted old.next_id moment lane flow packet ∷ map (drop_event moment cause.Overflow) (packets_of overflow.0),
+        event.Accepted lane old.next_id moment flow packet ∷ map (drop_event moment cause.Overflow) (packets_of overflow.0),
         record {
           queues = with_queues listed overflow.1;
           next_id = old.next_id + 1;

@@ -21,10 +21,12 @@ use Rattle.journal_core.specs.declared.step.Refusal.TheVariants as refusal
 use Rattle.journal_core.specs.declared.totals.Totals.{Totals}
 use Rattle.journal_core.specs.declared.tuple_rows.TupleRow.{TupleRow}
 use Rattle.journal_core.specs.TupleRows.{tuple_rows}
-use Rattle.packet_core.specs.Packets.{ip_bytes}
+use Rattle.hex.specs.Hex.{encode_lower}
 use Rattle.packet_core.specs.declared.flow.Seed.{Seed}
 use Rattle.packet_core.specs.declared.packet.Ecn.{Ecn}
 use Rattle.packet_core.specs.declared.packet.Ecn.TheVariants.{NotEct, Ect1, Ect0, Ce}
+use Rattle.packet_core.specs.declared.packet.Ip.{Ip}
+use Rattle.packet_core.specs.declared.packet.Ip.TheVariants.{V4, V6}
 use Rattle.packet_core.specs.declared.params.ParamFields.{ParamFields}
 use Rattle.fair_core.specs.FairQueues.{FairQueues, no_queues}
 use Rattle.fair_core.specs.FqCodel.{fq_codel}
@@ -59,7 +61,7 @@ state_name false = codes "open"
 
 -- the fields of an event's row
 abbrev pub event_row : Event → List (List ℕ)
-event_row (event.Accepted id moment lane flow packet) = codes "accepted" ∷ decimal id ∷ decimal flow ∷ []
+event_row (event.Accepted lane id moment flow packet) = codes "accepted" ∷ decimal id ∷ decimal flow ∷ []
 event_row (event.Sent id moment ecn mark) = codes "sent" ∷ decimal id ∷ ecn_digit ecn ∷ []
 event_row (event.Dropped id moment why) = codes "dropped" ∷ decimal id ∷ cause_name why ∷ []
 event_row (event.Closed moment) = codes "closed" ∷ []
@@ -103,10 +105,15 @@ totals_row t =
 abbrev pub dotted : List ℕ → List ℕ
 dotted numbers = join_with_byte 46 (map decimal numbers)
 
+-- an address: one of IPv4 with dots, and one of IPv6 as two hexadecimal digits of lower case for each byte
+abbrev pub address_text : Ip → List ℕ
+address_text (V4 bytes) = dotted bytes
+address_text (V6 bytes) = encode_lower bytes
+
 -- the fields of the row of a five-tuple
 abbrev pub tuple_row : TupleRow → List (List ℕ)
 tuple_row row =
-    codes "tuple" ∷ decimal row.tuple.proto ∷ dotted (ip_bytes row.tuple.src) ∷ dotted (ip_bytes row.tuple.dst)
+    codes "tuple" ∷ decimal row.tuple.proto ∷ address_text row.tuple.src ∷ address_text row.tuple.dst
     ∷ decimal row.tuple.sport ∷ decimal row.tuple.dport ∷ decimal row.flow
     ∷ decimal row.accepted ∷ decimal row.sent ∷ decimal row.dropped ∷ decimal row.queued ∷ []
 

@@ -1,9 +1,8 @@
 //! The rows of a report, and its text.
-ghost use Rattle.std.specs.Prelude.{◌≡◌, ◌++◌, ◌∷◌, [], ℕ, List, IfOk, OnOk, map, string_bytes};
+ghost use Rattle.std.specs.Prelude.{◌≡◌, ◌++◌, [], ℕ, List, IfOk, OnOk, map, string_bytes};
 ghost use Rattle.std.specs.List.{flat_map};
 ghost use Rattle.journal_core.specs.Statistics.{statistics};
 ghost use Rattle.journal_core.specs.TupleRows.{tuple_rows};
-ghost use Rattle.packet_core.specs.Packets.{ip_bytes};
 ghost use Rattle.trace_core.specs.Report as Report;
 
 use crate::decimal::Digits;
@@ -281,19 +280,22 @@ impl Rows {
         ])
     }
 
-    /// An address, as four numbers with a dot between each two.
+    /// An address: one of IPv4 as four numbers with a dot between each two, and one of IPv6 (RFC 4291) as 32
+    /// hexadecimal digits of lower case.
     fn address(&self, address: Ip) -> Result<String, Memory>
-        ensures { IfOk result (λ text. string_bytes text ≡ Report.dotted (ip_bytes address)) }
+        ensures { IfOk result (λ text. string_bytes text ≡ Report.address_text address) }
     {
-        let [first, second, third, fourth] = address.octets();
-        self.dotted(first, second, third, fourth)
+        match address {
+            Ip::V4(octets) => self.dotted(octets),
+            Ip::V6(octets) => hex::encode(self.alloc, octets),
+        }
     }
 
     /// Four numbers with a dot between each two.
-    fn dotted(&self, first: u8, second: u8, third: u8, fourth: u8) -> Result<String, Memory>
-        ensures { IfOk result (λ text.
-            string_bytes text ≡ Report.dotted (first ∷ second ∷ third ∷ fourth ∷ [])) }
+    fn dotted(&self, octets: [u8; 4]) -> Result<String, Memory>
+        ensures { IfOk result (λ text. string_bytes text ≡ Report.dotted octets) }
     {
+        let [first, second, third, fourth] = octets;
         format!(in self.alloc; "{first}.{second}.{third}.{fourth}")
     }
 }

@@ -155,7 +155,7 @@ fn run_rows(sched: &mut Sched, rows: &mut TraceRows<'_>, report: &mut Rows) -> R
     for _turn in 0..u64::MAX {
         match rows.next()? {
             Next::End => return Ok(()),
-            Next::Blank => {}
+            Next::NoStep => {}
             Next::Row(step) => run_step(sched, &step, report)?,
         }
     }

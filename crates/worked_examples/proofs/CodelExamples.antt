@@ -96,7 +96,7 @@ abbrev willing : Step
 willing = Enqueue 0 0 (record (packet_to 0 1000) { ecn = Ect0 })
 
 abbrev accepts_willing : ℕ → Made
-accepts_willing id = record { answer = answer.Accepted; events = Accepted id 0 0 0 (record (packet_to 0 1000) { ecn = Ect0 }) ∷ [] }
+accepts_willing id = record { answer = answer.Accepted; events = Accepted 0 id 0 0 (record (packet_to 0 1000) { ecn = Ect0 }) ∷ [] }
 
 abbrev sends_marked : ℕ → ℕ → Made
 sends_marked id moment = record { answer = answer.Sent; events = Sent id moment Ce CodelMark ∷ [] }
@@ -126,7 +126,7 @@ abbrev with_field : Ecn → PacketParts
 with_field field = record (packet_to 0 100) { ecn = field }
 
 abbrev accepts_field : ℕ → Ecn → Made
-accepts_field id field = record { answer = answer.Accepted; events = Accepted id 0 0 0 (with_field field) ∷ [] }
+accepts_field id field = record { answer = answer.Accepted; events = Accepted 0 id 0 0 (with_field field) ∷ [] }
 
 abbrev sends_field : ℕ → ℕ → Ecn → Mark → Made
 sends_field id moment field mark = record { answer = answer.Sent; events = Sent id moment field mark ∷ [] }

@@ -171,7 +171,7 @@ module _ (p : ParamFields) (seed : Seed) where
   after old moment packet queues = record { queues = listed_with old.queues (flow_of packet) queues; next_id = old.next_id + 1; last = moment; closed = old.closed }
 
   abbrev accepted : State FairQueues → ℕ → ℕ → PacketParts → Event
-  accepted old moment lane packet = event.Accepted old.next_id moment lane (flow_of packet) packet
+  accepted old moment lane packet = event.Accepted lane old.next_id moment (flow_of packet) packet
 
   abbrev admitted : State FairQueues → ℕ → ℕ → PacketParts → Lost → Stepped
   admitted old moment lane packet gone = record {
@@ -313,7 +313,7 @@ abbrev pub arrives : ℕ → ℕ → Step
 arrives flow len = Enqueue 0 0 (packet_to flow len)
 
 abbrev pub acceptance : ℕ → ℕ → ℕ → Event
-acceptance id flow len = event.Accepted id 0 0 flow (packet_to flow len)
+acceptance id flow len = event.Accepted 0 id 0 flow (packet_to flow len)
 
 abbrev pub accepts : ℕ → ℕ → ℕ → Made
 accepts id flow len = record { answer = answer.Accepted; events = acceptance id flow len ∷ [] }

@@ -1,21 +1,33 @@
-use Rattle.std.proofs.Common.{◌≡◌, ◌*◌, ◌+◌, ◌-◌, [], length, min, rules, arith}
-use Rattle.flow_core.proofs.WinnerLemmas.{least_wins, winner_read, written}
+use Rattle.std.proofs.Common.{◌≡◌, ◌*◌, ◌+◌, ◌-◌, ◌/◌, inl, inr, length, arith, get_or-set_other, get_or-set_same}
+use Rattle.std.proofs.lemmas.Bool.{cases_eq}
+use Rattle.std.proofs.lemmas.List.{get_or_read}
+use Rattle.flow_core.specs.WinnerNodes.{IsBelow}
+use Rattle.flow_core.proofs.NodeLemmas.{below_next}
 use Rattle.flow_core.proofs.winner_tree.first_winners.Goals as goal
+use Rattle.flow_core.proofs.winner_tree.first_winners.Goals.{then-node-leaves, else-node-leaves}
 
 pub loop-node-preserved : goal.loop-node-preserved
 loop-node-preserved c =
+    let leaves = c.args.leaves in
     let w = c.loop-node.winners.items in
     let kept = c.loop-node.invariant in
     let node = c.loop-node.node - 1 in
-    let size : length w ≡ c.args.leaves = omega (arith, c.loop-node.winners.ok.0) in
-    let left = winner_read [] w (2 * node) c.winner_at-left.result (omega arith) (kept.right (2 * node) (omega arith))
-    (rw c.deref.ensures.value at c.winner_at-left.ensures.inner) (rw c.deref.ensures.value at c.winner_at-left.ensures.leaf) in
-    let right = winner_read [] w (2 * node + 1) c.winner_at-right.result (omega arith) (kept.right (2 * node + 1) (omega arith))
-    (rw c.deref-in-loop-node.ensures.value at c.winner_at-right.ensures.inner) (rw c.deref-in-loop-node.ensures.value at c.winner_at-right.ensures.leaf) in
-    let least : c.min.result ≡ min c.winner_at-left.result c.winner_at-right.result = search rules in
+    let size : length w ≡ 2 * leaves = omega (arith, c.loop-node.winners.ok.0) in
+    let below : IsBelow leaves node c.if-node-leaves.held = elim c.if-node-leaves.branch [
+      | then-node-leaves v ↦
+          let read = get_or_read w (2 * node) v.index.result.now (omega arith) v.index.ensures 0 in
+          let down = kept.held (2 * node) (omega arith) (omega arith) in
+          let half : 2 * node / 2 ≡ node = omega arith in
+          rw (v.held-is, read) (rw half at (below_next down))
+      | else-node-leaves v ↦
+          let here : leaves + (node - leaves) ≡ node = omega arith in
+          rw v.held-is (record { within = omega arith; levels = 0; meets = here })
+    ] in
     record {
       within = omega arith;
       size = kept.size;
-      right = written [] w node c.min.result (omega arith) (λ other from within. kept.right other (omega arith) within)
-          (rw least (least_wins (length w) node c.winner_at-left.result c.winner_at-right.result (omega arith) left right));
+      held = λ other from inner. elim (cases_eq other node) [
+        | inl same ↦ rw (same, get_or-set_same w node c.if-node-leaves.held 0 (omega arith)) below
+        | inr ne ↦ rw (get_or-set_other w node other c.if-node-leaves.held 0 ne) (kept.held other (omega arith) inner)
+      ];
     }

@@ -17,7 +17,7 @@ pub returns : goal.returns
 unfolding hash_value hashed_message
 returns c =
     let made = c.finalize.ensures _ (c.update-6.ensures _ (c.update-5.ensures _ (c.update-4.ensures _ (c.update-3.ensures _ (c.update-2.ensures _ (c.update.ensures _ c.new-hasher.ensures)))))) in
-    let message : c.args.seed.now.0 ++ c.args.tuple.now.proto ∷ [] ++ c.octets.result ++ c.octets-2.result ++ c.to_be_bytes.result ++ c.to_be_bytes-2.result ≡ hashed_message c.args.seed.now c.args.tuple.now =
+    let message : c.args.seed.now.0 ++ c.args.tuple.now.proto ∷ [] ++ c.octets.result.now ++ c.octets-2.result.now ++ c.to_be_bytes.result ++ c.to_be_bytes-2.result ≡ hashed_message c.args.seed.now c.args.tuple.now =
     rw (c.octets.ensures, c.octets-2.ensures, c.to_be_bytes.ensures, c.to_be_bytes-2.ensures) (joined _ _ _ _ _ _) in
     let digest : c.finalize.result ≡ sha256 (hashed_message c.args.seed.now c.args.tuple.now) = made ∙ ap sha256 message in
     rw (← digest) (rw (first_eight c.finalize.result (ap length digest ∙ length-sha256 _)) c.from_be_bytes.ensures)

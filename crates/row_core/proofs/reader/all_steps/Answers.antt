@@ -1,8 +1,9 @@
 use Rattle.std.proofs.Common.{◌≡◌, Err, true, inl, inr, refl, arith, rules}
 use Rattle.std.specs.Result.{is_ok}
 use Rattle.row_core.proofs.RecordLemmas.{few_turns, reads_up_to}
+use Rattle.row_core.specs.Traces.{rows_so_far}
 use Rattle.row_core.proofs.reader.all_steps.Goals as goal
-use Rattle.row_core.proofs.reader.all_steps.Goals.{in-Blank, in-Row+else-is_err}
+use Rattle.row_core.proofs.reader.all_steps.Goals.{in-NoStep, in-Row+else-is_err}
 
 pub returns-in_err-next-clause-fault : goal.returns-in_err-next-clause-fault
 returns-in_err-next-clause-fault c =
@@ -12,14 +13,14 @@ returns-in_err-next-clause-fault c =
 pub returns-then-is_err-clause-fault : goal.returns-then-is_err-clause-fault
 returns-then-is_err-clause-fault c = λ text start.
     let taken = c.loop-turn.invariant text start in
-    inr (inl (rw (c.fault.ensures, c.row_number-row.ensures, taken.next_row) (refl, reads_up_to text c.loop-turn.rows.records taken.before taken.read c.loop-turn.steps.items taken.asked)))
+    inr (inl (rw (c.fault.ensures, c.row_number-row.ensures) (refl, reads_up_to text c.loop-turn.rows.records taken.before taken.read (rows_so_far c.loop-turn.rows c.loop-turn.steps.items) taken.asked)))
 
 pub returns-in-End-clause-steps : goal.returns-in-End-clause-steps
 returns-in-End-clause-steps c = λ text start. (rw c.in-End.is at c.in_ok-next.ensures.taken) text _ _ (c.loop-turn.invariant text start)
 
 pub loop-turn-preserved : goal.loop-turn-preserved
 loop-turn-preserved c = elim c.match-branch-2.branch [
-  | in-Blank w ↦ λ text start. rw w.steps-is ((rw w.in-Blank.is at c.in_ok-next.ensures.taken) text _ _ (c.loop-turn.invariant text start))
+  | in-NoStep w ↦ λ text start. rw w.steps-is ((rw w.in-NoStep.is at c.in_ok-next.ensures.taken) text _ _ (c.loop-turn.invariant text start))
   | in-Row+else-is_err w ↦
       let good : is_ok w.push.result ≡ true = search rules in
       let items = rw good at w.push.ensures.items in

@@ -3,7 +3,7 @@ use Rattle.trace_core.specs.declared.trace_run.RunFault.TheVariants.{Trace}
 use Rattle.row_core.proofs.RecordLemmas.{few_turns}
 use Rattle.trace_core.proofs.TraceRunLemmas.{runs_more, runs_none}
 use Rattle.trace_core.proofs.trace_run.run_rows.Goals as goal
-use Rattle.trace_core.proofs.trace_run.run_rows.Goals.{in-Blank, in-Row+in_ok-run_step-in-Row}
+use Rattle.trace_core.proofs.trace_run.run_rows.Goals.{in-NoStep, in-Row+in_ok-run_step-in-Row}
 
 pub loop-turn-init : goal.loop-turn-init
 loop-turn-init c = λ text start. ([], start, runs_none c.args.sched.now c.args.report.now)
@@ -22,9 +22,9 @@ returns-in-End-clause-run c = λ text start.
 
 pub loop-turn-preserved : goal.loop-turn-preserved
 loop-turn-preserved c = elim c.match-branch-2.branch [
-  | in-Blank w ↦ λ text start.
+  | in-NoStep w ↦ λ text start.
       let run = c.loop-turn.invariant text start in
-      rw (w.sched-is, w.report-is) (run.0, (rw w.in-Blank.is at c.in_ok-next.ensures.taken) text _ _ run.1, run.2)
+      rw (w.sched-is, w.report-is) (run.0, (rw w.in-NoStep.is at c.in_ok-next.ensures.taken) text _ _ run.1, run.2)
   | in-Row+in_ok-run_step-in-Row w ↦ λ text start.
       let run = c.loop-turn.invariant text start in
       let more = runs_more run.0 w.in-Row.step c.args.sched.now c.loop-turn.sched w.run_step.new.sched c.args.report.now c.loop-turn.report w.run_step.new.report run.2 w.in_ok-run_step-in-Row.ensures.made in

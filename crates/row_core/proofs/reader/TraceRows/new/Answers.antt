@@ -1,10 +1,10 @@
 use Rattle.std.proofs.Common.{◌∙◌, [], arith, inr, refl, sym}
 use Rattle.csv.specs.Reading.{Reached, strip_bom}
-use Rattle.row_core.specs.Traces.{HasRead, steps_of_records}
+use Rattle.row_core.specs.Traces.{HasRead, rows_of_records}
 use Rattle.row_core.proofs.reader.TraceRows.new.Goals as goal
 
 pub returns : goal.returns
-unfolding Reached steps_of_records
+unfolding Reached rows_of_records
 returns c =
     let reader = c.from_reader.ensures in
     let flexible = c.flexible.ensures in
@@ -19,4 +19,4 @@ returns c =
       source = reader.source;
       reached = (sym reader.state, refl);
     } in
-    record { small = c.requires; before = []; read = read; many = omega arith; asked = refl; next_row = refl }
+    record { small = c.requires; before = []; read = read; many = omega arith; asked = refl }

@@ -1,0 +1,102 @@
+//! The parameters, the seed and the packets of the tests, and what every one of them does with lanes.
+
+ghost use Rattle.std.specs.Prelude.{◌≡◌, ◌≤◌, ◌<◌};
+ghost use Rattle.port_core.specs.Devices.{rings_of};
+
+use packet_core::{Classify, Ecn, FiveTuple, Ip, Packet, ParamFields, Params, Seed};
+use port_core::{BookName, Device, LaneFull, LaneSender, MAX_BURST, Screen, Shown};
+use sched_core::{Event, Keeps, Refusal, Step, Totals};
+use std::process::Abort;
+use std::test::Fail;
+
+/// The seed of every device.
+pub(crate) const SEED: Seed = Seed([1, 2, 3, 4, 5, 6, 7, 8, 9, 10, 11, 12, 13, 14, 15, 16]);
+
+/// One flow, chosen by the destination port.
+pub(crate) fn one_flow() -> Result<Params, Fail> {
+    let mut fields = ParamFields::standard();
+    fields.flows = 1;
+    fields.classify = Classify::Dport;
+    Ok(Params::try_new(fields)?)
+}
+
+/// A packet of 100 bytes to that destination port.
+pub(crate) fn packet(dport: u16) -> Result<Packet, Fail> {
+    let tuple = FiveTuple {
+        proto: 17,
+        src: Ip::V4([10, 0, 0, 1]),
+        dst: Ip::V4([10, 0, 0, 2]),
+        sport: 5000,
+        dport,
+    };
+    Ok(Packet::try_new(tuple, 100, Ecn::NotEct)?)
+}
+
+/// How many packets were accepted, and how many were sent.
+pub(crate) fn counted(totals: &Totals) -> (u64, u64) {
+    (totals.accepted, totals.sent)
+}
+
+/// The sender submits a packet to that destination port, and gets it back exactly where the lane is full.
+pub(crate) fn submits<R: Abort>(
+    rt: &R,
+    sender: &mut LaneSender,
+    dport: u16,
+    is_full: bool,
+) -> Result<(), Fail>
+    ensures { sender.new.ring ≡ sender.old.ring }
+{
+    let packet = packet(dport)?;
+    let wanted = if is_full {
+        Err(LaneFull(packet))
+    } else {
+        Ok(())
+    };
+    assert_eq!(rt; sender.submit(packet), wanted);
+    Ok(())
+}
+
+/// The device's pump of the lane at `now` is answered like that.
+pub(crate) fn pumps<
+    J: BookName,
+    X: Screen<Shown<J>> + Drop,
+    K: Keeps<Event>,
+    S: Keeps<Step>,
+    R: Abort,
+>(
+    rt: &R,
+    device: &mut Device<J, X, K, S>,
+    lane: u32,
+    now: u64,
+    burst: u64,
+    wanted: Result<u64, Refusal>,
+)
+    requires { (0 < burst) × (burst ≤ MAX_BURST) }
+    ensures { rings_of device.new.lanes ≡ rings_of device.old.lanes }
+{
+    assert!(rt; lane < device.lanes());
+    assert_eq!(rt; device.pump(lane, now, burst), wanted);
+}
+
+/// Those packets were accepted and no other, told by their lanes and their destination ports, in order.
+pub(crate) fn are_accepted<J: BookName, X: Screen<Shown<J>> + Drop, R: Abort>(
+    rt: &R,
+    device: &Device<J, X>,
+    wanted: &[(u32, u16)],
+) -> Result<(), Fail> {
+    let mut met = 0;
+    for event in device.engine().events() {
+        if let Event::Accepted {
+            lane,
+            packet: accepted,
+            ..
+        } = *event
+        {
+            let (from, dport) = *wanted.get(met).ok_or("a packet that was wanted")?;
+            assert_eq!(rt; (lane, accepted), (from, packet(dport)?));
+            met += 1;
+        }
+    }
+    assert_eq!(rt; met, wanted.len());
+    Ok(())
+}
