@@ -3,8 +3,9 @@
 ghost use Rattle.std.specs.Prelude.{◌≡◌, ◌≤◌, ◌<◌};
 ghost use denote.Param.Send.{IsSync};
 
-use crate::timing::{Fault, REPETITIONS, SEED, START, nanoseconds_since, now, packet_to};
-use crate::workload::ROUNDS;
+use crate::times::{Times, no_times};
+use crate::timing::{Fault, SEED, START, nanoseconds_since, now, packet_to};
+use crate::workload::{REPETITIONS, ROUNDS};
 use packet_core::{Ecn, Packet, ParamFields, Params};
 use port_core::{
     BookBlank, BookName, Device, LaneDone, LaneSender, Layout, LeftRight, Open, Opened, Screen,
@@ -43,10 +44,13 @@ pub enum LanePart {
     Enqueue,
 }
 
-/// The least time that the part took for all packets of a repetition, in nanoseconds.
-pub fn least_of_part<R: AllocGlobal + Clock + Wait>(rt: &R, part: LanePart) -> Result<u128, Fault> {
+/// What the part took for all packets of a repetition.
+pub fn times_of_part<R: AllocGlobal + Clock + Wait>(
+    rt: &R,
+    part: LanePart,
+) -> Result<Times, Fault> {
     let packet = packet_to(0, Ecn::NotEct)?;
-    let mut least = u128::MAX;
+    let mut times = no_times(rt.alloc(), REPETITIONS)?;
     for _ in 0..REPETITIONS {
         let took = match part {
             LanePart::Push => pushing(rt, packet)?,
@@ -54,9 +58,9 @@ pub fn least_of_part<R: AllocGlobal + Clock + Wait>(rt: &R, part: LanePart) -> R
             LanePart::Pump => pumping::<Brand, _>(rt, BookBlank::new(), packet)?,
             LanePart::Enqueue => enqueuing(rt, packet)?,
         };
-        least = least.min(took);
+        times.push(took)?;
     }
-    Ok(least)
+    Times::of(times).ok_or(Fault::OutOfRange)
 }
 
 /// The parameters of each run: no packet is dropped for want of room.
@@ -210,20 +214,20 @@ fn enqueue_all(engine: &mut Engine, packet: Packet) -> bool {
     true
 }
 
-/// The least time that so many senders and the device took for all packets of a repetition, in nanoseconds.
-pub fn least_through_lanes<R: AllocGlobal + Clock + Threads + Wait + Sync>(
+/// What so many senders and the device took for all packets of a repetition.
+pub fn times_through_lanes<R: AllocGlobal + Clock + Threads + Wait + Sync>(
     rt: &R,
     senders: u32,
-) -> Result<u128, Fault>
+) -> Result<Times, Fault>
     requires { (0 < senders) × (senders ≤ 4) }
 {
     let packet = packet_to(0, Ecn::NotEct)?;
     let packets = vec![in rt.alloc(); packet; (ROUNDS / senders) as usize]?;
-    let mut least = u128::MAX;
+    let mut times = no_times(rt.alloc(), REPETITIONS)?;
     for _ in 0..REPETITIONS {
-        least = least.min(opened_lanes::<Brand, _>(rt, BookBlank::new(), senders, &packets)?);
+        times.push(opened_lanes::<Brand, _>(rt, BookBlank::new(), senders, &packets)?)?;
     }
-    Ok(least)
+    Times::of(times).ok_or(Fault::OutOfRange)
 }
 
 /// The time that they took once.

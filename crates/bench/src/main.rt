@@ -9,22 +9,27 @@ mod lanes;
 mod monitors;
 mod sending;
 mod settling;
+mod times;
 mod timing;
 mod unstored;
 mod workload;
 
-use crate::lanes::{LanePart, least_of_part, least_through_lanes};
-use crate::monitors::{Beside, PUBLISHES, least_of_publishes, least_of_reads, least_while_read};
-use crate::sending::least_sending;
-use crate::settling::{SETTLED, least_settling};
-use crate::timing::{Fault, least_nanoseconds};
+use crate::lanes::{LanePart, times_of_part, times_through_lanes};
+use crate::monitors::{Beside, PUBLISHES, times_of_publishes, times_of_reads, times_while_read};
+use crate::sending::times_sending;
+use crate::settling::{SETTLED, times_settling};
+use crate::times::Times;
+use crate::timing::{Fault, times_of_rounds};
 use crate::unstored::totals_of_passing;
-use crate::workload::{ROUNDS, WORKLOADS, Workload};
+use crate::workload::{Memory, ROUNDS, WORKLOADS, Workload};
 use std::env::{self, Env};
 use std::process::ExitCode;
 use std::rt::Clock;
 use std::sync::Wait;
 use std::thread::Threads;
+
+/// The word for fresh memory.
+const COLD: &str = "--cold";
 
 /// The word for the settling of a locked port.
 const SETTLE: &str = "settle";
@@ -42,24 +47,39 @@ fn main(rt: HostRuntime) -> ExitCode {
     }
 }
 
-/// Without a word it says what it measures; else it measures what each word names.
+/// Without a name it says what it measures; else it measures what each names.
 fn bench<R: AllocGlobal + Clock + Env + Print + Threads + Wait + Sync + Clone + Drop>(
     rt: &R,
 ) -> Result<(), Fault> {
-    let names: Vec<String> = env::args(rt)?.skip(1).collect(rt.alloc())?;
-    if names.is_empty() {
-        return tell_workloads(rt);
+    let words: Vec<String> = env::args(rt)?.skip(1).collect(rt.alloc())?;
+    let memory = memory_of(&words);
+    let mut is_asked = false;
+    for word in &words {
+        if word.as_str() != COLD {
+            measure(rt, word, memory)?;
+            is_asked = true;
+        }
     }
-    for name in &names {
-        measure(rt, name)?;
+    if !is_asked {
+        return tell_workloads(rt);
     }
     Ok(())
 }
 
-/// Measures what that word names.
+/// The memory that the words ask for, wherever they do.
+fn memory_of(words: &[String]) -> Memory {
+    if words.iter().any(|word| word.as_str() == COLD) {
+        Memory::Cold
+    } else {
+        Memory::Warm
+    }
+}
+
+/// Measures what that word names. The memory is a workload's: what else there is runs as ever.
 fn measure<R: AllocGlobal + Clock + Print + Threads + Wait + Sync + Clone + Drop>(
     rt: &R,
     name: &str,
+    memory: Memory,
 ) -> Result<(), Fault> {
     if name == SETTLE {
         return measure_settling(rt);
@@ -68,46 +88,80 @@ fn measure<R: AllocGlobal + Clock + Print + Threads + Wait + Sync + Clone + Drop
         return tell_passing(rt);
     }
     if let Some(part) = lane_part_of(name) {
-        return tell_each(rt, name, ROUNDS, least_of_part(rt, part)?);
+        return tell_each(rt, name, ROUNDS, times_of_part(rt, part)?);
     }
     if let Some(events) = events_of(name) {
-        return tell_each(rt, name, PUBLISHES, least_of_publishes(rt, events)?);
+        return tell_each(rt, name, PUBLISHES, times_of_publishes(rt, events)?);
     }
     if let Some(beside) = reads_of(name) {
-        return tell_each(rt, name, ROUNDS, least_of_reads(rt, beside)?);
+        return tell_each(rt, name, ROUNDS, times_of_reads(rt, beside)?);
     }
     if let Some(monitors) = monitors_of(name) {
-        return tell_rate(rt, name, least_while_read(rt, monitors)?);
+        return tell_rate(rt, name, times_while_read(rt, monitors)?);
     }
     if let Some(senders) = senders_of(name, "senders_") {
-        return tell_rate(rt, name, least_sending(rt, senders)?);
+        return tell_rate(rt, name, times_sending(rt, senders)?);
     }
     if let Some(senders) = senders_of(name, "lanes_") {
-        return tell_rate(rt, name, least_through_lanes(rt, senders)?);
+        return tell_rate(rt, name, times_through_lanes(rt, senders)?);
     }
-    let workload = named(name).ok_or(Fault::UnknownWorkload)?;
-    tell_each(rt, workload.name, ROUNDS, least_nanoseconds(rt, workload)?)
+    let named = named(name).ok_or(Fault::UnknownWorkload)?;
+    let workload = match memory {
+        Memory::Warm => *named,
+        Memory::Cold => named.cold(),
+    };
+    let times = times_of_rounds(rt, &workload)?;
+    tell_each(rt, name, workload.rounds, times)
 }
 
-/// Tells how long each of the rounds took, in nanoseconds.
-fn tell_each(rt: &impl Print, name: &str, rounds: u32, nanoseconds: u128) -> Result<(), Fault> {
-    let tenths = nanoseconds.saturating_mul(10) / u128::from(rounds.max(1));
-    println!(rt; "{name},{rounds},{}.{}", tenths / 10, tenths % 10)?;
+/// Tells how long each of the rounds took, in nanoseconds: at the least, and in the median.
+fn tell_each(rt: &impl Print, name: &str, rounds: u32, times: Times) -> Result<(), Fault> {
+    let least = times.least.saturating_mul(10) / u128::from(rounds.max(1));
+    let median = times.median.saturating_mul(10) / u128::from(rounds.max(1));
+    tell_tenths(rt, name, rounds, least, median)
+}
+
+/// Tells the least and the median, which are given in tenths.
+fn tell_tenths(
+    rt: &impl Print,
+    name: &str,
+    number: u32,
+    least: u128,
+    median: u128,
+) -> Result<(), Fault> {
+    println!(rt;
+        "{name},{number},{}.{},{}.{}",
+        least / 10,
+        least % 10,
+        median / 10,
+        median % 10
+    )?;
     Ok(())
 }
 
-/// Tells how many packets went through in a second.
-fn tell_rate(rt: &impl Print, name: &str, nanoseconds: u128) -> Result<(), Fault> {
-    let packets = u128::from(ROUNDS) * 1_000_000_000 / nanoseconds.max(1);
-    println!(rt; "{name},{ROUNDS},{packets}")?;
+/// Tells how many packets went through in a second: at the most, and in the median.
+fn tell_rate(rt: &impl Print, name: &str, times: Times) -> Result<(), Fault> {
+    let most = rate_of(times.least);
+    let median = rate_of(times.median);
+    println!(rt; "{name},{ROUNDS},{most},{median}")?;
     Ok(())
+}
+
+/// How many packets went through in a second, where all took that time, in nanoseconds.
+fn rate_of(nanoseconds: u128) -> u128 {
+    u128::from(ROUNDS) * 1_000_000_000 / nanoseconds.max(1)
 }
 
 /// Measures the settling of a locked port.
 fn measure_settling<R: AllocGlobal + Clock + Print + Wait>(rt: &R) -> Result<(), Fault> {
-    let tenths = least_settling(rt)? / 100_000;
-    println!(rt; "{SETTLE},{SETTLED},{}.{}", tenths / 10, tenths % 10)?;
-    Ok(())
+    let times = times_settling(rt)?;
+    tell_tenths(
+        rt,
+        SETTLE,
+        SETTLED,
+        times.least / 100_000,
+        times.median / 100_000,
+    )
 }
 
 /// Tells what became of the packets of a run through lanes that stores nothing.
@@ -182,19 +236,25 @@ fn named(name: &str) -> Option<&'static Workload> {
 /// Says what each word measures.
 fn tell_workloads(rt: &impl Print) -> Result<(), Fault> {
     println!(rt;
-        "bench NAME... prints name,rounds,nanoseconds per round: the least of some repetitions"
+        "bench [--cold] NAME... prints name,rounds,least,median: nanoseconds per round in the fastest repetition, and in the median one"
+    )?;
+    println!(rt;
+        "Each workload is run 15 times for 100,000 rounds, from the third time on in memory that was used before"
+    )?;
+    println!(rt;
+        "{COLD}: each workload is run 5 times for 1,000,000 rounds, each time in fresh memory; settle and the words below it are run as ever"
     )?;
     for workload in &WORKLOADS {
         println!(rt; "{}: {}", workload.name, workload.about)?;
     }
     println!(rt;
-        "{SETTLE}: the settling of a locked port of 64 seats; it prints name,packets,milliseconds in all"
+        "{SETTLE}: the settling of a locked port of 64 seats; it prints name,packets,least,median: milliseconds in all"
     )?;
     println!(rt;
         "lane_submit, lane_pump: a submit, and a packet of a pump of 64; beside them lane_push and lane_enqueue, the ring's push and the engine's enqueue alone"
     )?;
     println!(rt;
-        "senders_1, senders_2, senders_4: so many threads send through a locked port and one takes; it prints name,packets,packets a second"
+        "senders_1, senders_2, senders_4: so many threads send through a locked port and one takes; it prints name,packets,most,median: packets a second"
     )?;
     println!(rt; "lanes_1, lanes_2, lanes_4: the same through lanes")?;
     println!(rt;
@@ -204,7 +264,7 @@ fn tell_workloads(rt: &impl Print) -> Result<(), Fault> {
         "monitor_alone, monitor_beside: a monitor's read, alone and while a device publishes all the time"
     )?;
     println!(rt;
-        "monitors_0, monitors_1, monitors_4: packets that a device takes out of a lane, with a publish behind each 64, while so many monitors read all the time; it prints name,packets,packets a second"
+        "monitors_0, monitors_1, monitors_4: packets that a device takes out of a lane, with a publish behind each 64, while so many monitors read all the time; it prints name,packets,most,median: packets a second"
     )?;
     println!(rt;
         "{UNSTORED}: 5,000,000 packets through two lanes, where neither events nor steps are stored; it prints name,accepted,sent,queued"

@@ -4,8 +4,9 @@ ghost use Rattle.std.specs.Prelude.{◌≡◌, ◌≤◌};
 ghost use denote.Param.Send.{IsSync};
 
 use crate::lanes::{has_sent_all, open, pump_one, submit_all, take_some};
-use crate::timing::{Fault, REPETITIONS, nanoseconds_since, now, packet_to};
-use crate::workload::ROUNDS;
+use crate::times::{Times, no_times};
+use crate::timing::{Fault, nanoseconds_since, now, packet_to};
+use crate::workload::{REPETITIONS, ROUNDS};
 use packet_core::{Ecn, Packet};
 use port_core::{BookBlank, BookName, Device, LaneSender, Monitor, Opened, Screen, Shown};
 use std::alloc::AllocError;
@@ -18,18 +19,17 @@ use std::thread::{self, Threads};
 /// How many publishes a repetition has.
 pub const PUBLISHES: u32 = 1_000;
 
-/// The least time that the publishes took, each behind so many new events, in nanoseconds. A look at the clock is part
-/// of each.
-pub fn least_of_publishes<R: AllocGlobal + Clock + Wait>(
+/// What the publishes took, each behind so many new events. A look at the clock is part of each.
+pub fn times_of_publishes<R: AllocGlobal + Clock + Wait>(
     rt: &R,
     events: u32,
-) -> Result<u128, Fault> {
+) -> Result<Times, Fault> {
     let packet = packet_to(0, Ecn::NotEct)?;
-    let mut least = u128::MAX;
+    let mut times = no_times(rt.alloc(), REPETITIONS)?;
     for _ in 0..REPETITIONS {
-        least = least.min(publishing::<Brand, _>(rt, BookBlank::new(), packet, events)?);
+        times.push(publishing::<Brand, _>(rt, BookBlank::new(), packet, events)?)?;
     }
-    Ok(least)
+    Times::of(times).ok_or(Fault::OutOfRange)
 }
 
 /// The time that they took once, on a device with one monitor.
@@ -90,16 +90,16 @@ pub enum Beside {
     Publishes,
 }
 
-/// The least time that a repetition of a monitor's reads took, in nanoseconds.
-pub fn least_of_reads<R: AllocGlobal + Clock + Threads + Wait + Sync>(
+/// What a repetition of a monitor's reads took.
+pub fn times_of_reads<R: AllocGlobal + Clock + Threads + Wait + Sync>(
     rt: &R,
     beside: Beside,
-) -> Result<u128, Fault> {
-    let mut least = u128::MAX;
+) -> Result<Times, Fault> {
+    let mut times = no_times(rt.alloc(), REPETITIONS)?;
     for _ in 0..REPETITIONS {
-        least = least.min(reading::<Brand, _>(rt, BookBlank::new(), beside)?);
+        times.push(reading::<Brand, _>(rt, BookBlank::new(), beside)?)?;
     }
-    Ok(least)
+    Times::of(times).ok_or(Fault::OutOfRange)
 }
 
 /// The time that they took once.
@@ -174,20 +174,19 @@ fn publish_on<J: BookName, X: Screen<Shown<J>> + Drop, R: Wait>(
     device
 }
 
-/// The least time that a device took for the packets of a repetition while so many monitors read all the time, in
-/// nanoseconds.
-pub fn least_while_read<R: AllocGlobal + Clock + Threads + Wait + Sync>(
+/// What a device took for the packets of a repetition while so many monitors read all the time.
+pub fn times_while_read<R: AllocGlobal + Clock + Threads + Wait + Sync>(
     rt: &R,
     monitors: u32,
-) -> Result<u128, Fault>
+) -> Result<Times, Fault>
     requires { monitors ≤ 4 }
 {
     let packet = packet_to(0, Ecn::NotEct)?;
-    let mut least = u128::MAX;
+    let mut times = no_times(rt.alloc(), REPETITIONS)?;
     for _ in 0..REPETITIONS {
-        least = least.min(while_read::<Brand, _>(rt, BookBlank::new(), packet, monitors)?);
+        times.push(while_read::<Brand, _>(rt, BookBlank::new(), packet, monitors)?)?;
     }
-    Ok(least)
+    Times::of(times).ok_or(Fault::OutOfRange)
 }
 
 /// The time that it took once.

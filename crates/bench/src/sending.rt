@@ -3,8 +3,9 @@
 ghost use Rattle.std.specs.Prelude.{◌≡◌, ◌≤◌, ◌<◌, ◌+◌};
 ghost use denote.Param.Send.{IsSend, IsSync};
 
-use crate::timing::{Fault, REPETITIONS, SEED, START, nanoseconds_since, now, packet_to};
-use crate::workload::ROUNDS;
+use crate::times::{Times, no_times};
+use crate::timing::{Fault, SEED, START, nanoseconds_since, now, packet_to};
+use crate::workload::{REPETITIONS, ROUNDS};
 use packet_core::{Ecn, Packet, ParamFields, Params};
 use port_core::{LockedDone, LockedPort, Open, PortSeat, send_locked};
 use std::alloc::{AllocError, Global};
@@ -20,24 +21,19 @@ const LIMIT: u32 = 1_048_576;
 /// The device asks so often for a packet at most, so that it ends where no thread can be made for a sender.
 const MAX_ASKINGS: u32 = 10_000_000;
 
-/// The least time that so many senders and a device took for all packets in a repetition, in nanoseconds.
-pub fn least_sending<R: AllocGlobal + Clock + Threads + Wait + Sync>(
+/// What so many senders and a device took for all packets of a repetition.
+pub fn times_sending<R: AllocGlobal + Clock + Threads + Wait + Sync>(
     rt: &R,
     senders: u32,
-) -> Result<u128, Fault>
+) -> Result<Times, Fault>
     requires { (0 < senders) × (senders ≤ 4) }
 {
     let parts = u64::from(senders) + 1;
-    let mut least = u128::MAX;
+    let mut times = no_times(rt.alloc(), REPETITIONS)?;
     for _ in 0..REPETITIONS {
-        least = least.min(sending::<Brand, Brand, _>(
-            rt,
-            senders,
-            Blank::new(parts),
-            Blank::new(parts),
-        )?);
+        times.push(sending::<Brand, Brand, _>(rt, senders, Blank::new(parts), Blank::new(parts))?)?;
     }
-    Ok(least)
+    Times::of(times).ok_or(Fault::OutOfRange)
 }
 
 /// The time that they took once, through a port with these ledgers, in nanoseconds.

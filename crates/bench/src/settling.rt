@@ -3,7 +3,9 @@
 ghost use Rattle.std.specs.Prelude.{◌≡◌};
 
 use crate::device::Refused;
-use crate::timing::{Fault, REPETITIONS, SEED, START, nanoseconds_since, now, packet_to};
+use crate::times::{Times, no_times};
+use crate::timing::{Fault, SEED, START, nanoseconds_since, now, packet_to};
+use crate::workload::REPETITIONS;
 use packet_core::{Ecn, Packet, ParamFields, Params};
 use port_core::{LockedPort, PortSeat};
 use std::marker::Brand;
@@ -18,13 +20,13 @@ pub const SETTLED: u32 = 1_000_000;
 /// How many seats it has.
 const SEATS: u32 = 64;
 
-/// The least time in which a port was settled in a repetition, in nanoseconds.
-pub fn least_settling<R: AllocGlobal + Clock + Wait>(rt: &R) -> Result<u128, Fault> {
-    let mut least = u128::MAX;
+/// In which times a port was settled.
+pub fn times_settling<R: AllocGlobal + Clock + Wait>(rt: &R) -> Result<Times, Fault> {
+    let mut times = no_times(rt.alloc(), REPETITIONS)?;
     for _ in 0..REPETITIONS {
-        least = least.min(settling::<Brand, Brand, _>(rt, Blank::new(64), Blank::new(64))?);
+        times.push(settling::<Brand, Brand, _>(rt, Blank::new(64), Blank::new(64))?)?;
     }
-    Ok(least)
+    Times::of(times).ok_or(Fault::OutOfRange)
 }
 
 /// The time in which a port with these ledgers was settled, in nanoseconds. What its seats did before isn't counted.

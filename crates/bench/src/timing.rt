@@ -5,13 +5,14 @@ ghost use Rattle.bench.specs.Traffic.{GoesTo, GoInTurn};
 ghost use Rattle.packet_core.specs.Params.{standard_fields};
 
 use crate::device::{Device, OnPort, Refused};
-use crate::workload::{Keeper, ROUNDS, Round, Through, Workload};
+use crate::times::{Times, no_times};
+use crate::workload::{Keeper, Round, Through, Workload};
 use packet_core::{
     Ecn, FiveTuple, Ip, LengthOutOfRange, Packet, ParamFields, ParamName, Params, Seed,
 };
 use port_core::LockedPort;
 use sched_core::{Engine, Event, Keeps, Sched, Stored, Unstored};
-use std::alloc::{AllocError, Global};
+use std::alloc::{AllocError, AllocFailed, Global};
 use std::io;
 use std::marker::Brand;
 use std::rt::Clock;
@@ -19,9 +20,6 @@ use std::sync::Wait;
 use std::sync::ledger::{Blank, Ledger};
 use std::time::Instant;
 use thiserror::Error;
-
-/// How often a workload is run, each time with a new scheduler.
-pub const REPETITIONS: u32 = 15;
 
 /// The moment of the first round, in nanoseconds: ten seconds.
 pub const START: u64 = 10_000_000_000;
@@ -64,6 +62,12 @@ impl From<AllocError> for Fault {
     }
 }
 
+impl<T: Drop> From<AllocFailed<T>> for Fault {
+    fn from(_: AllocFailed<T>) -> Fault {
+        Fault::Memory
+    }
+}
+
 impl From<Refused> for Fault {
     fn from(_: Refused) -> Fault {
         Fault::Refused
@@ -97,8 +101,11 @@ impl Traffic {
         ensures first { IfOk result (λ t. t.next ≡ 0) }
     {
         let mut packets = Vec::new(alloc);
-        for dport in 0..workload.busy {
-            if packets.push(packet_to(dport, workload.ecn)?).is_err() {
+        for flow in 0..workload.busy {
+            let Ok(port) = u16::try_from(flow) else {
+                return Err(Fault::OutOfRange);
+            };
+            if packets.push(packet_to(port, workload.ecn)?).is_err() {
                 return Err(Fault::Memory);
             }
         }
@@ -156,16 +163,16 @@ impl Moments {
     }
 }
 
-/// The least time that the rounds took in a repetition, in nanoseconds.
-pub fn least_nanoseconds<R: AllocGlobal + Clock + Wait + Clone + Drop>(
+/// What the rounds took, each time with a new scheduler.
+pub fn times_of_rounds<R: AllocGlobal + Clock + Wait + Clone + Drop>(
     rt: &R,
     workload: &Workload,
-) -> Result<u128, Fault> {
-    let mut least = u128::MAX;
-    for _ in 0..REPETITIONS {
-        least = least.min(nanoseconds(rt, workload)?);
+) -> Result<Times, Fault> {
+    let mut times = no_times(rt.alloc(), workload.repetitions)?;
+    for _ in 0..workload.repetitions {
+        times.push(nanoseconds(rt, workload)?)?;
     }
-    Ok(least)
+    Times::of(times).ok_or(Fault::OutOfRange)
 }
 
 /// The time that the rounds took once, in nanoseconds.
@@ -264,12 +271,14 @@ pub fn nanoseconds_since<R: Clock>(
 fn params_of(workload: &Workload) -> Result<Params, ParamName>
     ensures { IfOk result (λ p. p ≡ record standard_fields {
       limit = workload.now.limit;
+      flows = workload.now.flows;
       ecn = workload.now.ecn_use;
       classify = workload.now.classify;
     }) }
 {
     Params::try_new(ParamFields {
         limit: workload.limit,
+        flows: workload.flows,
         ecn: workload.ecn_use,
         classify: workload.classify,
         ..ParamFields::standard()
@@ -294,7 +303,7 @@ fn rounds<D: Device>(
     // A loop for each kind of round, so that the kind isn't asked in the time that is measured.
     match workload.round {
         Round::EnqueueDequeue => {
-            for _ in 0..ROUNDS {
+            for _ in 0..workload.rounds {
                 let moment = moments.tick();
                 enqueue(device, traffic, moment)?;
                 device.dequeue(moment)?;
@@ -302,7 +311,7 @@ fn rounds<D: Device>(
         }
         Round::RefillDequeue => {
             let waiting = workload.waiting_in_all();
-            for _ in 0..ROUNDS {
+            for _ in 0..workload.rounds {
                 let moment = moments.tick();
                 for _ in device.queued()..=waiting {
                     enqueue(device, traffic, moment)?;
@@ -311,12 +320,12 @@ fn rounds<D: Device>(
             }
         }
         Round::Enqueue => {
-            for _ in 0..ROUNDS {
+            for _ in 0..workload.rounds {
                 enqueue(device, traffic, moments.tick())?;
             }
         }
         Round::TwoEnqueuesDequeue => {
-            for _ in 0..ROUNDS {
+            for _ in 0..workload.rounds {
                 let moment = moments.tick();
                 enqueue(device, traffic, moment)?;
                 enqueue(device, traffic, moment)?;

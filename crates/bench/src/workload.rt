@@ -4,8 +4,17 @@ ghost use Rattle.std.specs.Prelude.{◌≡◌, ◌*◌};
 
 use packet_core::{Classify, Ecn, EcnUse};
 
-/// How many rounds a repetition of a workload has.
+/// How many rounds a repetition has, where nothing else is said.
 pub const ROUNDS: u32 = 100_000;
+
+/// How many repetitions there are, where nothing else is said.
+pub const REPETITIONS: u32 = 15;
+
+/// How many rounds a repetition has that is to run on fresh memory.
+const COLD_ROUNDS: u32 = 1_000_000;
+
+/// How many of these there are.
+const COLD_REPETITIONS: u32 = 5;
 
 /// What a round does.
 #[derive(Clone, Copy, Debug, PartialEq, Eq)]
@@ -40,6 +49,15 @@ pub enum Through {
     LockedPort,
 }
 
+/// What memory the rounds run on.
+#[derive(Clone, Copy, Debug, PartialEq, Eq)]
+pub enum Memory {
+    /// Such as earlier repetitions used.
+    Warm,
+    /// Such as nobody used: each of its pages is new to the process.
+    Cold,
+}
+
 /// A workload: packets of 1,000 bytes that come to some flows in turn. Before its rounds as many packets wait in
 /// each flow, and in an overload as many as the limit allows.
 #[derive(Clone, Copy, Debug, PartialEq, Eq)]
@@ -50,8 +68,14 @@ pub struct Workload {
     pub about: &'static str,
     /// What a round does.
     pub round: Round,
-    /// How many flows packets come to, from 1 to 65,535.
-    pub busy: u16,
+    /// How many rounds a repetition has.
+    pub rounds: u32,
+    /// How many repetitions there are, an odd number.
+    pub repetitions: u32,
+    /// How many flows there are, from 1 to 65,536.
+    pub flows: u32,
+    /// How many of them packets come to, from 1 on.
+    pub busy: u32,
     /// How many packets wait in each of them before the rounds.
     pub waiting: u16,
     /// The time between two rounds, in nanoseconds.
@@ -75,6 +99,17 @@ impl Workload {
     {
         u64::from(self.busy) * u64::from(self.waiting)
     }
+
+    /// The same with so many rounds that they run on fresh memory, and fewer repetitions.
+    pub fn cold(self) -> Workload
+        ensures { result ≡ record self { rounds = COLD_ROUNDS; repetitions = COLD_REPETITIONS } }
+    {
+        Workload {
+            rounds: COLD_ROUNDS,
+            repetitions: COLD_REPETITIONS,
+            ..self
+        }
+    }
 }
 
 /// Sixteen flows that share a limit of 1,000 packets.
@@ -82,6 +117,9 @@ const OVERLOAD: Workload = Workload {
     name: "overflow",
     about: "16 flows at the limit of 1,000 packets; one enqueue, which overflows where no room is left",
     round: Round::Enqueue,
+    rounds: ROUNDS,
+    repetitions: REPETITIONS,
+    flows: 1_024,
     busy: 16,
     waiting: 62,
     step: 100,
@@ -131,10 +169,55 @@ const CODEL: Workload = Workload {
 };
 
 /// All workloads. It is a static, since a constant is written out wherever it is named.
-pub static WORKLOADS: [Workload; 17] = [
+pub static WORKLOADS: [Workload; 24] = [
     ONE,
     FEW,
     MANY,
+    Workload {
+        name: "one_of_1",
+        about: "as one, where it is the only flow",
+        flows: 1,
+        ..ONE
+    },
+    Workload {
+        name: "one_of_16",
+        about: "as one, where there are 16 flows",
+        flows: 16,
+        ..ONE
+    },
+    Workload {
+        name: "one_of_1024",
+        about: "the same as one: there are 1,024 flows, but where a word says another number",
+        ..ONE
+    },
+    Workload {
+        name: "one_of_65536",
+        about: "as one, where there are 65,536 flows",
+        flows: 65_536,
+        ..ONE
+    },
+    Workload {
+        name: "many_of_16",
+        about: "as many, with 16 flows, all busy",
+        flows: 16,
+        busy: 16,
+        ..MANY
+    },
+    Workload {
+        name: "many_of_1024",
+        about: "the same as many: all of 1,024 flows are busy",
+        ..MANY
+    },
+    // A round in 8 ns: the 524,288 packets before it are gone in less than CoDel's target.
+    Workload {
+        name: "many_of_65536",
+        about: "as many, with 65,536 flows, all busy; its journal has fresh memory each time",
+        flows: 65_536,
+        busy: 65_536,
+        step: 8,
+        limit: 1_048_576,
+        ..MANY
+    },
     OVERLOAD,
     Workload {
         name: "overflow_b64",

@@ -10,11 +10,11 @@ use Rattle.packet_core.specs.declared.params.ParamFields.{ParamFields}
 use Rattle.codel_core.specs.declared.served.Mark.{Mark}
 use Rattle.codel_core.specs.declared.served.Served.{Served}
 use Rattle.codel_core.specs.declared.state.CodelState.{CodelState}
-use Rattle.codel_core.specs.Queue.{IsLateBefore, IsLate, HasCome, IsDroppable, IsMarkableAt, is_markable}
+use Rattle.codel_core.specs.Queue.{bytes_of, IsLateBefore, IsLate, HasCome, IsDroppable, IsMarkableAt, is_markable}
 use Rattle.codel_core.specs.Schedule.{spacing_of, drop_moment, after_drops, entered}
 use Rattle.codel_core.specs.Spacing.{IsSpacing}
 use Rattle.codel_core.proofs.SpacingLemmas.{one_spacing_is}
-use Rattle.codel_core.specs.Verdict.{FirstAbove, given_up, stays, IsDropped, Verdict, served, PassesDrops, ServesLine, final_mark}
+use Rattle.codel_core.specs.Verdict.{FirstAbove, given_up, stays, IsDropped, IsHeadOf, Verdict, served, PassesDrops, ServesLine, final_mark}
 
 -- QUEUES AND STATES
 
@@ -43,6 +43,11 @@ pub first_above_kept : {late : Type 0} {interval now : ℕ} {old new : Option �
 first_above_kept (given_up early) l h = absurd (early l)
 first_above_kept {old = None} (stays late) l h = absurd h
 first_above_kept {old = Some t} (stays late) l h = refl
+
+-- so that is its fate
+pub fate_of_droppable : {late : Type 0} {interval now : ℕ} (old : Option ℕ) → late → HasCome old now → FirstAbove late interval now old old
+fate_of_droppable None l h = absurd h
+fate_of_droppable (Some t) l h = stays l
 
 -- a state that begins to drop, behind a judgement
 pub entered_from : (p : ParamFields) (now : ℕ) (old state new : CodelState)
@@ -80,6 +85,16 @@ pub record Midway {A B : Type 0} (items : A → List Waiting) (pulled : A → �
   pub first : IsDroppable p now (items line) old.first_above 0
   pub dropping : old.dropping ≡ true
   pub state_is : state ≡ after_drops p.interval old k
+
+-- While the queue drops, behind a head that was pulled and is droppable: so many packets were dropped with it.
+pub record GoesOn {A B : Type 0} (items : A → List Waiting) (pulled : A → ℕ → A → Type 0) (taken : B → List Waiting → B → Type 0) (room : B → ℕ)
+    (p : ParamFields) (now : ℕ) (old : CodelState) (first : Waiting) (line : A) (sink : B) (head : Waiting) (state : CodelState) (line' : A) (sink' : B) : Type 0 where
+  pub drops : ℕ
+  pub state_is : state ≡ after_drops p.interval old drops
+  pub left : drops + length (items line') ≡ length (items line)
+  pub fits : length (items line') < room sink'
+  pub behind : p.mtu < bytes_of (items line')
+  pub midway : (whole : A) → IsHeadOf items pulled first line whole → Midway items pulled taken p now old whole sink drops head state line' sink'
 
 module _ {A B : Type 0} {items : A → List Waiting} {pulled : A → ℕ → A → Type 0} {taken : B → List Waiting → B → Type 0}
     {p : ParamFields} {now : ℕ} {old : CodelState} {line : A} {sink : B} where

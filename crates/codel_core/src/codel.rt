@@ -3,7 +3,8 @@
 ghost use Rattle.std.specs.Prelude.{◌≡◌, ◌^◌, ◌<◌, ◌≤◌, ◌↔◌, [], drop, length, slice_get, IsNone, None, Some, false};
 ghost use Rattle.packet_core.specs.Params.{IsIntervalInRange};
 ghost use Rattle.codel_core.specs.Schedule.{IsStateInRange, StaysInRange};
-ghost use Rattle.codel_core.specs.Verdict.{ServesLine};
+ghost use Rattle.codel_core.specs.Queue.{HasCome, IsLateBefore};
+ghost use Rattle.codel_core.specs.Verdict.{IsHeadOf, ServesLine};
 
 use crate::control_law::spacing;
 use crate::judge::{enter, may_mark, should_drop};
@@ -116,36 +117,64 @@ fn serve_from<L: Pull, S: DropSink>(
         state.old line.old sink.old result state.new line.new sink.new }
     ensures interval { IsIntervalInRange params.now.interval }
 {
-    let interval = params.interval();
-    let Some(first) = line.pull() else {
+    let _interval = params.interval();
+    let pulled = line.pull();
+    // Only looked at: taken out of its `Some`, a packet is copied once more.
+    let Some(first) = &pulled else {
         // An empty line is no standing queue: the next packet that is late begins the interval anew.
         state.first_above = None;
         state.dropping = false;
         return None;
     };
-    if !should_drop(state, &first, line, now, params) {
-        state.dropping = false;
-        return Some(Served::by_threshold(first, now, params));
+    if should_drop(state, first, line, now, params) {
+        return Some(serve_droppable(state, first, line, now, params, sink));
     }
+    state.dropping = false;
+    Some(Served::by_threshold(first, now, params))
+}
+
+/// Goes on with a serve whose first packet was pulled and is droppable: that one is marked or dropped, or sent where no
+/// drop is due yet.
+// Kept out of its caller: most packets are sent without it.
+#[inline(never)]
+fn serve_droppable<L: Pull, S: DropSink>(
+    state: &mut CodelState,
+    first: &Waiting,
+    line: &mut L,
+    now: u64,
+    params: &Params,
+    sink: &mut S,
+) -> Served
+    requires room { length (L.items line.old) < S.room sink.old }
+    requires size { length (L.items line.old) < 2 ^ 40 }
+    requires moment { now < 2 ^ 60 }
+    requires numbers { IsStateInRange state.old }
+    requires late { IsLateBefore params.now now first.now (L.items line.old) }
+    requires due { HasCome state.old.first_above now }
+    ensures { (whole : L) → IsHeadOf L.items L.pulled first.now line.old whole
+        → ServesLine L.items L.pulled S.taken params.now now
+        state.old whole sink.old (Some result) state.new line.new sink.new }
+{
+    let interval = params.interval();
     if !state.dropping {
-        if may_mark(params, &first) {
+        if may_mark(params, first) {
             enter(state, now, params);
-            return Some(Served::by_codel(first));
+            return Served::by_codel(first);
         }
-        sink.take(first);
+        sink.take(*first);
         let second = pull_waiting(line);
         // It is sent, late or not: the next drop is due a spacing from now. The judgement keeps `first_above` right.
         should_drop(state, &second, line, now, params);
         enter(state, now, params);
-        return Some(Served::by_threshold(second, now, params));
+        return Served::by_threshold(&second, now, params);
     }
-    let mut head = first;
+    let mut head = *first;
     while state.drop_next <= now {
         state.count += 1;
         if may_mark(params, &head) {
             // The mark tells the sender as a drop would. So it counts as one, and nothing has to leave in its place.
             state.drop_next += spacing(interval, state.count);
-            return Some(Served::by_codel(head));
+            return Served::by_codel(&head);
         }
         sink.take(head);
         head = pull_waiting(line);
@@ -153,9 +182,9 @@ fn serve_from<L: Pull, S: DropSink>(
             // No further drop is due, so `drop_next` stays at the moment at which the last one was: should dropping
             // begin again, `first_count` takes the time since then for the time since that drop.
             state.dropping = false;
-            return Some(Served::by_threshold(head, now, params));
+            return Served::by_threshold(&head, now, params);
         }
         state.drop_next += spacing(interval, state.count);
     }
-    Some(Served::by_threshold(head, now, params))
+    Served::by_threshold(&head, now, params)
 }

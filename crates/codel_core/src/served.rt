@@ -31,25 +31,25 @@ impl Served {
     ghost use Rattle.codel_core.specs.declared.served.Mark.TheVariants as marks;
 
     /// A packet that CoDel doesn't mark: as it was accepted, unless the threshold marks it.
-    pub(crate) fn by_threshold(waiting: Waiting, now: u64, params: &Params) -> Served
-        ensures { result ≡ served (threshold_mark params.now now waiting) waiting }
+    pub(crate) fn by_threshold(waiting: &Waiting, now: u64, params: &Params) -> Served
+        ensures { result ≡ served (threshold_mark params.now now waiting.now) waiting.now }
     {
-        if is_past_threshold(&waiting, now, params) {
+        if is_past_threshold(waiting, now, params) {
             Served {
                 waiting: with_ce(waiting),
                 mark: Mark::Threshold,
             }
         } else {
             Served {
-                waiting,
+                waiting: *waiting,
                 mark: Mark::NoMark,
             }
         }
     }
 
     /// A packet that CoDel marks.
-    pub(crate) fn by_codel(waiting: Waiting) -> Served
-        ensures { result ≡ served marks.CodelMark waiting }
+    pub(crate) fn by_codel(waiting: &Waiting) -> Served
+        ensures { result ≡ served marks.CodelMark waiting.now }
     {
         Served {
             waiting: with_ce(waiting),
@@ -59,8 +59,8 @@ impl Served {
 }
 
 /// The packet with its ECN field at CE.
-fn with_ce(waiting: Waiting) -> Waiting
-    ensures { result ≡ record waiting { packet = record waiting.packet { ecn = Ce } } }
+fn with_ce(waiting: &Waiting) -> Waiting
+    ensures { result ≡ record waiting.now { packet = record waiting.now.packet { ecn = Ce } } }
 {
     Waiting {
         id: waiting.id,

@@ -345,9 +345,12 @@ impl Backlog {
             now,
             params,
             journal,
-        )?;
-        account.credits -= i64::from(served.waiting.packet.len());
-        Some(served)
+        );
+        let Some(given) = &served else {
+            return None;
+        };
+        account.credits -= i64::from(given.waiting.packet.len());
+        served
     }
 }
 

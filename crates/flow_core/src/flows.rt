@@ -100,11 +100,14 @@ impl Flows {
         ensures few_comparisons { CountsFew (length self.old.lists.queues) 1 self.old.comparisons self.new.comparisons }
         ensures none_compares { IsNone result → self.new.comparisons ≡ self.old.comparisons }
     {
-        let waiting = self.chains.pop(flow)?;
-        let bytes = u64::from(waiting.packet.len());
-        self.winners.take(flow, bytes);
-        self.total_bytes -= bytes;
-        Some(waiting)
+        let popped = self.chains.pop(flow);
+        // It is given on as it came: taken out of its `Some` and put into another, it would be copied twice.
+        if let Some(waiting) = &popped {
+            let bytes = u64::from(waiting.packet.len());
+            self.winners.take(flow, bytes);
+            self.total_bytes -= bytes;
+        }
+        popped
     }
 
     /// The lengths of the packets that wait in a flow, added up, in bytes.

@@ -1,5 +1,5 @@
 -- The two ends of one lane.
-use Rattle.std.proofs.Common.{◌≡◌, List, [], ◌∷◌, ◌++◌, ap, arith, length, length-append, sym, Some, slice_get}
+use Rattle.std.proofs.Common.{◌≡◌, List, [], ◌∷◌, ◌++◌, ap, arith, length-append, sym, Some, slice_get}
 use Rattle.port_core.specs.Devices.{AreNewLanes, rings_of}
 use Rattle.port_core.specs.Lanes.{LaneView, Sending}
 

@@ -1,4 +1,5 @@
-//! The parameters, the seed and the packets of the tests, and what every one of them does with lanes.
+//! The parameters, the seed and the packets of the tests, and what every one of them does with lanes. Where a step
+//! fails the test ends there: each `?` would be one more way out of a function, and its proof takes each of them.
 
 ghost use Rattle.std.specs.Prelude.{◌≡◌, ◌≤◌, ◌<◌};
 ghost use Rattle.port_core.specs.Devices.{rings_of};
@@ -7,21 +8,20 @@ use packet_core::{Classify, Ecn, FiveTuple, Ip, Packet, ParamFields, Params, See
 use port_core::{BookName, Device, LaneFull, LaneSender, MAX_BURST, Screen, Shown};
 use sched_core::{Event, Keeps, Refusal, Step, Totals};
 use std::process::Abort;
-use std::test::Fail;
 
 /// The seed of every device.
 pub(crate) const SEED: Seed = Seed([1, 2, 3, 4, 5, 6, 7, 8, 9, 10, 11, 12, 13, 14, 15, 16]);
 
 /// One flow, chosen by the destination port.
-pub(crate) fn one_flow() -> Result<Params, Fail> {
+pub(crate) fn one_flow<R: Abort>(rt: &R) -> Params {
     let mut fields = ParamFields::standard();
     fields.flows = 1;
     fields.classify = Classify::Dport;
-    Ok(Params::try_new(fields)?)
+    Params::try_new(fields).expect(rt, "parameters")
 }
 
 /// A packet of 100 bytes to that destination port.
-pub(crate) fn packet(dport: u16) -> Result<Packet, Fail> {
+pub(crate) fn packet<R: Abort>(rt: &R, dport: u16) -> Packet {
     let tuple = FiveTuple {
         proto: 17,
         src: Ip::V4([10, 0, 0, 1]),
@@ -29,7 +29,7 @@ pub(crate) fn packet(dport: u16) -> Result<Packet, Fail> {
         sport: 5000,
         dport,
     };
-    Ok(Packet::try_new(tuple, 100, Ecn::NotEct)?)
+    Packet::try_new(tuple, 100, Ecn::NotEct).expect(rt, "a packet")
 }
 
 /// How many packets were accepted, and how many were sent.
@@ -38,22 +38,16 @@ pub(crate) fn counted(totals: &Totals) -> (u64, u64) {
 }
 
 /// The sender submits a packet to that destination port, and gets it back exactly where the lane is full.
-pub(crate) fn submits<R: Abort>(
-    rt: &R,
-    sender: &mut LaneSender,
-    dport: u16,
-    is_full: bool,
-) -> Result<(), Fail>
+pub(crate) fn submits<R: Abort>(rt: &R, sender: &mut LaneSender, dport: u16, is_full: bool)
     ensures { sender.new.ring ≡ sender.old.ring }
 {
-    let packet = packet(dport)?;
+    let packet = packet(rt, dport);
     let wanted = if is_full {
         Err(LaneFull(packet))
     } else {
         Ok(())
     };
     assert_eq!(rt; sender.submit(packet), wanted);
-    Ok(())
 }
 
 /// The device's pump of the lane at `now` is answered like that.
@@ -83,7 +77,7 @@ pub(crate) fn are_accepted<J: BookName, X: Screen<Shown<J>> + Drop, R: Abort>(
     rt: &R,
     device: &Device<J, X>,
     wanted: &[(u32, u16)],
-) -> Result<(), Fail> {
+) {
     let mut met = 0;
     for event in device.engine().events() {
         if let Event::Accepted {
@@ -92,11 +86,10 @@ pub(crate) fn are_accepted<J: BookName, X: Screen<Shown<J>> + Drop, R: Abort>(
             ..
         } = *event
         {
-            let (from, dport) = *wanted.get(met).ok_or("a packet that was wanted")?;
-            assert_eq!(rt; (lane, accepted), (from, packet(dport)?));
+            let (from, dport) = *wanted.get(met).expect(rt, "a packet that was wanted");
+            assert_eq!(rt; (lane, accepted), (from, packet(rt, dport)));
             met += 1;
         }
     }
     assert_eq!(rt; met, wanted.len());
-    Ok(())
 }

@@ -1,10 +1,8 @@
-//! Tests of lanes: what goes through them, when they are full, and what a device refuses. And of monitors: what they see,
-//! and when. What is expected was worked out by hand from the rules.
+//! Tests of lanes: what goes through them, when they are full, and what a device refuses. What is expected was worked
+//! out by hand from the rules.
 #![tactic(auto)]
 
 #[cfg(test)]
 mod fixtures;
 #[cfg(test)]
 mod lanes;
-#[cfg(test)]
-mod monitors;

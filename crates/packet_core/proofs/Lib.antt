@@ -1,3 +1,4 @@
 pub mod NumeralLemmas
+pub mod PowerLemmas
 pub mod TextLemmas
 pub mod WordLemmas

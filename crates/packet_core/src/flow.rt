@@ -1,6 +1,6 @@
 //! The choice of a packet's flow.
 
-ghost use Rattle.std.specs.Prelude.{◌≡◌, ◌<◌};
+ghost use Rattle.std.specs.Prelude.{◌≡◌, ◌<◌, ◌%◌};
 ghost use Rattle.packet_core.specs.FlowNumber.{flow_number, hash_value, hashed_message};
 
 use crate::packet::FiveTuple;
@@ -18,9 +18,24 @@ pub fn flow_of(params: &Params, seed: &Seed, tuple: &FiveTuple) -> u32
     ensures below { result < params.now.flows }
 {
     match params.classify() {
-        Classify::Hash => (hash_of(seed, tuple) % u64::from(params.flows())) as u32,
-        Classify::Dport => u32::from(tuple.dport) % params.flows(),
+        Classify::Hash => remainder(hash_of(seed, tuple), params.flows()),
+        Classify::Dport => remainder(u64::from(tuple.dport), params.flows()),
     }
+}
+
+/// What is left of a number that is divided by so many flows. Where they are as many as a power of two, that is the
+/// number's low bits, and a mask takes less time than a division.
+fn remainder(number: u64, flows: u32) -> u32
+    requires { 0 < flows }
+    ensures { result ≡ number % flows }
+{
+    let divisor = u64::from(flows);
+    let rest = if divisor.is_power_of_two() {
+        number & (divisor - 1)
+    } else {
+        number % divisor
+    };
+    rest as u32
 }
 
 /// The first eight bytes of a digest under SHA-256 (FIPS 180-4), as a number. What is hashed is the seed and then the

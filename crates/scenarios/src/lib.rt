@@ -6,6 +6,8 @@
 #[cfg(test)]
 mod comparisons;
 #[cfg(test)]
+mod flow_numbers;
+#[cfg(test)]
 mod flow_states;
 #[cfg(test)]
 mod journals;

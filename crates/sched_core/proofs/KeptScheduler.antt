@@ -407,16 +407,16 @@ module _ (p : ParamFields) (seed : Seed) where
 
 -- what a scheduler's invariant says of the scheduler as callers see it
 pub seen_laws : {K : Type 0} (s : Inside K) (v : Scheduler) → scheduler_of s ≡ v → IsKept s → JournalLaws (discipline_of v).flow_of v.standing.events
-seen_laws s v e h = rw (← e) (laws_of_history (fq_codel s.params s.seed).flow_of (queue_of s.backlog.queues) s.journal.events s.backlog.arrived s.last_moment s.is_closed h.history)
+seen_laws s v e h = rw (← e) (laws_of_history (fq_codel s.params s.seed).flow_of (queue_of s.backlog.queues) s.journal.events s.backlog.arrived s.last_moment s.is_closed h.book.history)
 
 pub seen_waits : {K : Type 0} (s : Inside K) (v : Scheduler) → scheduler_of s ≡ v → IsKept s → WaitWithoutFate (queue_of (flows_of v)) v.standing.events
-seen_waits s v e h = rw (← e) (waits_of_history (fq_codel s.params s.seed).flow_of (queue_of s.backlog.queues) s.journal.events s.backlog.arrived s.last_moment s.is_closed h.history)
+seen_waits s v e h = rw (← e) (waits_of_history (fq_codel s.params s.seed).flow_of (queue_of s.backlog.queues) s.journal.events s.backlog.arrived s.last_moment s.is_closed h.book.history)
 
 pub seen_queued : {K : Type 0} (s : Inside K) (v : Scheduler) → scheduler_of s ≡ v → IsKept s → (statistics v.standing.events).queued ≡ waiting_in (flows_of v).lists
-seen_queued s v e h = rw (← e) (sym (waits_at s.params s.seed ((scheduler_of s).standing.state) s.journal.events h.some h.flows h.history))
+seen_queued s v e h = rw (← e) (sym (waits_at s.params s.seed ((scheduler_of s).standing.state) s.journal.events h.book.some h.book.flows h.book.history))
 
 pub seen_number : {K : Type 0} (s : Inside K) (v : Scheduler) → scheduler_of s ≡ v → IsKept s
     → s.journal.counts.accepted + (s.journal.counts.sent + s.journal.counts.dropped_codel + s.journal.counts.dropped_overflow) + bool_byte s.is_closed ≡ length v.standing.events
 seen_number s v e h = rw (← e) (
-    omega (arith, number_of_events s.journal.events h.history.closed_for_good, h.counts.accepted, h.counts.fates, ap (λ b. bool_byte b) h.history.close)
+    omega (arith, number_of_events s.journal.events h.book.history.closed_for_good, h.book.counts.accepted, h.book.counts.fates, ap (λ b. bool_byte b) h.book.history.close)
     )

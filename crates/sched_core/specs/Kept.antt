@@ -9,6 +9,7 @@ use Rattle.fair_core.specs.FairQueues.{FairQueues, queue_of}
 use Rattle.fair_core.specs.FqCodel.{fq_codel}
 use Rattle.journal_core.specs.Happened.{acceptances}
 use Rattle.journal_core.specs.History.{AreCounts, IsHistory}
+use Rattle.sched_core.specs.FlowNumbers.{AreFlowNumbers}
 use Rattle.sched_core.specs.Schedulers.{Scheduler}
 use Rattle.sched_core.specs.Shares.{longest}
 use Rattle.journal_core.specs.State.{State}
@@ -54,5 +55,6 @@ pub record IsBookKept (p : ParamFields) (seed : Seed) (s : State FairQueues) (sp
   pub credits : AreCreditsKept p.quantum (longest (acceptances book.events)) s.queues
 
 -- what holds of a scheduler's fields
-abbrev pub IsKept : {K : Type 0} → Inside K → Type 0
-IsKept s = IsBookKept s.params s.seed ((scheduler_of s).standing.state) s.backlog.room s.journal s.room
+pub record IsKept {K : Type 0} (s : Inside K) : Type 0 where
+  pub book : IsBookKept s.params s.seed ((scheduler_of s).standing.state) s.backlog.room s.journal s.room
+  pub numbers : AreFlowNumbers s.params s.seed s.numbers

@@ -3,6 +3,7 @@
 #![tactic(auto)]
 
 mod engine;
+mod flow_numbers;
 pub mod laws;
 mod run;
 mod sched;

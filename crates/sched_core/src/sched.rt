@@ -5,13 +5,14 @@ ghost use Rattle.journal_core.specs.State.{moment_fault_of, Tests};
 ghost use Rattle.journal_core.specs.declared.outcome.Answer.TheVariants as answer;
 ghost use Rattle.journal_core.specs.declared.step.Refusal.TheVariants as refusal;
 
+use crate::flow_numbers::FlowNumbers;
 use codel_core::Served;
 use fair_core::{Backlog, FlowView};
 use journal_core::{
     Admitted, Answer, CloseFault, Event, Journal, Keeps, MAX_MOMENT, Memory, MomentFault, Refusal,
     Sent, Step, Stored, Totals, TupleRow, gather_rows,
 };
-use packet_core::{Packet, Params, Seed, Waiting, flow_of};
+use packet_core::{Packet, Params, Seed, Waiting};
 use std::alloc::{AllocError, Global};
 use std::marker::Model;
 
@@ -67,6 +68,7 @@ fn sent_of(served: &Served, moment: u64) -> Sent
 pub struct Sched<K: Keeps<Event> = Stored> {
     params: Params,
     seed: Seed,
+    numbers: FlowNumbers,
     backlog: Backlog,
     journal: Journal<K>,
     last_moment: u64,
@@ -101,7 +103,7 @@ impl<K: Keeps<Event>> Sched<K> {
     ghost use Rattle.journal_core.specs.declared.step.Step.TheVariants.{Enqueue, Dequeue, Close};
 
     /// A scheduler before its first step, which tells its events to a keeper that was told none. Room for the close,
-    /// for both lists of flows, for the credits and for CoDel's states is taken here.
+    /// for both lists of flows, for the credits, for CoDel's states and for flow numbers is taken here.
     pub fn try_with_keeper(
         alloc: Global,
         params: Params,
@@ -111,11 +113,13 @@ impl<K: Keeps<Event>> Sched<K> {
         requires { K.told keeper ≡ [] }
         ensures { IfOk result (λ s. s ≡ new_scheduler params seed) }
     {
+        let numbers = FlowNumbers::try_new(alloc, &params, &seed)?;
         Ok(Sched {
             backlog: Backlog::try_new(alloc, params.flows())?,
             journal: Journal::try_over(keeper, 1)?,
             params,
             seed,
+            numbers,
             last_moment: 0,
             is_closed: false,
             turns: 0,
@@ -186,7 +190,9 @@ impl<K: Keeps<Event>> Sched<K> {
             stamp: moment,
             packet,
         };
-        let flow = flow_of(&self.params, &self.seed, &packet.tuple());
+        let flow = self
+            .numbers
+            .flow_of(&self.params, &self.seed, &packet.tuple());
         self.backlog.clear_comparisons();
         self.backlog.arrive(flow, waiting, &self.params);
         self.journal.accept(&waiting, lane, flow);
@@ -217,12 +223,11 @@ impl<K: Keeps<Event>> Sched<K> {
         self.backlog.clear_comparisons();
         let serving = self.backlog.serve(moment, &self.params, &mut self.journal);
         self.turns = serving.turns;
-        let next = serving.served;
-        let Some(served) = next else {
+        let Some(served) = &serving.served else {
             return Ok(None);
         };
-        let sent = sent_of(&served, moment);
-        self.journal.send(&served, moment);
+        let sent = sent_of(served, moment);
+        self.journal.send(served, moment);
         Ok(Some(sent))
     }
 
@@ -429,8 +434,8 @@ impl Sched<Stored> {
     ghost use Rattle.sched_core.specs.Schedulers.{discipline_of, flows_of, new_scheduler};
     ghost use Rattle.journal_core.specs.TupleRows.{tuple_rows};
 
-    /// A scheduler before its first step. Room for the close, for both lists of flows, for the credits and for
-    /// CoDel's states is taken here.
+    /// A scheduler before its first step. Room for the close, for both lists of flows, for the credits, for CoDel's
+    /// states and for flow numbers is taken here.
     pub fn try_new(alloc: Global, params: Params, seed: Seed) -> Result<Sched, Memory>
         ensures { IfOk result (λ s. s ≡ new_scheduler params seed) }
     {

@@ -1,4 +1,4 @@
-use Rattle.std.proofs.Common.{◌≡◌, ℕ, ◌++◌, ◌∷◌, [], ◌<◌, ◌≤◌, List, length, ⊎_elim, arith, rules, true, length-append}
+use Rattle.std.proofs.Common.{◌≡◌, ℕ, subst, ◌++◌, ◌∷◌, [], ◌<◌, ◌≤◌, List, length, ⊎_elim, arith, rules, true, length-append}
 use Rattle.std.specs.Result.{is_ok}
 use Rattle.std.proofs.lemmas.Bool.{cases_lt}
 use Rattle.std.proofs.lemmas.List.{get_or_append_left}
@@ -18,24 +18,25 @@ one_more flow ecn packets next count each goes = λ other none within.
     rw (last, get_or-append_seam packets next [] none, count) goes)
     (cases_lt other (length packets))
 
-pub loop-dport-init : goal.loop-dport-init
-loop-dport-init c = record {
+pub loop-flow-init : goal.loop-flow-init
+loop-flow-init c = record {
   count = c.new-packets.ensures.len;
   each = λ flow none within. absurd (omega (arith, rw c.new-packets.ensures.items at within));
 }
 
-pub loop-dport-preserved : goal.loop-dport-preserved
-loop-dport-preserved c =
+pub loop-flow-preserved : goal.loop-flow-preserved
+loop-flow-preserved c =
     let good : is_ok c.push.result ≡ true = search rules in
     let items = rw good at c.push.ensures.items in
-    let made = c.loop-dport.invariant in
+    let made = c.loop-flow.invariant in
+    let goes : GoesTo c.loop-flow.flow c.args.workload.now.ecn c.in_ok-packet_to.field-0 = subst (λ (n : ℕ). GoesTo n c.args.workload.now.ecn c.in_ok-packet_to.field-0) c.in-Ok.ensures.1 c.in_ok-packet_to.ensures in
     record {
       count = grind (arith, made.count, items);
-      each = rw items (one_more c.loop-dport.dport c.args.workload.now.ecn c.loop-dport.packets.items c.in_ok-packet_to.field-0 (omega (arith, made.count)) made.each c.in_ok-packet_to.ensures);
+      each = rw items (one_more c.loop-flow.flow c.args.workload.now.ecn c.loop-flow.packets.items c.in_ok-packet_to.field-0 (omega (arith, made.count)) made.each goes);
     }
 
 pub returns-clause-count : goal.returns-clause-count
-returns-clause-count c = omega (arith, c.loop-dport.invariant.count)
+returns-clause-count c = omega (arith, c.loop-flow.invariant.count)
 
 pub returns-clause-each : goal.returns-clause-each
-returns-clause-each c = c.loop-dport.invariant.each
+returns-clause-each c = c.loop-flow.invariant.each

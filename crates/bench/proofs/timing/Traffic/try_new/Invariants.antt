@@ -3,8 +3,8 @@ use Rattle.bench.specs.Traffic.{GoInTurn}
 use Rattle.bench.proofs.timing.Traffic.try_new.Given as goal
 
 -- so many packets are made, to the flows in turn
-abbrev pub invariant-loop-dport : goal.invariant-loop-dport
-invariant-loop-dport l = record {
-  count : vec_len l.packets ≡ l.dport;
+abbrev pub invariant-loop-flow : goal.invariant-loop-flow
+invariant-loop-flow l = record {
+  count : vec_len l.packets ≡ l.flow;
   each : GoInTurn l.workload.ecn l.packets.items;
 }

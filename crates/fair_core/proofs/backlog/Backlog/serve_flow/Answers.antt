@@ -6,16 +6,16 @@ use Rattle.fair_core.specs.FairQueues.{account_at, new_account}
 use Rattle.fair_core.proofs.AccountRanges.{flow_from_queue, held_serves}
 use Rattle.fair_core.proofs.backlog.Backlog.serve_flow.Given as given
 use Rattle.fair_core.proofs.backlog.Backlog.serve_flow.Goals as goal
-use Rattle.fair_core.proofs.backlog.Backlog.serve_flow.Goals.{After-serve_queue}
+use Rattle.fair_core.proofs.backlog.Backlog.serve_flow.Goals.{After-serve_queue-served}
 
 -- the account is the flow's: its credits are above 0, and its numbers are in range
-record IsFlows (g : given.Over) (c : After-serve_queue g) : Type 0 where
+record IsFlows (g : given.Over) (c : After-serve_queue-served g) : Type 0 where
   within : c.args.flow < length c.self.inside.flows.lists.queues
   is : c.index_mut-account.result.now ≡ account_at (held_of c.self.inside).queues c.args.flow
   range : IsAccountInRange c.index_mut-account.result.now (length (get_or c.self.inside.flows.lists.queues c.args.flow [])) c.self.inside.arrived
   credits : pos 0 <ℤ c.index_mut-account.result.now.credits
 
-is_flows : (g : given.Over) (c : After-serve_queue g) → IsFlows g c
+is_flows : (g : given.Over) (c : After-serve_queue-served g) → IsFlows g c
 is_flows g c =
     let h = c.self.invariant in
     let within : c.args.flow < length c.self.inside.flows.lists.queues = subst (λ (v : Held). c.args.flow < length v.queues.lists.queues) (sym c.self.view_is) c.requires.flow in
@@ -29,43 +29,43 @@ is_flows g c =
 
 pub invariant_of-self : goal.invariant_of-self
 invariant_of-self g c =
-    let q = c.serve_queue.ensures in
-    let a = is_flows g (goal.at.invariant_of-self g c).After-serve_queue in
+    let q = c.serve_queue-served.ensures in
+    let a = is_flows g (goal.at.invariant_of-self g c).After-serve_queue-served in
     rw q.rest
-    (held_serves c.args.params.now c.args.now c.self.inside.flows.lists c.self.inside.accounts.items c.self.inside.arrived c.args.flow (q.drops + 1) (record { credits = c.index_mut-account.result.now.credits; codel = c.serve_queue.new.codel }) c.self.invariant a.within c.requires.moment
+    (held_serves c.args.params.now c.args.now c.self.inside.flows.lists c.self.inside.accounts.items c.self.inside.arrived c.args.flow (q.drops + 1) (record { credits = c.index_mut-account.result.now.credits; codel = c.serve_queue-served.new.codel }) c.self.invariant a.within c.requires.moment
     a.range.low a.range.high (rw (← a.is) q.stays))
 
-pub returns-in_err-served : goal.returns-in_err-served
-returns-in_err-served g c =
-    let a = is_flows g (goal.at.returns-in_err-served g c).After-serve_queue in
-    rw (← c.self.view_is, c.from_residual.ensures)
-    (flow_from_queue c.args.params.now c.args.now c.args.flow (held_of c.self.inside) c.index_mut-account.result.now c.serve_queue.new.codel c.args.journal.now c.serve_queue.new.journal None c.serve_queue.new.flows
-    c.index_mut-account.result.now.credits a.is (rw c.in_err-served.was at c.serve_queue.ensures) refl)
+pub returns-in_default : goal.returns-in_default
+returns-in_default g c =
+    let a = is_flows g (goal.at.returns-in_default g c).After-serve_queue-served in
+    rw (← c.self.view_is)
+    (flow_from_queue c.args.params.now c.args.now c.args.flow (held_of c.self.inside) c.index_mut-account.result.now c.serve_queue-served.new.codel c.args.journal.now c.serve_queue-served.new.journal None c.serve_queue-served.new.flows
+    c.index_mut-account.result.now.credits a.is (rw c.in_default.is at c.serve_queue-served.ensures) refl)
 
 pub overflow_sub-account : goal.overflow_sub-account
 overflow_sub-account g c =
-    let a = is_flows g (goal.at.overflow_sub-account g c).After-serve_queue in
+    let a = is_flows g (goal.at.overflow_sub-account g c).After-serve_queue-served in
     let from = c.from.ensures in
     let len = c.len.ensures.range in
     omega (arith, ints)
 
 pub invariant_of-self-2 : goal.invariant_of-self-2
 invariant_of-self-2 g c =
-    let q = c.serve_queue.ensures in
-    let a = is_flows g (goal.at.invariant_of-self-2 g c).After-serve_queue in
+    let q = c.serve_queue-served.ensures in
+    let a = is_flows g (goal.at.invariant_of-self-2 g c).After-serve_queue-served in
     let from = c.from.ensures in
     let len = c.len.ensures.range in
     rw q.rest
     (held_serves c.args.params.now c.args.now c.self.inside.flows.lists c.self.inside.accounts.items c.self.inside.arrived c.args.flow (q.drops + 1)
-    (record { credits = to_z w64 (of_z w64 (to_z w64 (of_z w64 c.index_mut-account.result.now.credits) -ℤ to_z w64 (of_z w64 c.from.result))); codel = c.serve_queue.new.codel }) c.self.invariant a.within c.requires.moment
+    (record { credits = to_z w64 (of_z w64 (to_z w64 (of_z w64 c.index_mut-account.result.now.credits) -ℤ to_z w64 (of_z w64 c.from.result))); codel = c.serve_queue-served.new.codel }) c.self.invariant a.within c.requires.moment
     (omega (arith, ints)) (omega (arith, ints)) (rw (← a.is) q.stays))
 
 pub returns : goal.returns
 returns g c =
-    let a = is_flows g (goal.at.returns g c).After-serve_queue in
+    let a = is_flows g (goal.at.returns g c).After-serve_queue-served in
     let from = c.from.ensures in
     let len = c.len.ensures.value in
     let range = c.len.ensures.range in
-    rw (← c.self.view_is)
-    (flow_from_queue c.args.params.now c.args.now c.args.flow (held_of c.self.inside) c.index_mut-account.result.now c.serve_queue.new.codel c.args.journal.now c.serve_queue.new.journal (Some c.in_ok-served.served) c.serve_queue.new.flows
-    (to_z w64 (of_z w64 (to_z w64 (of_z w64 c.index_mut-account.result.now.credits) -ℤ to_z w64 (of_z w64 c.from.result)))) a.is (rw c.in_ok-served.was at c.serve_queue.ensures) (omega (arith, ints)))
+    rw (← c.self.view_is, c.in-Some.is)
+    (flow_from_queue c.args.params.now c.args.now c.args.flow (held_of c.self.inside) c.index_mut-account.result.now c.serve_queue-served.new.codel c.args.journal.now c.serve_queue-served.new.journal (Some c.in-Some.given) c.serve_queue-served.new.flows
+    (to_z w64 (of_z w64 (to_z w64 (of_z w64 c.index_mut-account.result.now.credits) -ℤ to_z w64 (of_z w64 c.from.result)))) a.is (rw c.in-Some.is at c.serve_queue-served.ensures) (omega (arith, ints)))

@@ -13,26 +13,26 @@ overflow_sub-self c =
     let queues = c.self.inside.chains.queues in
     let queue = get_or queues c.args.flow [] in
     let within = rw (← c.self.view_is) at c.requires in
-    let head : Some c.in_ok-waiting.waiting ≡ slice_get queue 0 = sym c.in_ok-waiting.was ∙ c.pop.ensures.head in
-    omega (arith, sum_by-set bytes_of queues c.args.flow [] [] within, bytes_behind queue c.in_ok-waiting.waiting head, c.from-bytes.ensures, c.len.ensures.value, c.self.invariant.total)
+    let head : Some c.in-Some.waiting ≡ slice_get queue 0 = sym c.in-Some.is ∙ c.pop-popped.ensures.head in
+    omega (arith, sum_by-set bytes_of queues c.args.flow [] [] within, bytes_behind queue c.in-Some.waiting head, c.from-bytes.ensures, c.len.ensures.value, c.self.invariant.total)
 
-pub invariant_of-self-2 : goal.invariant_of-self-2
-invariant_of-self-2 c =
+pub invariant_of-self : goal.invariant_of-self
+invariant_of-self c =
     let kept = c.self.invariant in
     let queues = c.self.inside.chains.queues in
     let flow = c.args.flow in
     let queue = get_or queues flow [] in
     let within = rw (← c.self.view_is) at c.requires in
-    let head : Some c.in_ok-waiting.waiting ≡ slice_get queue 0 = sym c.in_ok-waiting.was ∙ c.pop.ensures.head in
+    let head : Some c.in-Some.waiting ≡ slice_get queue 0 = sym c.in-Some.is ∙ c.pop-popped.ensures.head in
     let count = length-set queues flow (drop 1 queue) in
     let bytes : get_or (map bytes_of queues) flow 0 - c.from-bytes.result ≡ bytes_of (drop 1 queue) =
-    omega (arith, bytes_seen queues flow, bytes_behind queue c.in_ok-waiting.waiting head, c.from-bytes.ensures, c.len.ensures.value) in
-    rw c.pop.ensures.rest (record {
+    omega (arith, bytes_seen queues flow, bytes_behind queue c.in-Some.waiting head, c.from-bytes.ensures, c.len.ensures.value) in
+    rw c.pop-popped.ensures.rest (record {
       least = omega (arith, kept.least, count);
       most = omega (arith, kept.most, count);
       flows = kept.flows ∙ sym count;
       bytes = rw (c.take.ensures.bytes, kept.bytes) (bytes_set queues flow (drop 1 queue) _ bytes);
       lengths = All-set AreInRange queues flow (drop 1 queue) (All-drop (λ (x : Waiting). IsLengthInRange x.packet.len) 1 queue (in_range_at queues flow kept.lengths)) kept.lengths;
       few = omega (arith, sum_by-set length queues flow (drop 1 queue) [] within, length-drop 1 queue, kept.few);
-      total = omega (arith, sum_by-set bytes_of queues flow (drop 1 queue) [] within, bytes_behind queue c.in_ok-waiting.waiting head, c.from-bytes.ensures, c.len.ensures.value, kept.total);
+      total = omega (arith, sum_by-set bytes_of queues flow (drop 1 queue) [] within, bytes_behind queue c.in-Some.waiting head, c.from-bytes.ensures, c.len.ensures.value, kept.total);
     })

@@ -14,7 +14,7 @@ accepts g c =
     record {
       fits = rw (← c.self.view_is) at c.requires.fits;
       some = rw (← c.self.view_is) at c.requires.room;
-      kept = c.self.invariant;
+      kept = c.self.invariant.book;
       listed = rw (flow_is, c.arrived.ensures, c.clear_comparisons.ensures) at c.arrive.ensures.queues;
       arrived = rw c.clear_comparisons.ensures at c.arrive.ensures.arrived;
       reserved = rw c.clear_comparisons.ensures at c.arrive.ensures.room;
@@ -23,7 +23,7 @@ accepts g c =
     }
 
 pub invariant_of-self : goal.invariant_of-self
-invariant_of-self g c = kept_admits (accepts g (goal.at.invariant_of-self g c).After-overflow)
+invariant_of-self g c = record { book = kept_admits (accepts g (goal.at.invariant_of-self g c).After-overflow); numbers = c.flow_of-flow.ensures.kept }
 
 pub returns-clause-made : goal.returns-clause-made
 returns-clause-made g c =
@@ -36,7 +36,7 @@ returns-clause-few_comparisons g c =
 
 pub returns-clause-compares : goal.returns-clause-compares
 returns-clause-compares g c =
-    let flows = c.self.invariant.flows in
+    let flows = c.self.invariant.book.flows in
     let mid = rw c.clear_comparisons.ensures at c.arrive.ensures.compares in
     let lost = c.overflow.ensures.few_comparisons.none_lost in
     rw (← c.self.view_is) (λ several. omega (arith, mid (omega arith)))

@@ -5,7 +5,10 @@ use Rattle.sched_core.proofs.sched.Sched.close.Goals as goal
 
 pub invariant_of-self : goal.invariant_of-self
 invariant_of-self g c =
-    rw (c.clear_comparisons.ensures, c.close.ensures) (kept_closes _ _ c.args.moment (rw (← c.self.view_is) at c.in_ok-test_close.ensures) c.self.invariant)
+    record {
+      book = rw (c.clear_comparisons.ensures, c.close.ensures) (kept_closes _ _ c.args.moment (rw (← c.self.view_is) at c.in_ok-test_close.ensures) c.self.invariant.book);
+      numbers = c.self.invariant.numbers;
+    }
 
 pub returns-clause-few_comparisons : goal.returns-clause-few_comparisons
 returns-clause-few_comparisons g c =

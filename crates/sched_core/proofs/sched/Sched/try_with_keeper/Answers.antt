@@ -36,15 +36,18 @@ invariant_of-result g c =
     let held = c.in_ok-try_new.ensures {u = tt} in
     let book = c.in_ok-try_over.ensures {u = tt} in
     record {
-      some = search rules;
-      flows = rw held.0 (omega (arith, length-replicate {A = List Waiting} c.flows.result [], c.flows.ensures.value));
-      space = search rules;
-      reserved = search rules;
-      long = search rules;
-      accepted = search rules;
-      few = search rules;
-      soon = search rules;
-      history = rw (held.0, held.1, book.0) (no_history _ c.flows.result);
-      counts = search rules;
-      credits = rw (held.0, book.0) (opening_credits _ 1 c.flows.result (omega arith));
+      book = record {
+        some = search rules;
+        flows = rw held.0 (omega (arith, length-replicate {A = List Waiting} c.flows.result [], c.flows.ensures.value));
+        space = search rules;
+        reserved = search rules;
+        long = search rules;
+        accepted = search rules;
+        few = search rules;
+        soon = search rules;
+        history = rw (held.0, held.1, book.0) (no_history _ c.flows.result);
+        counts = search rules;
+        credits = rw (held.0, book.0) (opening_credits _ 1 c.flows.result (omega arith));
+      };
+      numbers = c.in_ok-numbers.ensures {u = tt};
     }

@@ -1,4 +1,0 @@
-use Rattle.bench.proofs.lanes.least_through_lanes.Given as goal
-
-abbrev pub ghosts-opened_lanes : goal.ghosts-opened_lanes
-ghosts-opened_lanes g a = record { book = a.blank }

@@ -1,4 +1,0 @@
-use Rattle.bench.proofs.monitors.least_of_publishes.Given as goal
-
-abbrev pub ghosts-publishing : goal.ghosts-publishing
-ghosts-publishing g a = record { book = a.blank }

@@ -1,4 +1,0 @@
-use Rattle.bench.proofs.monitors.least_while_read.Given as goal
-
-abbrev pub ghosts-while_read : goal.ghosts-while_read
-ghosts-while_read g a = record { book = a.blank }

@@ -1,0 +1,4 @@
+use Rattle.monitor_scenarios.proofs.monitors.monitor_learns.Given as goal
+
+abbrev pub ghosts-learns : goal.ghosts-learns
+ghosts-learns g a = record { book = a.blank }

@@ -1,0 +1,8 @@
+//! Tests of monitors: what they see of a device's journal, and when. What is expected was worked out by hand from the
+//! rules.
+#![tactic(auto)]
+
+#[cfg(test)]
+mod fixtures;
+#[cfg(test)]
+mod monitors;

@@ -1,0 +1,100 @@
+//! The flow numbers of packets whose five-tuples come again and again, beside those that `flow_of` answers. Where there
+//! are few flows, there are fewer places for numbers than five-tuples, so that many are remembered and forgotten in
+//! turn.
+
+use packet_core::{Classify, Ecn, FiveTuple, Ip, Packet, ParamFields, Params, Seed, flow_of};
+use sched_core::{Event, Sched};
+use std::process::Abort;
+use std::test::Fail;
+
+/// How many five-tuples come.
+const TUPLES: u16 = 200;
+
+/// How often each of them comes.
+const TIMES: u16 = 3;
+
+/// A seed.
+const SEED: Seed = Seed([1, 2, 3, 4, 5, 6, 7, 8, 9, 10, 11, 12, 13, 14, 15, 16]);
+
+/// Five-tuples with addresses of either kind at either end.
+fn five_tuple(number: u16) -> FiveTuple {
+    let [high, low] = number.to_be_bytes();
+    let short = Ip::V4([10, 0, high, low]);
+    let long = Ip::V6([
+        0x20, 0x01, 0x0d, 0xb8, 0, 0, 0, 0, 0, 0, 0, 0, 0, 0, high, low,
+    ]);
+    let (src, dst) = match number % 4 {
+        0 => (short, short),
+        1 => (short, long),
+        2 => (long, short),
+        _ => (long, long),
+    };
+    FiveTuple {
+        proto: 17,
+        src,
+        dst,
+        sport: 5000,
+        dport: number % 8,
+    }
+}
+
+/// Each five-tuple comes once.
+fn arrive_once(sched: &mut Sched) -> Result<(), Fail> {
+    for number in 0..TUPLES {
+        let packet = Packet::try_new(five_tuple(number), 100, Ecn::NotEct)?;
+        sched.enqueue(0, 0, packet)?;
+    }
+    Ok(())
+}
+
+/// Compares the number of each accepted packet's flow.
+fn expect_numbers(
+    rt: &(impl Abort + AllocGlobal),
+    flows: u32,
+    classify: Classify,
+    seed: Seed,
+) -> Result<(), Fail> {
+    let mut fields = ParamFields::standard();
+    fields.flows = flows;
+    fields.classify = classify;
+    let params = Params::try_new(fields)?;
+    let mut sched = Sched::try_new(rt.alloc(), params, seed)?;
+    for _ in 0..TIMES {
+        arrive_once(&mut sched)?;
+    }
+    assert_eq!(rt;
+        sched.totals().accepted,
+        u64::from(TUPLES) * u64::from(TIMES)
+    );
+    for event in sched.events() {
+        if let Event::Accepted { flow, packet, .. } = event {
+            assert_eq!(rt; *flow, flow_of(&params, &seed, &packet.tuple()));
+        }
+    }
+    Ok(())
+}
+
+#[test]
+fn numbers_of_many_flows(rt: HostRuntime) -> Result<(), Fail> {
+    expect_numbers(&rt, 1024, Classify::Hash, SEED)
+}
+
+#[test]
+fn numbers_of_few_flows(rt: HostRuntime) -> Result<(), Fail> {
+    expect_numbers(&rt, 5, Classify::Hash, SEED)
+}
+
+#[test]
+fn numbers_of_one_flow(rt: HostRuntime) -> Result<(), Fail> {
+    expect_numbers(&rt, 1, Classify::Hash, SEED)
+}
+
+#[test]
+fn numbers_behind_zeros(rt: HostRuntime) -> Result<(), Fail> {
+    expect_numbers(&rt, 64, Classify::Hash, Seed([0; 16]))
+}
+
+#[test]
+fn numbers_of_ports(rt: HostRuntime) -> Result<(), Fail> {
+    expect_numbers(&rt, 5, Classify::Dport, SEED)
+}

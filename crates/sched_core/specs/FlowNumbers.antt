@@ -1,0 +1,17 @@
+use Rattle.std.specs.Prelude.{◌≡◌, ◌<◌, ◌≤◌, All, IfSome, vec_len}
+use Rattle.packet_core.specs.FlowNumber.{flow_number}
+use Rattle.packet_core.specs.declared.flow.Seed.{Seed}
+use Rattle.packet_core.specs.declared.params.Classify.TheVariants.{Hash}
+use Rattle.packet_core.specs.declared.params.ParamFields.{ParamFields}
+use Rattle.sched_core.specs.declared.flow_numbers.FlowNumbers.{FlowNumbers}
+use Rattle.sched_core.specs.declared.flow_numbers.Numbered.{Numbered}
+
+-- beside the five-tuple stands the number of its flow
+pub record HasFlowNumber (p : ParamFields) (seed : Seed) (known : Numbered) : Type 0 where
+  pub value : known.flow ≡ flow_number p.classify p.flows seed known.tuple
+  pub below : known.flow < p.flows
+
+-- and so it does in each place that isn't empty; by the hash there are places
+pub record AreFlowNumbers (p : ParamFields) (seed : Seed) (numbers : FlowNumbers) : Type 0 where
+  pub each : All (λ place. IfSome place (HasFlowNumber p seed)) numbers.places.items
+  pub some : p.classify ≡ Hash → 1 ≤ vec_len numbers.places
