@@ -236,13 +236,13 @@ fn named(name: &str) -> Option<&'static Workload> {
 /// Says what each word measures.
 fn tell_workloads(rt: &impl Print) -> Result<(), Fault> {
     println!(rt;
-        "bench [--cold] NAME... prints name,rounds,least,median: nanoseconds per round in the fastest repetition, and in the median one"
+        "bench [--cold] NAME... prints name,rounds,least,median: nanoseconds per round, of some repetitions"
     )?;
     println!(rt;
-        "Each workload is run 15 times for 100,000 rounds, from the third time on in memory that was used before"
+        "A workload has 15 of 100,000 rounds, from the third on in memory that was used before, but for what says not"
     )?;
     println!(rt;
-        "{COLD}: each workload is run 5 times for 1,000,000 rounds, each time in fresh memory; settle and the words below it are run as ever"
+        "{COLD}: a workload has 5 of 1,000,000 rounds, which store in fresh memory; settle and the rest are as ever"
     )?;
     for workload in &WORKLOADS {
         println!(rt; "{}: {}", workload.name, workload.about)?;

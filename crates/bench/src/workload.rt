@@ -49,12 +49,12 @@ pub enum Through {
     LockedPort,
 }
 
-/// What memory the rounds run on.
+/// What memory the rounds run on (`times_of_rounds` says how far).
 #[derive(Clone, Copy, Debug, PartialEq, Eq)]
 pub enum Memory {
-    /// Such as earlier repetitions used.
+    /// Such as earlier repetitions used, where the workload doesn't say otherwise.
     Warm,
-    /// Such as nobody used: each of its pages is new to the process.
+    /// Such as no repetition used: each of its pages is new to the process.
     Cold,
 }
 
@@ -211,7 +211,7 @@ pub static WORKLOADS: [Workload; 24] = [
     // A round in 8 ns: the 524,288 packets before it are gone in less than CoDel's target.
     Workload {
         name: "many_of_65536",
-        about: "as many, with 65,536 flows, all busy; its journal has fresh memory each time",
+        about: "as many, with 65,536 flows, all busy; its memory is fresh each time",
         flows: 65_536,
         busy: 65_536,
         step: 8,
@@ -226,7 +226,7 @@ pub static WORKLOADS: [Workload; 24] = [
     },
     Workload {
         name: "overflow_2to1",
-        about: "16 flows at the limit of 1,000 packets; two enqueues, one dequeue",
+        about: "16 flows at the limit of 1,000 packets; two enqueues, one dequeue; its memory is fresh each time",
         round: Round::TwoEnqueuesDequeue,
         ..OVERLOAD
     },
@@ -282,7 +282,7 @@ pub static WORKLOADS: [Workload; 24] = [
     },
     Workload {
         name: "unlocked",
-        about: "as few, through an engine, which stores its steps too",
+        about: "as few, through an engine, which stores its steps too; its memory is fresh each time",
         through: Through::Engine,
         ..FEW
     },

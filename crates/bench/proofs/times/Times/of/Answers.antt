@@ -1,4 +1,4 @@
-use Rattle.std.proofs.Common.{◌≡◌, ℕ, ◌+◌, ◌-◌, ◌*◌, ◌/◌, ◌<◌, ◌≤◌, Bool, List, All, Contains, IsPermutation, arith, cond, count_by, drop, false, get_or, length, nat_lt, refl, rules, ◌∙◌, sum_by, take, get_or-drop, get_or-take, length-drop}
+use Rattle.std.proofs.Common.{◌≡◌, ℕ, ◌+◌, ◌-◌, ◌/◌, ◌<◌, ◌≤◌, Bool, List, All, IsPermutation, arith, cond, count_by, drop, false, get_or, length, nat_lt, rules, ◌∙◌, take, get_or-drop, get_or-take, length-drop}
 use Rattle.std.specs.List.Sorted.{IsNonDecreasingBy, IsSorted}
 use Rattle.std.specs.Ordering.{nat_cmp}
 use Rattle.std.proofs.lemmas.Bool.{le-ltb}
@@ -6,7 +6,6 @@ use Rattle.std.proofs.lemmas.List.{get_or_default, length-take-le}
 use Rattle.std.proofs.lemmas.List.Elements.{Contains-get_or}
 use Rattle.std.proofs.lemmas.List.Sorted.{All-permutation, Contains-permutation, IsNonDecreasingBy-from_sort, IsPermutation-sym, length_permutation, sum_by-IsPermutation}
 use Rattle.std.proofs.lemmas.List.Sums.{count_by-le-length, sum_by-le, sum_by-take-drop}
-use Rattle.bench.specs.declared.times.Times.{Times}
 use Rattle.bench.specs.Times.{Summarizes}
 use Rattle.bench.proofs.times.Times.of.Goals as goal
 
