@@ -127,7 +127,7 @@ fn serve_from<L: Pull, S: DropSink>(
         return None;
     };
     if should_drop(state, first, line, now, params) {
-        return Some(serve_droppable(state, first, line, now, params, sink));
+        return Some(serve_droppable(state, *first, line, now, params, sink));
     }
     state.dropping = false;
     Some(Served::by_threshold(first, now, params))
@@ -139,7 +139,7 @@ fn serve_from<L: Pull, S: DropSink>(
 #[inline(never)]
 fn serve_droppable<L: Pull, S: DropSink>(
     state: &mut CodelState,
-    first: &Waiting,
+    first: Waiting,
     line: &mut L,
     now: u64,
     params: &Params,
@@ -149,26 +149,26 @@ fn serve_droppable<L: Pull, S: DropSink>(
     requires size { length (L.items line.old) < 2 ^ 40 }
     requires moment { now < 2 ^ 60 }
     requires numbers { IsStateInRange state.old }
-    requires late { IsLateBefore params.now now first.now (L.items line.old) }
+    requires late { IsLateBefore params.now now first (L.items line.old) }
     requires due { HasCome state.old.first_above now }
-    ensures { (whole : L) → IsHeadOf L.items L.pulled first.now line.old whole
+    ensures { (whole : L) → IsHeadOf L.items L.pulled first line.old whole
         → ServesLine L.items L.pulled S.taken params.now now
         state.old whole sink.old (Some result) state.new line.new sink.new }
 {
     let interval = params.interval();
     if !state.dropping {
-        if may_mark(params, first) {
+        if may_mark(params, &first) {
             enter(state, now, params);
-            return Served::by_codel(first);
+            return Served::by_codel(&first);
         }
-        sink.take(*first);
+        sink.take(first);
         let second = pull_waiting(line);
         // It is sent, late or not: the next drop is due a spacing from now. The judgement keeps `first_above` right.
         should_drop(state, &second, line, now, params);
         enter(state, now, params);
         return Served::by_threshold(&second, now, params);
     }
-    let mut head = *first;
+    let mut head = first;
     while state.drop_next <= now {
         state.count += 1;
         if may_mark(params, &head) {

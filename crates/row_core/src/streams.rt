@@ -1,8 +1,10 @@
 //! What gives a trace: streams that tell whether they have failed.
-ghost use Rattle.std.specs.Prelude.{◌≡◌, ℕ, IfErr, IfOk, List, Option, false, true};
+ghost use Rattle.std.specs.Prelude.{◌≡◌, ◌⊎◌, ◌^◌, ◌-◌, ℕ, IfErr, IfOk, List, Option, false, true};
 ghost use Rattle.std.specs.Io.{ReadsAtMost};
+ghost use Rattle.std.specs.IoError.{error_kind};
 ghost use Rattle.std.specs.Io.KnownBytes.{ReadConsumes};
 ghost use Rattle.row_core.specs.Streams.{IsStopped};
+ghost use Rattle.std.specs.declared.io.ErrorKind.TheVariants.{Interrupted};
 
 use std::io::{self, ErrorKind, Read};
 
@@ -58,10 +60,12 @@ impl<'a, T> Watched<'a, T> {
         }
     }
 
-    /// Notes what a call of the stream ended with: it was interrupted, or it has failed. An interruption that can't be
-    /// counted any more is a failure.
+    /// Notes what a call of the stream ended with, and answers it: it was interrupted, or it has failed. An interruption
+    /// that can't be counted any more is a failure, and is answered as an error of another kind.
     pub fn note(&mut self, why: io::Error) -> io::Error
         ensures stopped { IsStopped result self.old.interruptions self.new.interruptions (self.new.has_failed ≡ true) }
+        ensures answered { (result ≡ why) ⊎ ((error_kind why ≡ Interrupted) × (self.old.interruptions ≡ 2 ^ 64 - 1)) }
+        ensures failed_no_more { error_kind result ≡ Interrupted → self.new.has_failed ≡ self.old.has_failed }
         ensures stream { self.new.stream.now ≡ self.old.stream.now }
         ensures same_reference { self.new.stream.ghost_name ≡ self.old.stream.ghost_name }
     {

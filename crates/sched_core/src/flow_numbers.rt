@@ -5,7 +5,7 @@ ghost use Rattle.std.specs.Prelude.{◌≡◌, ◌<◌, ◌≤◌, IfOk, vec_len
 ghost use Rattle.packet_core.specs.FlowNumber.{flow_number};
 
 use journal_core::Memory;
-use packet_core::{Classify, FiveTuple, Ip, Params, Seed, flow_of};
+use packet_core::{Classify, FiveTuple, Ip, Packet, Params, Seed, flow_of};
 use std::alloc::Global;
 
 /// At least as many places as this for each flow: where a few conversations share each flow, few of them share a place.
@@ -57,16 +57,17 @@ impl FlowNumbers {
         })
     }
 
-    /// The number of a five-tuple's flow.
-    pub(crate) fn flow_of(&mut self, params: &Params, seed: &Seed, tuple: &FiveTuple) -> u32
+    /// The number of a packet's flow.
+    // It takes the packet, and not its five-tuple: that would be copied for `dport` too, which wants the port alone.
+    pub(crate) fn flow_of(&mut self, params: &Params, seed: &Seed, packet: &Packet) -> u32
         requires { AreFlowNumbers params.now seed.now self.old }
-        ensures value { result ≡ flow_number params.now.classify params.now.flows seed.now tuple.now }
+        ensures value { result ≡ flow_number params.now.classify params.now.flows seed.now packet.now.tuple }
         ensures below { result < params.now.flows }
         ensures kept { AreFlowNumbers params.now seed.now self.new }
     {
         match params.classify() {
-            Classify::Hash => self.recall(params, seed, tuple),
-            Classify::Dport => flow_of(params, seed, tuple),
+            Classify::Hash => self.recall(params, seed, &packet.tuple()),
+            Classify::Dport => flow_of(params, seed, &packet.tuple()),
         }
     }
 

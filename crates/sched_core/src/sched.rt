@@ -190,9 +190,7 @@ impl<K: Keeps<Event>> Sched<K> {
             stamp: moment,
             packet,
         };
-        let flow = self
-            .numbers
-            .flow_of(&self.params, &self.seed, &packet.tuple());
+        let flow = self.numbers.flow_of(&self.params, &self.seed, &packet);
         self.backlog.clear_comparisons();
         self.backlog.arrive(flow, waiting, &self.params);
         self.journal.accept(&waiting, lane, flow);

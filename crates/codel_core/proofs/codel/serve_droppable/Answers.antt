@@ -12,9 +12,9 @@ use Rattle.codel_core.proofs.codel.serve_droppable.Goals.{Start, After-should_dr
 
 -- the first packet is in hand and droppable
 first_in_hand : (g : given.Over) (c : Start g) (whole : g.row.L.Denot)
-    → IsHeadOf g.L.Pull.items g.L.Pull.pulled c.args.first.now c.args.line.now whole
+    → IsHeadOf g.L.Pull.items g.L.Pull.pulled c.args.first c.args.line.now whole
     → InHand g.L.Pull.items g.L.Pull.pulled g.S.DropSink.taken c.args.params.now c.args.now c.args.state.now whole c.args.sink.now
-    0 c.args.first.now c.args.state.now.first_above c.args.line.now c.args.sink.now
+    0 c.args.first c.args.state.now.first_above c.args.line.now c.args.sink.now
     × IsDroppable c.args.params.now c.args.now (g.L.Pull.items whole) c.args.state.now.first_above 0
 first_in_hand g c whole of = (
   record {
@@ -60,7 +60,7 @@ returns-then-not-state g c = λ whole of.
     let n = next_in_hand g.met.L.Pull.pulled_more g.met.S.DropSink.taken_more h.0
     c.take.ensures.step c.pull_waiting-second.ensures.step c.pull_waiting-second.ensures.rest c.pull_waiting-second.ensures.head
     refl c.should_drop.ensures.droppable c.should_drop.ensures.first_above in
-    gives n.0 (first_drop h.1 (cc) (unmarkable_at c.args.params.now (g.L.Pull.items whole) 0 c.args.first.now h.0.head_is (cc)))
+    gives n.0 (first_drop h.1 (cc) (unmarkable_at c.args.params.now (g.L.Pull.items whole) 0 c.args.first h.0.head_is (cc)))
     (entered_from c.args.params.now c.args.now c.args.state.now c.should_drop.new.state c.enter-then-not-state.new.state c.should_drop.ensures.rest c.enter-then-not-state.ensures)
     (ap (λ (s : CodelState). s.first_above) c.enter-then-not-state.ensures) c.by_threshold.ensures
 
@@ -75,7 +75,7 @@ returns-then-may_mark-2 g c = λ whole of.
 
 -- the next packet is in hand and judged
 next_judged : (g : given.Over) (c : After-should_drop-in-loop-state g) (whole : g.row.L.Denot)
-    → IsHeadOf g.L.Pull.items g.L.Pull.pulled c.args.first.now c.args.line.now whole
+    → IsHeadOf g.L.Pull.items g.L.Pull.pulled c.args.first c.args.line.now whole
     → InHand g.L.Pull.items g.L.Pull.pulled g.S.DropSink.taken c.args.params.now c.args.now c.args.state.now whole c.args.sink.now
     (c.loop-state.invariant.drops + 1) c.pull_waiting-head.result c.should_drop-in-loop-state.new.state.first_above c.pull_waiting-head.new.line c.take-in-loop-state.new.self
     × (IsTrue c.should_drop-in-loop-state.result ↔ IsDroppable c.args.params.now c.args.now (g.L.Pull.items whole) c.args.state.now.first_above (c.loop-state.invariant.drops + 1))

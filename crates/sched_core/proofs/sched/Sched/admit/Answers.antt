@@ -10,7 +10,7 @@ accepts : (g : given.Over) (c : After-overflow g) → let s = c.self.inside in
 accepts g c =
     let s = c.self.inside in
     let flow_is : c.flow_of-flow.result ≡ flow_number s.params.classify s.params.flows s.seed c.args.packet.tuple =
-    c.flow_of-flow.ensures.value ∙ ap (λ t. flow_number s.params.classify s.params.flows s.seed t) c.tuple.ensures in
+    c.flow_of-flow.ensures.value in
     record {
       fits = rw (← c.self.view_is) at c.requires.fits;
       some = rw (← c.self.view_is) at c.requires.room;
