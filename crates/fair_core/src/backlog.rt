@@ -159,6 +159,8 @@ impl Backlog {
 
     /// A packet comes to the tail of its flow's queue. A flow that is in no list becomes the last of the new
     /// ones, with one quantum of credits (RFC 8290, section 4.1).
+    // Merged into an enqueue, as the pushes below are.
+    #[inline(always)]
     pub fn arrive(&mut self, flow: u32, waiting: Waiting, params: &Params)
         requires flow { flow < length self.old.queues.lists.queues }
         requires room { 0 < self.old.room }

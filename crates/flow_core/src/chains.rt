@@ -97,6 +97,9 @@ impl Chains {
     }
 
     /// A packet comes to the end of a flow's queue. It takes one of the room, and no memory.
+    // Merged into its callers up to an enqueue: handed on in memory, a packet is read in other pieces than it was
+    // written in, and each such read waits for the writes.
+    #[inline(always)]
     pub(crate) fn push(&mut self, flow: u32, waiting: Waiting)
         requires flow { flow < length self.old.queues }
         requires room { 0 < self.old.room }

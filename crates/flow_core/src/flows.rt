@@ -71,6 +71,7 @@ impl Flows {
 
     /// A packet comes to the end of a flow's queue. It takes one of the room, and no memory. It makes at most `levels`
     /// comparisons, and one at least where there are two flows or more.
+    #[inline(always)]
     pub fn push(&mut self, flow: u32, waiting: Waiting)
         requires flow { flow < length self.old.lists.queues }
         requires room { 0 < self.old.room }

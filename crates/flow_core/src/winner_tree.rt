@@ -79,6 +79,7 @@ impl WinnerTree {
     }
 
     /// Bytes come to a flow.
+    #[inline(always)]
     pub(crate) fn add(&mut self, flow: u32, bytes: u64)
         requires flow { flow < length self.old.bytes }
         requires fits { slice_index self.old.bytes flow + bytes < 2 ^ 63 }
@@ -93,6 +94,7 @@ impl WinnerTree {
     }
 
     /// Bytes leave a flow.
+    #[inline(always)]
     pub(crate) fn take(&mut self, flow: u32, bytes: u64)
         requires flow { flow < length self.old.bytes }
         requires there { bytes ≤ slice_index self.old.bytes flow }
@@ -227,6 +229,7 @@ fn node_beside(node: usize) -> usize
 // A flow's count grows to that one, which isn't among the bytes yet: it wins at each node above its leaf, up to the
 // first where another flow still does, or to the top. Where it stands outside of that, the top moves: to its leaf if no
 // flow had bytes, else up. The result is how often two counts were compared.
+#[inline(always)]
 fn raise(bytes: &[u64], winners: &mut [u32], top: &mut Top, flow: u32, own: u64) -> u64
     requires flow { flow < length bytes.now }
     requires small { All (λ b. b < 2 ^ 63) bytes.now }
@@ -330,7 +333,9 @@ fn rise(bytes: &[u64], winners: &mut [u32], top: &mut Top, flow: u32, own: u64) 
 
 // A flow's count falls to that one, which isn't among the bytes yet: each node from its leaf to the top gets its
 // winner anew, up to the first where another flow won. The result is how often two counts were compared: once at each
-// node where the flow had won.
+// node where the flow had won. Its loop wants all registers, and so it is kept out of a dequeue, which has a packet in
+// hand.
+#[inline(never)]
 fn lower(bytes: &[u64], winners: &mut [u32], top: Top, flow: u32, own: u64) -> u64
     requires flow { flow < length bytes.now }
     requires small { All (λ b. b < 2 ^ 63) bytes.now }

@@ -51,10 +51,12 @@ pub struct FiveTuple {
     pub src: Ip,
     /// The destination address.
     pub dst: Ip,
+    /// The destination port, 0 where the protocol has no ports.
+    // It stands before the source port, behind 36 bytes: a packet whose destination port is read on its way is copied
+    // in pieces up to there, and 36 bytes are two of 16 and one of 4, none of which lies across another.
+    pub dport: u16,
     /// The source port, 0 where the protocol has no ports.
     pub sport: u16,
-    /// The destination port, 0 where the protocol has no ports.
-    pub dport: u16,
 }
 
 /// The two bits of explicit congestion notification (RFC 3168, section 5).
