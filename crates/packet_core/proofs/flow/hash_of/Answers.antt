@@ -16,8 +16,7 @@ joined seed src dst sport dport proto = search (rules, append_assoc)
 pub returns : goal.returns
 unfolding hash_value hashed_message
 returns c =
-    let made = c.finalize.ensures _ (c.update-6.ensures _ (c.update-5.ensures _ (c.update-4.ensures _ (c.update-3.ensures _ (c.update-2.ensures _ (c.update.ensures _ c.new-hasher.ensures)))))) in
-    let message : c.args.seed.now.0 ++ c.args.tuple.now.proto ∷ [] ++ c.octets.result.now ++ c.octets-2.result.now ++ c.to_be_bytes.result ++ c.to_be_bytes-2.result ≡ hashed_message c.args.seed.now c.args.tuple.now =
-    rw (c.octets.ensures, c.octets-2.ensures, c.to_be_bytes.ensures, c.to_be_bytes-2.ensures) (joined _ _ _ _ _ _) in
-    let digest : c.finalize.result ≡ sha256 (hashed_message c.args.seed.now c.args.tuple.now) = made ∙ ap sha256 message in
-    rw (← digest) (rw (first_eight c.finalize.result (ap length digest ∙ length-sha256 _)) c.from_be_bytes.ensures)
+    let message : take c.put-place-4.result c.put-place-4.new.message ≡ hashed_message c.args.seed.now c.args.tuple.now =
+    rw (c.put-place-4.ensures.written, c.put-place-3.ensures.written, c.put_address-place-2.ensures.written, c.put_address-place.ensures.written, c.put-place-2.ensures.written, c.put-place.ensures.written, c.to_be_bytes.ensures, c.to_be_bytes-2.ensures) (joined _ _ _ _ _ _) in
+    let digest : c.digest.result ≡ sha256 (hashed_message c.args.seed.now c.args.tuple.now) = c.digest.ensures ∙ ap sha256 message in
+    rw (← digest) (rw (first_eight c.digest.result (ap length digest ∙ length-sha256 _)) c.from_be_bytes.ensures)
