@@ -169,7 +169,7 @@ const CODEL: Workload = Workload {
 };
 
 /// All workloads. It is a static, since a constant is written out wherever it is named.
-pub static WORKLOADS: [Workload; 24] = [
+pub static WORKLOADS: [Workload; 25] = [
     ONE,
     FEW,
     MANY,
@@ -273,6 +273,12 @@ pub static WORKLOADS: [Workload; 24] = [
         about: "as many, with a journal that stores no event",
         through: Through::Sched(Keeper::Unstored),
         ..MANY
+    },
+    Workload {
+        name: "overflow_unstored",
+        about: "as overflow, with a journal that stores no event",
+        through: Through::Sched(Keeper::Unstored),
+        ..OVERLOAD
     },
     Workload {
         name: "codel_unstored",

@@ -11,7 +11,8 @@ pub record HasFlowNumber (p : ParamFields) (seed : Seed) (known : Numbered) : Ty
   pub value : known.flow ≡ flow_number p.classify p.flows seed known.tuple
   pub below : known.flow < p.flows
 
--- and so it does in each place that isn't empty; by the hash there are places
+-- and so it does wherever one stands; by the hash there are places
 pub record AreFlowNumbers (p : ParamFields) (seed : Seed) (numbers : FlowNumbers) : Type 0 where
-  pub each : All (λ place. IfSome place (HasFlowNumber p seed)) numbers.places.items
+  pub later : All (λ place. IfSome place.later (HasFlowNumber p seed)) numbers.places.items
+  pub earlier : All (λ place. IfSome place.earlier (HasFlowNumber p seed)) numbers.places.items
   pub some : p.classify ≡ Hash → 1 ≤ vec_len numbers.places

@@ -1,7 +1,7 @@
 //! The flow numbers of five-tuples that came before. By the hash, the digest is most of an enqueue's time, and the
 //! packets of a conversation all have the number that its first one was given.
 
-ghost use Rattle.std.specs.Prelude.{◌≡◌, ◌<◌, ◌≤◌, IfOk, vec_len};
+ghost use Rattle.std.specs.Prelude.{◌≡◌, ◌<◌, ◌≤◌, IfOk, IfSome, Some, vec_len};
 ghost use Rattle.packet_core.specs.FlowNumber.{flow_number};
 
 use journal_core::Memory;
@@ -24,12 +24,19 @@ pub(crate) struct Numbered {
     flow: u32,
 }
 
+/// The last two five-tuples that came to a place, so that two which share one and come in turn both keep it.
+#[derive(Clone, Copy, Debug)]
+pub(crate) struct Place {
+    later: Option<Numbered>,
+    earlier: Option<Numbered>,
+}
+
 /// The flow numbers of five-tuples that came before, for one scheduler's parameters and seed. Each five-tuple has one
-/// place, where the last one stands that came to it. All memory is taken by `try_new`.
+/// place. All memory is taken by `try_new`.
 #[derive(Debug, Drop)]
 pub(crate) struct FlowNumbers {
     // As many as a power of two, or none where flows are found from the port, which takes no digest.
-    places: Vec<Option<Numbered>>,
+    places: Vec<Place>,
     // From the seed: who doesn't know it can't pick five-tuples that share a place.
     factors: (u64, u64),
 }
@@ -50,8 +57,12 @@ impl FlowNumbers {
             Classify::Dport => 0,
         };
         let (first, second) = halves(&seed.0);
+        let empty = Place {
+            later: None,
+            earlier: None,
+        };
         Ok(FlowNumbers {
-            places: vec![in alloc; None; places]?,
+            places: vec![in alloc; empty; places]?,
             // Odd ones, so that each multiplication loses nothing.
             factors: ((first ^ FIRST_FACTOR) | 1, (second ^ SECOND_FACTOR) | 1),
         })
@@ -71,8 +82,8 @@ impl FlowNumbers {
         }
     }
 
-    /// The same by the hash: it takes a digest only where the five-tuple's place has another one or none. Then it gives
-    /// the place to it.
+    /// The same by the hash: it takes a digest only where the five-tuple isn't in its place. Then it comes there, and
+    /// the earlier one of two goes.
     // Kept out of its callers for the same reason as the digest, and so that by the port an enqueue has nothing of it.
     #[inline(never)]
     fn recall(&mut self, params: &Params, seed: &Seed, tuple: &FiveTuple) -> u32
@@ -82,17 +93,22 @@ impl FlowNumbers {
         ensures below { result < params.now.flows }
         ensures kept { AreFlowNumbers params.now seed.now self.new }
     {
-        let place = self.place_of(tuple);
-        if let Some(known) = &self.places[place]
-            && known.tuple == *tuple
-        {
-            return known.flow;
+        let number = self.place_of(tuple);
+        let place = &self.places[number];
+        if let Some(flow) = number_of(&place.later, tuple) {
+            return flow;
+        }
+        if let Some(flow) = number_of(&place.earlier, tuple) {
+            return flow;
         }
         let flow = flow_of(params, seed, tuple);
-        self.places[place] = Some(Numbered {
-            tuple: *tuple,
-            flow,
-        });
+        self.places[number] = Place {
+            later: Some(Numbered {
+                tuple: *tuple,
+                flow,
+            }),
+            earlier: self.places[number].later,
+        };
         flow
     }
 
@@ -121,6 +137,16 @@ impl FlowNumbers {
                 mixed(mixed(front, second) ^ back, first)
             }
         }
+    }
+}
+
+/// The number that stands beside a five-tuple, where it is that one.
+fn number_of(entry: &Option<Numbered>, tuple: &FiveTuple) -> Option<u32>
+    ensures { IfSome result (λ flow. entry.now ≡ Some (record { tuple = tuple.now; flow = flow })) }
+{
+    match entry {
+        Some(known) if known.tuple == *tuple => Some(known.flow),
+        _ => None,
     }
 }
 

@@ -1,4 +1,4 @@
-use Rattle.std.proofs.Common.{◌≡◌, refl, ap, ◌∙◌, arith}
+use Rattle.std.proofs.Common.{◌≡◌, refl, arith}
 use Rattle.packet_core.specs.FlowNumber.{flow_number}
 use Rattle.sched_core.proofs.KeptScheduler.{Accepts, advances, few_admitted, few_compared, grown, kept_admits}
 use Rattle.sched_core.proofs.sched.Sched.admit.Given as given
