@@ -1,10 +1,12 @@
-use Rattle.std.specs.Prelude.{◌≡◌, ◌<◌, ◌≤◌, All, IfSome, vec_len}
+use Rattle.std.specs.Prelude.{◌≡◌, ◌<◌, ◌≤◌, ◌⊎◌, All, IfSome, IsSomeAnd, vec_len}
 use Rattle.packet_core.specs.FlowNumber.{flow_number}
 use Rattle.packet_core.specs.declared.flow.Seed.{Seed}
+use Rattle.packet_core.specs.declared.packet.FiveTuple.{FiveTuple}
 use Rattle.packet_core.specs.declared.params.Classify.TheVariants.{Hash}
 use Rattle.packet_core.specs.declared.params.ParamFields.{ParamFields}
 use Rattle.sched_core.specs.declared.flow_numbers.FlowNumbers.{FlowNumbers}
 use Rattle.sched_core.specs.declared.flow_numbers.Numbered.{Numbered}
+use Rattle.sched_core.specs.declared.flow_numbers.Place.{Place}
 
 -- beside the five-tuple stands the number of its flow
 pub record HasFlowNumber (p : ParamFields) (seed : Seed) (known : Numbered) : Type 0 where
@@ -16,3 +18,8 @@ pub record AreFlowNumbers (p : ParamFields) (seed : Seed) (numbers : FlowNumbers
   pub later : All (λ place. IfSome place.later (HasFlowNumber p seed)) numbers.places.items
   pub earlier : All (λ place. IfSome place.earlier (HasFlowNumber p seed)) numbers.places.items
   pub some : p.classify ≡ Hash → 1 ≤ vec_len numbers.places
+
+-- a five-tuple stands in a place
+unfoldable pub Remembers : Place → FiveTuple → Type 0
+Remembers place tuple =
+    IsSomeAnd place.later (λ known. known.tuple ≡ tuple) ⊎ IsSomeAnd place.earlier (λ known. known.tuple ≡ tuple)

@@ -1,7 +1,7 @@
 //! The flow numbers of five-tuples that came before. By the hash, the digest is most of an enqueue's time, and the
 //! packets of a conversation all have the number that its first one was given.
 
-ghost use Rattle.std.specs.Prelude.{◌≡◌, ◌<◌, ◌≤◌, IfOk, IfSome, Some, vec_len};
+ghost use Rattle.std.specs.Prelude.{◌≡◌, ◌≢◌, ◌<◌, ◌≤◌, IfOk, IfSome, IfNone, Some, vec_len};
 ghost use Rattle.packet_core.specs.FlowNumber.{flow_number};
 
 use journal_core::Memory;
@@ -82,8 +82,7 @@ impl FlowNumbers {
         }
     }
 
-    /// The same by the hash: it takes a digest only where the five-tuple isn't in its place. Then it comes there, and
-    /// the earlier one of two goes.
+    /// The same by the hash, from the five-tuple's place.
     // Kept out of its callers for the same reason as the digest, and so that by the port an enqueue has nothing of it.
     #[inline(never)]
     fn recall(&mut self, params: &Params, seed: &Seed, tuple: &FiveTuple) -> u32
@@ -94,22 +93,7 @@ impl FlowNumbers {
         ensures kept { AreFlowNumbers params.now seed.now self.new }
     {
         let number = self.place_of(tuple);
-        let place = &self.places[number];
-        if let Some(flow) = number_of(&place.later, tuple) {
-            return flow;
-        }
-        if let Some(flow) = number_of(&place.earlier, tuple) {
-            return flow;
-        }
-        let flow = flow_of(params, seed, tuple);
-        self.places[number] = Place {
-            later: Some(Numbered {
-                tuple: *tuple,
-                flow,
-            }),
-            earlier: self.places[number].later,
-        };
-        flow
+        self.places[number].recall(params, seed, tuple)
     }
 
     /// The place of a five-tuple.
@@ -140,9 +124,41 @@ impl FlowNumbers {
     }
 }
 
+impl Place {
+    ghost use Rattle.sched_core.specs.FlowNumbers.{HasFlowNumber, Remembers};
+
+    /// The number of a five-tuple's flow. A digest is taken only where it doesn't stand here. Then it comes here, and
+    /// the earlier one of two goes.
+    fn recall(&mut self, params: &Params, seed: &Seed, tuple: &FiveTuple) -> u32
+        requires later { IfSome self.old.later (HasFlowNumber params.now seed.now) }
+        requires earlier { IfSome self.old.earlier (HasFlowNumber params.now seed.now) }
+        ensures value { result ≡ flow_number params.now.classify params.now.flows seed.now tuple.now }
+        ensures below { result < params.now.flows }
+        ensures later { IfSome self.new.later (HasFlowNumber params.now seed.now) }
+        ensures earlier { IfSome self.new.earlier (HasFlowNumber params.now seed.now) }
+        ensures remembered { Remembers self.new tuple.now }
+        ensures looked_at { Remembers self.old tuple.now → self.new ≡ self.old }
+    {
+        if let Some(flow) = number_of(&self.later, tuple) {
+            return flow;
+        }
+        if let Some(flow) = number_of(&self.earlier, tuple) {
+            return flow;
+        }
+        let flow = flow_of(params, seed, tuple);
+        self.earlier = self.later;
+        self.later = Some(Numbered {
+            tuple: *tuple,
+            flow,
+        });
+        flow
+    }
+}
+
 /// The number that stands beside a five-tuple, where it is that one.
 fn number_of(entry: &Option<Numbered>, tuple: &FiveTuple) -> Option<u32>
-    ensures { IfSome result (λ flow. entry.now ≡ Some (record { tuple = tuple.now; flow = flow })) }
+    ensures known { IfSome result (λ flow. entry.now ≡ Some (record { tuple = tuple.now; flow = flow })) }
+    ensures unknown { IfNone result (IfSome entry.now (λ known. known.tuple ≢ tuple.now)) }
 {
     match entry {
         Some(known) if known.tuple == *tuple => Some(known.flow),
