@@ -132,7 +132,9 @@ fn reading_of<
         over.store(true, Ordering::SeqCst);
         took
     };
-    let (took, _device) = thread::join(rt, read, move || publish_on(rt, device, over));
+    let publish = move || publish_on(rt, device, over);
+    // Where no thread can be made, `join` calls its first closure last: the reads have ended before the device publishes.
+    let (_device, took) = thread::join(rt, publish, read);
     took
 }
 
@@ -226,7 +228,8 @@ fn while_read_on<
     let read = move || -> Result<Vec<u64>, AllocError>
         requires { IsSync R.row }
     { read_each(rt, monitors, over) };
-    let ((_device, took), read) = thread::join(rt, part, read);
+    // Where no thread can be made, `join` calls its first closure last: the device is through before a monitor reads.
+    let (read, (_device, took)) = thread::join(rt, read, part);
     let _ = read?;
     took
 }

@@ -45,8 +45,8 @@ mistake_made_in line words e same h other =
     subst (λ (l : App). (kind : ErrorKind) × IsAmong kind (fault_of l words) × (kind ≢ DisplayHelp)) same (mistake_made (fault_of line words) e h other)
 
 -- a want of memory is no mistake
-pub memory_is_no_mistake : {X : Type 0} (r : Result X CommandFault) (P : Type 0) → IsErrAnd r (λ fault. fault ≡ Memory)
-    → IfErr r (λ fault. (text : String Global) → fault ≡ Mistake text → P)
+pub memory_is_no_mistake : {X : Type 0} (r : Result X CommandFault) (P : String Global → Type 0)
+    → IsErrAnd r (λ fault. fault ≡ Memory) → IfErr r (λ fault. (text : String Global) → fault ≡ Mistake text → P text)
 memory_is_no_mistake (Ok x) P h = tt
 memory_is_no_mistake (Err fault) P h = λ text is_mistake. search (rules, h, is_mistake)
 

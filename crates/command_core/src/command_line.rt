@@ -1,10 +1,12 @@
 //! The words behind the program's name, read by `clap`.
-ghost use Rattle.std.specs.Prelude.{◌≡◌, ◌≢◌, ◌≤◌, [], IfErr, IfOk, Some, codes, false, map, option_map, true, unwrap_or};
+ghost use Rattle.std.specs.Prelude.{◌≡◌, ◌≢◌, ◌≤◌, [], IfErr, IfOk, Some, codes, false, map, option_map, string_bytes, true, unwrap_or};
 ghost use Rattle.clap.specs.Words.{all_of, app_of, first_of, found_of, kind_of, one_of, rows_of, rule_of, subcommand_name_of};
 ghost use Rattle.clap.specs.declared.builder.command.Command.TheViews.{out-Command as fields_of};
 ghost use Rattle.command_core.specs.CommandLine.{AsksForHelp, AsksForLanes, AsksForLocked, AsksForTrace, IsCount, IsMistake, IsMonitorCount, IsRunRequest, IsSenderCount, lanes_line, monitors_option, monitors_text, parameter_argument, parameter_words, program_line, rows_behind, seed_option, seed_text, senders_line, senders_option, senders_text, trace_line};
+ghost use Rattle.command_core.specs.Shown.{IsShown};
 
 use crate::manual;
+use crate::shown::shown;
 use clap::error::ErrorKind;
 use clap::{Arg, ArgAction, ArgMatches, Command, Error};
 use std::alloc::{AllocError, Global};
@@ -61,7 +63,8 @@ pub enum Request<'a> {
 /// Why the words ask for nothing.
 #[derive(Debug, Drop)]
 pub enum CommandFault {
-    /// They aren't those of a command line. The text says what is wrong, in whole lines.
+    /// They aren't those of a command line. The text says what is wrong, in whole lines. Of the control characters it
+    /// has line feeds alone: each other one of a word is written as `\u{1b}`.
     Mistake(String),
     /// A growth was refused.
     Memory,
@@ -107,6 +110,7 @@ pub fn parse<'a>(alloc: Global, words: &'a [&'a str]) -> Result<Request<'a>, Com
         → AsksForHelp (map (λ w. w.now) words.entry.now)) }
     ensures mistake { IfErr result (λ fault. (text : _) → fault ≡ CommandFault.Mistake text
         → IsMistake (map (λ w. w.now) words.entry.now)) }
+    ensures shown { IfErr result (λ fault. (text : _) → fault ≡ CommandFault.Mistake text → IsShown (string_bytes text)) }
 {
     let command = program_command(alloc)?;
     match command.try_get_matches_from(words) {
@@ -124,11 +128,15 @@ fn without_matches<'a>(alloc: Global, error: Error) -> Result<Request<'a>, Comma
         → kind_of error ≡ ErrorKind.DisplayHelp) }
     ensures mistake { IfErr result (λ fault. (text : _) → fault ≡ CommandFault.Mistake text
         → (kind_of error ≢ ErrorKind.DisplayHelp) × (kind_of error ≢ ErrorKind.OutOfMemory)) }
+    ensures shown { IfErr result (λ fault. (text : _) → fault ≡ CommandFault.Mistake text → IsShown (string_bytes text)) }
 {
     match error.kind() {
         ErrorKind::OutOfMemory => Err(CommandFault::Memory),
         ErrorKind::DisplayHelp => Ok(Request::Help(format!(in alloc; "{error}")?)),
-        _ => Err(CommandFault::Mistake(format!(in alloc; "{error}")?)),
+        _ => {
+            let text = format!(in alloc; "{error}")?;
+            Err(CommandFault::Mistake(shown(alloc, &text)?))
+        }
     }
 }
 

@@ -159,7 +159,9 @@ pub const SEED_SUMMARY: &str = "Seed of the flow hash [default: 32 zeros]";
 /// What the seed is.
 pub const SEED_DESCRIPTION: &str = "\
 Seed of the flow hash: 32 hexadecimal digits, of either case
-[default: 32 zeros]";
+[default: 32 zeros]. Pick it at random and keep it secret: who knows
+it can pick five-tuples that share a flow, and everybody knows the
+zero seed";
 
 /// What the parameter words are, in a line.
 pub const PARAMETERS_SUMMARY: &str = "Parameters, as in 'limit 1000 target 5ms noecn'";
@@ -183,6 +185,11 @@ from left to right, and of a parameter given twice the last one holds.
                         The flows that packets are sorted into.
   quantum BYTES         1 to 1000000 bytes     1514 bytes
                         What a flow sends before the next one has its turn.
+                        A flow that owes bytes takes a turn for each quantum
+                        of them, so a small one costs time: with 1 a packet of
+                        65535 bytes costs its flow as many turns, and with
+                        65536 such flows one dequeue takes seconds. Linux
+                        takes one below 256 as 256.
   mtu BYTES             0 to 65535 bytes       1514 bytes
                         With at most this behind it in its flow, no packet is
                         dropped by CoDel.

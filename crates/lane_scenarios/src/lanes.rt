@@ -6,14 +6,15 @@ ghost use Rattle.port_core.specs.Devices.{AreNewLanes, rings_of};
 
 use crate::fixtures::{SEED, are_accepted, counted, one_flow, packet, pumps, submits};
 use port_core::{
-    BookBlank, BookName, Device, LaneSender, Layout, LeftRight, MAX_CAPACITY, MAX_LANES, Open,
-    Opened, Screen, Shown, Stop, lanes, lanes_with_keepers, send_lane,
+    BookBlank, BookName, Device, Gate, LaneSender, Layout, LeftRight, MAX_CAPACITY, MAX_LANES,
+    Open, Opened, Screen, Shown, Stop, lanes, lanes_with_keepers, send_lane,
 };
 use sched_core::{MomentFault, Refusal, Step, Unstored};
 use std::alloc::Global;
 use std::marker::Brand;
 use std::process::Abort;
 use std::sync::Wait;
+use std::sync::atomic::{AtomicU64, Ordering};
 
 /// Lanes with room for so many packets each, to a device without monitors.
 fn open<'a, J: BookName, R: Wait + Abort>(
@@ -327,4 +328,52 @@ fn sends_so_many<J: BookName, X: Screen<Shown<J>> + Drop, R: Abort>(
     assert_eq!(rt; device.settle_lane(0, end), wanted);
     pumps(rt, device, 0, 7, 1, Ok(1));
     are_accepted(rt, device, &[(0, 1)]);
+}
+
+/// Lets so many calls pass and no other, and counts how often it was asked.
+#[derive(Drop)]
+struct Counting {
+    free: u64,
+    askings: AtomicU64,
+}
+
+impl Gate for Counting {
+    fn pass(&self, call: u64) -> bool {
+        self.askings.fetch_add(1, Ordering::SeqCst);
+        call <= self.free
+    }
+}
+
+/// A sender whose gate stays closed asks a million times for that call, the first one too, and submits nothing more.
+#[test]
+fn closed_gates_stall(rt: HostRuntime) {
+    stalls::<Brand, _>(&rt, rt.alloc(), BookBlank::new());
+}
+
+fn stalls<J: BookName, R: Wait + Abort>(rt: &R, alloc: Global, blank: BookBlank)
+    requires { blank ≡ J.book }
+{
+    let mut opened = open::<J, R>(rt, alloc, blank, 2, 3);
+    stall(rt, &mut opened);
+}
+
+fn stall<J: BookName, X: Screen<Shown<J>> + Drop, R: Abort>(rt: &R, opened: &mut Opened<J, X>) {
+    let other = opened.senders.pop().expect(rt, "sender 1");
+    let sender = opened.senders.pop().expect(rt, "sender 0");
+    stalls_at(rt, sender, 0, 1_000_000);
+    stalls_at(rt, other, 1, 1_000_001);
+    pumps(rt, &mut opened.device, 0, 7, 8, Ok(0));
+    pumps(rt, &mut opened.device, 1, 7, 8, Ok(1));
+}
+
+/// The gate lets so many calls pass, and is asked so often in all.
+fn stalls_at<R: Abort>(rt: &R, sender: LaneSender, free: u64, askings: u64) {
+    let packets = [packet(rt, 1), packet(rt, 2), packet(rt, 3)];
+    let gate = Counting {
+        free,
+        askings: AtomicU64::new(0),
+    };
+    let done = send_lane(sender, &packets, &gate);
+    assert_eq!(rt; (done.submitted, done.stop), (free, Stop::Stalled));
+    assert_eq!(rt; gate.askings.load(Ordering::SeqCst), askings);
 }

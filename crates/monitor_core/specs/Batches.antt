@@ -1,5 +1,5 @@
 -- Batches of events, and the journals that they make.
-use Rattle.std.specs.Prelude.{◌≡◌, List}
+use Rattle.std.specs.Prelude.{List}
 use Rattle.std.specs.List.{flat_map}
 use mathlib.Core.List.{IsPrefix}
 use Rattle.journal_core.specs.declared.event.Event.{Event}

@@ -1,15 +1,13 @@
 //! Opens a publisher and its monitors.
 
-ghost use Rattle.std.specs.Prelude.{◌≡◌, ◌≢◌, ◌<◌, [], replicate, IfErr, IfOk};
-ghost use Rattle.monitor_core.specs.declared.opening.OpenFault.TheVariants as open_fault;
+ghost use Rattle.std.specs.Prelude.{◌≡◌, ◌<◌, ◌≤◌, [], replicate, vec_capacity, IfOk, OnErr, OnOk};
+ghost use Rattle.monitor_core.specs.Publishing.{nothing_published};
 
 use crate::book::{BookBlank, BookName};
 use crate::monitor::Monitor;
 use crate::publisher::{Publisher, nothing_shown};
-use crate::screen::LeftRight;
+use crate::screen::{LeftRight, NoReader};
 use crate::shown::Shown;
-use journal_core::Event;
-use left_right::Absorb;
 use std::alloc::{AllocError, Global};
 use std::sync::Wait;
 
@@ -19,7 +17,7 @@ pub enum OpenFault {
     /// A growth was refused.
     Memory,
     /// There was no place for a monitor, by `left_right`.
-    NoPlace,
+    NoPlace(NoReader),
 }
 
 impl From<AllocError> for OpenFault {
@@ -33,50 +31,55 @@ impl From<AllocError> for OpenFault {
     }
 }
 
-/// Opens a publisher that has published nothing, and so many monitors that have seen nothing.
+impl From<NoReader> for OpenFault {
+    ghost use Rattle.std.specs.Prelude.{◌≡◌};
+    ghost use Rattle.monitor_core.specs.declared.opening.OpenFault.TheVariants as open_fault;
+
+    ghost from_gives = { λ reason fault. fault ≡ open_fault.NoPlace reason };
+
+    fn from(reason: NoReader) -> OpenFault {
+        OpenFault::NoPlace(reason)
+    }
+}
+
+/// Opens a publisher that has published nothing, and so many monitors that have seen nothing. Without monitors it takes
+/// no memory.
 pub fn open_publisher<J: BookName, R: Wait + Drop>(
     rt: R,
     alloc: Global,
     blank: BookBlank,
     monitors: u32,
 ) -> Result<(Publisher<J, LeftRight<Shown<J>, R>>, Vec<Monitor<J>>), OpenFault>
-where
-    Shown<J>: Absorb<Shown<J>, State = [Event; 0]>,
     requires { blank ≡ J.book }
-    ensures publisher { IfOk result (λ r. (r.0.shown ≡ []) × (r.0.reached ≡ [])) }
+    ensures publisher { IfOk result (λ r. r.0 ≡ nothing_published) }
     ensures monitors { IfOk result (λ r. r.1.items ≡ replicate monitors []) }
-    ensures no_place { IfErr result (λ why. monitors ≡ 0 → why ≢ open_fault.NoPlace) }
+    ensures unread { OnErr result (0 < monitors) }
 {
     if monitors == 0 {
         return Ok((Publisher::unread(blank), Vec::new(alloc)));
     }
     let (book, front) = blank.named::<J>();
     let shown = nothing_shown(&front);
+    let mut all = Vec::with_capacity(alloc, monitors as usize)?;
     let screen = LeftRight::new(alloc, rt, shown.again(), shown.again(), monitors)?;
-    let all = monitors_of(alloc, &screen, &shown, monitors)?;
+    add_monitors(&mut all, &screen, &shown, monitors)?;
     Ok((Publisher::new(Some(screen), book, front, shown), all))
 }
 
-/// So many monitors that have seen nothing.
-fn monitors_of<J: BookName, R: Wait + Drop>(
-    alloc: Global,
+/// Adds so many monitors that have seen nothing. It takes no memory, so a place alone may be wanting.
+fn add_monitors<J: BookName, R: Wait + Drop>(
+    all: &mut Vec<Monitor<J>>,
     screen: &LeftRight<Shown<J>, R>,
     shown: &Shown<J>,
     monitors: u32,
-) -> Result<Vec<Monitor<J>>, OpenFault>
-where
-    Shown<J>: Absorb<Shown<J>, State = [Event; 0]>,
-    requires { shown.now ≡ [] }
-    ensures { IfOk result (λ all. all.items ≡ replicate monitors []) }
+) -> Result<(), NoReader>
+    requires none { all.old.items ≡ [] }
+    requires room { monitors ≤ vec_capacity all.old }
+    requires shown { shown.now ≡ [] }
+    ensures { OnOk result (all.new.items ≡ replicate monitors []) }
 {
-    let mut all = Vec::new(alloc);
     for _ in 0..monitors {
-        let Some(reader) = screen.reader() else {
-            return Err(OpenFault::NoPlace);
-        };
-        if all.push(Monitor::new(reader, shown.again())).is_err() {
-            return Err(OpenFault::Memory);
-        }
+        all.push_reserved(Monitor::new(screen.reader()?, shown.again()));
     }
-    Ok(all)
+    Ok(())
 }

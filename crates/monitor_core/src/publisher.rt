@@ -1,15 +1,16 @@
 //! The publisher: the part of a journal's owner that shows its statistics to monitors.
 
-ghost use Rattle.std.specs.Prelude.{◌≡◌, ◌⊎◌, ◌<◌, [], length, IfOk, OnErr, OnOk, MatchBool};
+ghost use Rattle.std.specs.Prelude.{◌≡◌, ◌⊎◌, ◌+◌, ◌<◌, ◌≤◌, [], length, IfOk, MatchBool, OnErr, OnOk};
 ghost use mathlib.Core.List.{IsPrefix};
 ghost use Rattle.monitor_core.specs.Batches.{joined};
+ghost use Rattle.monitor_core.specs.Publishing.{nothing_published};
 
 use crate::book::{Book, BookBlank, BookName, Front};
 use crate::journaled::Journaled;
 use crate::receipt::Receipt;
 use crate::screen::Screen;
 use crate::shown::Shown;
-use journal_core::Totals;
+use journal_core::{GhostList, Totals};
 use std::marker::Model;
 
 /// Why nothing was published.
@@ -20,7 +21,8 @@ pub enum PublishFault {
 }
 
 /// What publishes a journal, over a screen, or over none where nobody reads. Contracts see the events that are shown,
-/// and those that stand in the book: after a publish that was refused these may be more.
+/// those that stand in the book, which after a publish that was refused may be more, and how often the screen was asked
+/// to show some.
 #[derive(Drop)]
 pub struct Publisher<J: BookName, X: Screen<Shown<J>> + Drop> {
     screen: Option<X>,
@@ -28,6 +30,8 @@ pub struct Publisher<J: BookName, X: Screen<Shown<J>> + Drop> {
     front: Front<J>,
     reached: u64,
     shown: Shown<J>,
+    // No bytes: it stands in proofs alone.
+    asked: GhostList<()>,
 }
 
 impl<J: BookName, X: Screen<Shown<J>> + Drop> Model for Publisher<J, X> {
@@ -37,7 +41,11 @@ impl<J: BookName, X: Screen<Shown<J>> + Drop> Model for Publisher<J, X> {
 
     ghost Value = { Published };
 
-    ghost view = { λ p. record { reached = joined p.front; shown = p.shown } };
+    ghost view = { λ p. record {
+      reached = joined p.front;
+      shown = p.shown;
+      asked = length p.asked.items;
+    } };
 
     ghost invariant = { λ p. p.reached ≡ length (joined p.front) };
 }
@@ -51,7 +59,7 @@ impl<J: BookName, X: Screen<Shown<J>> + Drop> Publisher<J, X> {
         shown: Shown<J>,
     ) -> Publisher<J, X>
         requires { joined front ≡ [] }
-        ensures { (result.shown ≡ shown) × (result.reached ≡ []) }
+        ensures { result ≡ record { reached = []; shown = shown; asked = 0 } }
     {
         Publisher {
             screen,
@@ -59,6 +67,7 @@ impl<J: BookName, X: Screen<Shown<J>> + Drop> Publisher<J, X> {
             front,
             reached: 0,
             shown,
+            asked: GhostList::new(),
         }
     }
 
@@ -71,6 +80,7 @@ impl<J: BookName, X: Screen<Shown<J>> + Drop> Publisher<J, X> {
         ensures receipt { IfOk result (λ r. r ≡ Q.events journal.now) }
         ensures refused { OnErr result (self.new.shown ≡ self.old.shown) }
         ensures reached { (self.new.reached ≡ self.old.reached) ⊎ (self.new.reached ≡ Q.events journal.now) }
+        ensures asked { self.new.asked ≤ self.old.asked + 1 }
     {
         if !self.reach(journal) {
             return Err(PublishFault::Memory);
@@ -88,7 +98,7 @@ impl<J: BookName, X: Screen<Shown<J>> + Drop> Publisher<J, X> {
         requires { IsPrefix self.old.reached (Q.events journal.now) }
         ensures reached { MatchBool result
             (self.new.reached ≡ Q.events journal.now) (self.new.reached ≡ self.old.reached) }
-        ensures shown { self.new.shown ≡ self.old.shown }
+        ensures rest { self.new ≡ record self.old { reached = self.new.reached } }
     {
         let mut front = self.front.again();
         if !front.add(&self.book, self.reached, journal) {
@@ -101,8 +111,7 @@ impl<J: BookName, X: Screen<Shown<J>> + Drop> Publisher<J, X> {
     /// Keeps a front of so many events.
     fn advance(&mut self, front: Front<J>, events: u64)
         requires { events ≡ length (joined front) }
-        ensures reached { self.new.reached ≡ joined front }
-        ensures shown { self.new.shown ≡ self.old.shown }
+        ensures { self.new ≡ record self.old { reached = joined front } }
     {
         self.front = front;
         self.reached = events;
@@ -112,8 +121,10 @@ impl<J: BookName, X: Screen<Shown<J>> + Drop> Publisher<J, X> {
     fn show(&mut self, next: Shown<J>) -> bool
         ensures shown { MatchBool result (self.new.shown ≡ next) (self.new.shown ≡ self.old.shown) }
         ensures reached { self.new.reached ≡ self.old.reached }
+        ensures asked { self.new.asked ≤ self.old.asked + 1 }
     {
         if let Some(screen) = &mut self.screen {
+            self.asked = self.asked.and(&());
             if !screen.show(next.again()) {
                 return false;
             }
@@ -132,7 +143,7 @@ impl<J: BookName, X: Screen<Shown<J>> + Drop> Publisher<J, X> {
     /// One that has published nothing, and that nobody reads.
     pub(crate) fn unread(blank: BookBlank) -> Publisher<J, X>
         requires { blank ≡ J.book }
-        ensures { (result.shown ≡ []) × (result.reached ≡ []) }
+        ensures { result ≡ nothing_published }
     {
         let (book, front) = blank.named::<J>();
         let shown = nothing_shown(&front);

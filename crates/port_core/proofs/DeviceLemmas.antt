@@ -16,8 +16,8 @@ use Rattle.monitor_core.specs.Publishing.{Published}
 use Rattle.monitor_core.specs.declared.publisher.PublishFault.{PublishFault}
 use Rattle.monitor_core.proofs.PrefixLemmas.{prefix_behind, prefix_same}
 use Rattle.sched_core.specs.Engines.{Running}
-use Rattle.sched_core.specs.Schedulers.{IsAdvanced, IsServed, discipline_of}
-use Rattle.port_core.specs.Devices.{AreNewLanes, BeginsJournal, Holding, KeepsLanes, Takes, rings_of}
+use Rattle.sched_core.specs.Schedulers.{ComparesFew, IsAdvanced, IsServed, discipline_of}
+use Rattle.port_core.specs.Devices.{AreNewLanes, BeginsJournal, Fed, KeepsLanes, Pumps, Takes, rings_of}
 use Rattle.port_core.specs.Lanes.{GivesPackets, LaneView, RingId, Sending, accepted}
 use Rattle.port_core.proofs.LaneLemmas.{grows_accepted, stays_closed, stays_served}
 
@@ -38,22 +38,30 @@ keeps_close old new moment (Ok _) lanes made same k =
 keeps_close old new moment (Err why) lanes made same k = subst (λ (e : Running). KeepsLanes e.sched.standing.events lanes) (sym same) k
 
 -- events that follow leave beginnings as they are
-begins_more : (p : Published) (old new more : List Event) → new ≡ old ++ more → BeginsJournal p old → BeginsJournal p new
-begins_more p old new more journal b = record { shown = prefix_behind p.shown old new more journal b.shown; reached = prefix_behind p.reached old new more journal b.reached }
+pub begins_more : (p : Published) (old new : List Event) → IsPrefix old new → BeginsJournal p old → BeginsJournal p new
+begins_more p old new more b = record {
+  shown = prefix_behind p.shown old new more.0 (sym more.1) b.shown;
+  reached = prefix_behind p.reached old new more.0 (sym more.1) b.reached;
+}
 
-pub begins_dequeue : (p : Published) (old new : Running) (moment : ℕ) (r : Result (Option Sent) Refusal) → IfOk r (λ sent. IsServed old.sched moment sent new.sched) → OnErr r (new ≡ old)
-    → BeginsJournal p old.sched.standing.events → BeginsJournal p new.sched.standing.events
-begins_dequeue p old new moment (Ok sent) made same b = begins_more p old.sched.standing.events new.sched.standing.events made.gives.made made.gives.journal b
-begins_dequeue p old new moment (Err why) made same b = subst (λ (e : Running). BeginsJournal p e.sched.standing.events) (sym same) b
+-- what makes the journal grow, or is refused, leaves beginnings as they are
+begins_unchanged : (p : Published) (old new : Fed) → new ≡ old → BeginsJournal p old.engine.sched.standing.events → BeginsJournal p new.engine.sched.standing.events
+begins_unchanged p old new same b = subst (λ (f : Fed). BeginsJournal p f.engine.sched.standing.events) (sym same) b
 
-pub begins_close : (p : Published) (old new : Running) (moment : ℕ) (r : Result Unit Refusal) → OnOk r (IsAdvanced old.sched (Close moment) answer.Closed new.sched) → OnErr r (new ≡ old)
-    → BeginsJournal p old.sched.standing.events → BeginsJournal p new.sched.standing.events
-begins_close p old new moment (Ok _) made same b = begins_more p old.sched.standing.events new.sched.standing.events made.advances.made made.advances.journal b
-begins_close p old new moment (Err why) made same b = subst (λ (e : Running). BeginsJournal p e.sched.standing.events) (sym same) b
+pub begins_dequeue : (p : Published) (old new : Fed) (moment : ℕ) (r : Result (Option Sent) Refusal) → IfOk r (λ sent. IsServed old.engine.sched moment sent new.engine.sched) → OnErr r (new ≡ old)
+    → BeginsJournal p old.engine.sched.standing.events → BeginsJournal p new.engine.sched.standing.events
+begins_dequeue p old new moment (Ok sent) made same b = begins_more p old.engine.sched.standing.events new.engine.sched.standing.events (made.gives.made, sym made.gives.journal) b
+begins_dequeue p old new moment (Err why) made same b = begins_unchanged p old new same b
 
-pub begins_take : (p : Published) (old new : Running) (lane now : ℕ) (packet : PacketParts) → IsAdvanced old.sched (Enqueue now lane packet) answer.Accepted new.sched
-    → BeginsJournal p old.sched.standing.events → BeginsJournal p new.sched.standing.events
-begins_take p old new lane now packet made b = begins_more p old.sched.standing.events new.sched.standing.events made.advances.made made.advances.journal b
+pub begins_close : (p : Published) (old new : Fed) (moment : ℕ) (r : Result Unit Refusal) → OnOk r (IsAdvanced old.engine.sched (Close moment) answer.Closed new.engine.sched) → OnErr r (new ≡ old)
+    → BeginsJournal p old.engine.sched.standing.events → BeginsJournal p new.engine.sched.standing.events
+begins_close p old new moment (Ok _) made same b = begins_more p old.engine.sched.standing.events new.engine.sched.standing.events (made.advances.made, sym made.advances.journal) b
+begins_close p old new moment (Err why) made same b = begins_unchanged p old new same b
+
+pub begins_pump : (p : Published) (old new : Fed) (lane now : ℕ) (r : Result ℕ Refusal) → IfOk r (λ k. Pumps old lane now k new) → OnErr r (new ≡ old)
+    → BeginsJournal p old.engine.sched.standing.events → BeginsJournal p new.engine.sched.standing.events
+begins_pump p old new lane now (Ok k) pumped same b = begins_more p old.engine.sched.standing.events new.engine.sched.standing.events pumped.journal b
+begins_pump p old new lane now (Err why) pumped same b = begins_unchanged p old new same b
 
 -- whatever a publish answers, what is shown begins the journal
 pub begins_publish : (old new : Published) (events : List Event) (r : Result (List Event) PublishFault) → OnOk r (new.shown ≡ events) → OnErr r (new.shown ≡ old.shown)
@@ -101,16 +109,16 @@ keeps_take old new lanes lane now p l e there k more made = record {
     other i apart = grown i ∙ ap (λ b. accepted i old.sched.standing.events ++ cond b (p ∷ []) []) (ne_eqb lane i apart) ∙ append-nil (accepted i old.sched.standing.events)
 
 -- and so the device takes it
-pub takes_packet : (h : Holding) (old new : Running) (lanes : List LaneView) (shown : Published) (lane now : ℕ) (p : PacketParts) (l e : LaneView) → h ≡ record { engine = old; lanes = lanes; published = shown } → lane < length lanes
+pub takes_packet : (h : Fed) (old new : Running) (lanes : List LaneView) (lane now : ℕ) (p : PacketParts) (l e : LaneView) → h ≡ record { engine = old; lanes = lanes } → lane < length lanes
     → e ≡ slice_index_or lanes lane e → GivesPackets e (p ∷ []) l → IsAdvanced old.sched (Enqueue now lane p) answer.Accepted new.sched → new.steps ≡ old.steps ++ Enqueue now lane p ∷ []
-    → Takes h lane now (record { engine = new; lanes = slice_set lanes lane l; published = shown })
-takes_packet h old new lanes shown lane now p l e is there stands gives made steps = rw is (record {
+    → ComparesFew old.sched new.sched → Takes h lane now (record { engine = new; lanes = slice_set lanes lane l })
+takes_packet h old new lanes lane now p l e is there stands gives made steps few = rw is (record {
   packet = p;
   made = made;
   steps = steps;
   gives = λ d. rw (get_or-set_same lanes lane l d there, get_or_default lanes lane d e there, sym stands) gives;
   others = λ i d apart. get_or-set_other lanes lane i l d apart;
-  published = refl;
+  few_comparisons = few;
 })
 
 -- the rings stay

@@ -1,7 +1,9 @@
 pub mod BookLemmas
 pub mod DeviceLemmas
+pub mod GateLemmas
 pub mod LaneLemmas
 pub mod MetLemmas
+pub mod PlaceLemmas
 pub mod PumpLemmas
 pub mod SeatLemmas
 pub mod SenderLemmas

@@ -7,8 +7,9 @@ use Rattle.packet_core.specs.Packets.{PacketParts}
 use Rattle.journal_core.specs.State.{State, refusal_of}
 use Rattle.journal_core.specs.declared.step.Step.{Step}
 use Rattle.journal_core.specs.declared.step.Step.TheVariants.{Enqueue}
+use Rattle.monitor_core.proofs.PrefixLemmas.{prefix_behind}
 use Rattle.sched_core.specs.Schedulers.{discipline_of}
-use Rattle.port_core.specs.Devices.{Holding, MayAccept, Pumps, Takes, pump_refusal_of}
+use Rattle.port_core.specs.Devices.{Fed, MayAccept, Pumps, Takes, pump_refusal_of}
 use Rattle.port_core.specs.Lanes.{GivesPackets, LaneView, accepted}
 use Rattle.port_core.proofs.LaneLemmas.{grows_accepted}
 
@@ -41,7 +42,7 @@ nothing : (own : Bool) → cond {A = List PacketParts} own [] [] ≡ []
 nothing true = refl
 nothing false = refl
 
-pub pumps_none : (h : Holding) (lane now : ℕ) → Pumps h lane now 0 h
+pub pumps_none : (h : Fed) (lane now : ℕ) → Pumps h lane now 0 h
 pumps_none h lane now = record {
   packets = [];
   count = refl;
@@ -49,13 +50,15 @@ pumps_none h lane now = record {
   accepted = λ from. sym (ap (λ ps. accepted from h.engine.sched.standing.events ++ ps) (nothing (lane == from)) ∙ append-nil (accepted from h.engine.sched.standing.events));
   gives = λ d. gives_none (slice_index_or h.lanes lane d);
   others = λ i d apart. refl;
-  published = refl;
+  journal = ([], append-nil h.engine.sched.standing.events);
   params = refl;
   seed = refl;
   turns = refl;
+  few_comparisons = λ some. absurd (omega (arith, some));
+  no_comparison = λ none. refl;
 }
 
-pub pumps_more : (old mid new : Holding) (lane now k : ℕ) → Pumps old lane now k mid → Takes mid lane now new → Pumps old lane now (k + 1) new
+pub pumps_more : (old mid new : Fed) (lane now k : ℕ) → Pumps old lane now k mid → Takes mid lane now new → Pumps old lane now (k + 1) new
 pumps_more old mid new lane now k p t = record {
   packets = p.packets ++ t.packet ∷ [];
   count = omega (arith, length-append p.packets (t.packet ∷ []), p.count);
@@ -70,14 +73,16 @@ pumps_more old mid new lane now k p t = record {
       ∙ ap (λ ps. accepted from old.engine.sched.standing.events ++ ps) (accepts_more own p.packets t.packet);
   gives = λ d. gives_more (slice_index_or old.lanes lane d) (slice_index_or mid.lanes lane d) (slice_index_or new.lanes lane d) p.packets t.packet (p.gives d) (t.gives d);
   others = λ i d apart. t.others i d apart ∙ p.others i d apart;
-  published = t.published ∙ p.published;
+  journal = prefix_behind old.engine.sched.standing.events mid.engine.sched.standing.events new.engine.sched.standing.events t.made.advances.made t.made.advances.journal p.journal;
   params = t.made.params ∙ p.params;
   seed = t.made.seed ∙ p.seed;
   turns = t.made.turns ∙ p.turns;
+  few_comparisons = λ some. record { before = mid.engine.sched; packet = t.packet; made = t.made; few_comparisons = t.few_comparisons };
+  no_comparison = λ none. absurd (omega (arith, none));
 }
 
 -- one packet fewer may be accepted behind one
-pub accepts_fewer : (old new : Holding) (lane now before n : ℕ) → before ≡ n + 1 → MayAccept old.engine.sched.standing.state now before → Takes old lane now new → MayAccept new.engine.sched.standing.state now n
+pub accepts_fewer : (old new : Fed) (lane now before n : ℕ) → before ≡ n + 1 → MayAccept old.engine.sched.standing.state now before → Takes old lane now new → MayAccept new.engine.sched.standing.state now n
 accepts_fewer old new lane now before n one m t =
     let admits = t.made.advances.makes.1 in
     record {

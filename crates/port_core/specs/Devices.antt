@@ -10,7 +10,7 @@ use Rattle.journal_core.specs.declared.step.Refusal.TheVariants.{Exhausted}
 use Rattle.journal_core.specs.declared.step.Step.TheVariants.{Close, Enqueue}
 use Rattle.monitor_core.specs.Publishing.{Published}
 use Rattle.sched_core.specs.Engines.{Running}
-use Rattle.sched_core.specs.Schedulers.{IsAdvanced}
+use Rattle.sched_core.specs.Schedulers.{ComparesFew, IsAdvanced, Scheduler}
 use Rattle.port_core.specs.Lanes.{GivesPackets, LaneView, RingId, Sending, accepted}
 
 -- a device: its engine, its ends of the lanes, in the order of their numbers, and what it published
@@ -18,6 +18,14 @@ pub record Holding : Type 0 where
   pub engine : Running
   pub lanes : List LaneView
   pub published : Published
+
+-- the part of it that waits for nobody: its engine and its ends of the lanes
+pub record Fed : Type 0 where
+  pub engine : Running
+  pub lanes : List LaneView
+
+abbrev pub fed_of : Holding → Fed
+fed_of h = record { engine = h.engine; lanes = h.lanes }
 
 -- the rings, in the order of the lanes
 abbrev pub rings_of : List LaneView → List RingId
@@ -48,17 +56,25 @@ pub record MayAccept {Q : Type 0} (s : State Q) (now packets : ℕ) : Type 0 whe
   pub ids : s.next_id + packets ≤ 2 ^ 40
 
 -- The next packet of a lane is accepted at the moment.
-pub record Takes (old : Holding) (lane now : ℕ) (new : Holding) : Type 0 where
+pub record Takes (old : Fed) (lane now : ℕ) (new : Fed) : Type 0 where
   pub packet : PacketParts
   pub made : IsAdvanced old.engine.sched (Enqueue now lane packet) answer.Accepted new.engine.sched
   pub steps : new.engine.steps ≡ old.engine.steps ++ Enqueue now lane packet ∷ []
   pub gives : (d : LaneView)
       → GivesPackets (slice_index_or old.lanes lane d) (packet ∷ []) (slice_index_or new.lanes lane d)
   pub others : (i : ℕ) (d : LaneView) → i ≢ lane → slice_index_or new.lanes i d ≡ slice_index_or old.lanes i d
-  pub published : new.published ≡ old.published
+  pub few_comparisons : ComparesFew old.engine.sched new.engine.sched
 
--- The next packets of a lane are accepted at the moment, one after the other, by a step each.
-pub record Pumps (old : Holding) (lane now k : ℕ) (new : Holding) : Type 0 where
+-- The last packet of a lane was accepted by a step that compared as few flows as a step does.
+pub record LastComparesFew (lane now : ℕ) (new : Scheduler) : Type 0 where
+  pub before : Scheduler
+  pub packet : PacketParts
+  pub made : IsAdvanced before (Enqueue now lane packet) answer.Accepted new
+  pub few_comparisons : ComparesFew before new
+
+-- The next packets of a lane are accepted at the moment, one after the other, by a step each. The journal
+-- only grows. What the engine says of its last step it says of the last of these, where there is one.
+pub record Pumps (old : Fed) (lane now k : ℕ) (new : Fed) : Type 0 where
   pub packets : List PacketParts
   pub count : length packets ≡ k
   pub steps : new.engine.steps ≡ old.engine.steps ++ map (Enqueue now lane) packets
@@ -67,15 +83,17 @@ pub record Pumps (old : Holding) (lane now k : ℕ) (new : Holding) : Type 0 whe
   pub gives : (d : LaneView)
       → GivesPackets (slice_index_or old.lanes lane d) packets (slice_index_or new.lanes lane d)
   pub others : (i : ℕ) (d : LaneView) → i ≢ lane → slice_index_or new.lanes i d ≡ slice_index_or old.lanes i d
-  pub published : new.published ≡ old.published
+  pub journal : IsPrefix old.engine.sched.standing.events new.engine.sched.standing.events
   pub params : new.engine.sched.params ≡ old.engine.sched.params
   pub seed : new.engine.sched.seed ≡ old.engine.sched.seed
   pub turns : new.engine.sched.turns ≡ old.engine.sched.turns
+  pub few_comparisons : 0 < k → LastComparesFew lane now new.engine.sched
+  pub no_comparison : k ≡ 0 → new.engine.sched.comparisons ≡ old.engine.sched.comparisons
 
 -- Of a settled lane a pump takes what is left, but no more than its burst.
-abbrev pub TakesAllLeft : Holding → ℕ → ℕ → ℕ → Type 0
-TakesAllLeft old lane burst k = (d : LaneView) → (slice_index_or old.lanes lane d).settled ≡ true
-    → k ≡ min burst (length (slice_index_or old.lanes lane d).known)
+abbrev pub TakesAllLeft : List LaneView → ℕ → ℕ → ℕ → Type 0
+TakesAllLeft lanes lane burst k = (d : LaneView) → (slice_index_or lanes lane d).settled ≡ true
+    → k ≡ min burst (length (slice_index_or lanes lane d).known)
 
 -- The two ends of a lane that was just made: they are those of one ring, through which nothing went.
 pub record AreNewEnds (s : Sending) (l : LaneView) (lane : ℕ) : Type 0 where

@@ -1,4 +1,5 @@
 pub mod Ports
 pub mod Senders
+pub mod Settling
 pub mod Lanes
 pub mod Devices

@@ -1,13 +1,21 @@
-use Rattle.std.specs.Prelude.{◌≡◌, ◌≢◌, ℕ, zero, suc, ◌+◌, ◌^◌, ◌<◌, ◌≤◌, Bool, false, List, [], ◌∷◌, ◌++◌, filter, get_or, length, slice_index_or, take, Result, Ok, Err, ◌==◌}
+use Rattle.std.specs.Prelude.{◌≡◌, ◌≢◌, ℕ, zero, suc, ◌+◌, ◌^◌, ◌<◌, ◌≤◌, Bool, false, List, [], ◌∷◌, ◌++◌, filter, max, Result, Ok, Err, ◌==◌}
 use Rattle.packet_core.specs.Packets.{PacketParts}
 use Rattle.packet_core.specs.declared.flow.Seed.{Seed}
 use Rattle.packet_core.specs.declared.params.ParamFields.{ParamFields}
+use Rattle.journal_core.specs.Calls.{Standing}
+use Rattle.journal_core.specs.Runs.{IsRunOf}
+use Rattle.journal_core.specs.Statistics.{statistics}
 use Rattle.journal_core.specs.declared.event.Event.{Event}
 use Rattle.journal_core.specs.declared.event.Event.TheVariants.{Accepted, Sent, Dropped, Closed}
 use Rattle.journal_core.specs.declared.step.Admitted.{Admitted}
 use Rattle.journal_core.specs.declared.step.MomentFault.TheVariants.{TooLarge, Backwards}
 use Rattle.journal_core.specs.declared.step.Refusal.{Refusal}
 use Rattle.journal_core.specs.declared.step.Refusal.TheVariants.{Moment}
+use Rattle.journal_core.specs.declared.step.Step.{Step}
+use Rattle.journal_core.specs.declared.totals.Totals.{Totals}
+use Rattle.fair_core.specs.FairQueues.{FairQueues}
+use Rattle.fair_core.specs.FqCodel.{fq_codel}
+use Rattle.sched_core.specs.Engines.{Running}
 
 -- A port as callers see it: what its engine was started with, and how many seats it has.
 pub record Port : Type 0 where
@@ -62,15 +70,15 @@ Refuses now (Err why) =
     (2 ^ 60 ≤ now → why ≡ Moment TooLarge) × (why ≡ Moment TooLarge → 2 ^ 60 ≤ now)
     × ((last : ℕ) → why ≢ Moment (Backwards last))
 
--- Each of these seats has its place in the table, by its lane.
-abbrev pub AreTheirPlaces : List Seat → List ℕ → Type 0
-AreTheirPlaces seats places = (k : ℕ) (d : Seat) → k < length seats
-    → ((slice_index_or seats k d).lane < length places) × (get_or places ((slice_index_or seats k d).lane) 0 ≡ k)
+-- the moment of a step of the engine's that is asked for at `now`: time doesn't go back
+abbrev pub moment_at : Running → ℕ → ℕ
+moment_at engine now = max now engine.sched.standing.state.last
 
--- Of those events the seat's acceptances are the first of its list, so many as the table has for its lane.
-pub record IsMet (s : Seat) (met : List ℕ) (events : List Event) : Type 0 where
-  pub begins : of_lane s.lane events ≡ take (get_or met s.lane 0) s.told
-  pub within : get_or met s.lane 0 ≤ length s.told
-
-abbrev pub AreMet : List Seat → List ℕ → List Event → Type 0
-AreMet seats met events = (k : ℕ) (d : Seat) → k < length seats → IsMet (slice_index_or seats k d) met events
+-- These are the statistics of the journal of some run of steps.
+pub record AreTotalsOfARun (totals : Totals) : Type 0 where
+  pub params : ParamFields
+  pub seed : Seed
+  pub made : List Step
+  pub standing : Standing FairQueues
+  pub run : IsRunOf (fq_codel params seed) made standing
+  pub are : totals ≡ statistics standing.events

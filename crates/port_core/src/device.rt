@@ -1,8 +1,9 @@
-//! The device: it owns an engine and the other end of every sender's lane. No sender waits for it or for another
-//! sender.
+//! The device: it owns an engine and the other end of every sender's lane, and what shows its statistics to monitors. No
+//! sender waits for it or for another sender.
 
 use crate::engine_journal::EngineJournal;
 use crate::lane::Lane;
+use crate::lane_engine::LaneEngine;
 use crate::lane_sender::LaneEnd;
 use monitor_core::{BookName, PublishFault, Publisher, Receipt, Screen, Shown};
 use sched_core::{Engine, Event, Keeps, MAX_ACCEPTED, Memory, Refusal, Sent, Step, Stored};
@@ -17,7 +18,8 @@ pub const MAX_BURST: u64 = 1024;
 /// An engine with the device's end of each lane, and what shows its statistics to monitors. At every moment the packets
 /// that came out of a lane are those that the engine accepted from it, and what is shown is a beginning of its journal.
 /// The engine tells its events and its steps to keepers, which store all of them unless others are chosen. Contracts
-/// see the engine, the lanes and what was published.
+/// see the engine, the lanes and what was published. Only `publish` and the device's end wait, for monitors that are
+/// just reading: the other calls stand on a part of it that has no screen, or say that it was asked to show nothing.
 #[derive(Drop)]
 pub struct Device<
     J: BookName,
@@ -25,33 +27,30 @@ pub struct Device<
     K: Keeps<Event> = Stored,
     S: Keeps<Step> = Stored<Step>,
 > {
-    engine: Engine<K, S>,
-    lanes: Vec<Lane>,
+    fed: LaneEngine<K, S>,
     publisher: Publisher<J, X>,
 }
 
 impl<J: BookName, X: Screen<Shown<J>> + Drop, K: Keeps<Event>, S: Keeps<Step>> Model
     for Device<J, X, K, S> {
-    ghost use Rattle.std.specs.Prelude.{◌≤◌, length};
-    ghost use Rattle.port_core.specs.Devices.{BeginsJournal, Holding, KeepsLanes};
-    ghost use Rattle.port_core.specs.declared.device.TheConstants.{MAX_LANES};
+    ghost use Rattle.port_core.specs.Devices.{BeginsJournal, Holding};
 
     ghost Value = { Holding };
 
-    ghost view = { λ d. record { engine = d.engine; lanes = d.lanes.items; published = d.publisher } };
+    ghost view = { λ d. record { engine = d.fed.engine; lanes = d.fed.lanes; published = d.publisher } };
 
-    ghost invariant = { λ d. KeepsLanes d.engine.sched.standing.events d.lanes.items
-        × (length d.lanes.items ≤ MAX_LANES) × BeginsJournal d.publisher d.engine.sched.standing.events };
+    ghost invariant = { λ d. BeginsJournal d.publisher d.fed.engine.sched.standing.events };
 }
 
 impl<J: BookName, X: Screen<Shown<J>> + Drop, K: Keeps<Event>, S: Keeps<Step>> Device<J, X, K, S> {
     ghost use mathlib.Core.List.{IsPrefix};
-    ghost use Rattle.std.specs.Prelude.{◌≡◌, ◌≢◌, ◌≤◌, ◌<◌, ◌-◌, ◌++◌, ◌∷◌, [], ℕ, IfErr, IfOk, MatchBool, None, OnErr, OnOk, Some, false, length, max, slice_get, slice_index_or, true};
+    ghost use Rattle.std.specs.Prelude.{◌≡◌, ◌≢◌, ◌≤◌, ◌<◌, ◌+◌, ◌-◌, ◌++◌, ◌∷◌, [], ℕ, IfErr, IfOk, None, OnErr, OnOk, Some, false, length, max, slice_get, slice_index_or, true};
     ghost use Rattle.journal_core.specs.State.{IsRefusal, refusal_of};
     ghost use Rattle.journal_core.specs.declared.outcome.Answer.TheVariants as answer;
     ghost use Rattle.journal_core.specs.declared.step.Step.TheVariants.{Close, Dequeue};
     ghost use Rattle.sched_core.specs.Schedulers.{ComparesFew, IsAdvanced, IsServed};
-    ghost use Rattle.port_core.specs.Devices.{BeginsJournal, KeepsLanes, MayAccept, Pumps, Takes, TakesAllLeft, pump_refusal_of, rings_of};
+    ghost use Rattle.monitor_core.specs.Publishing.{nothing_published};
+    ghost use Rattle.port_core.specs.Devices.{BeginsJournal, KeepsLanes, Pumps, TakesAllLeft, fed_of, pump_refusal_of, rings_of};
     ghost use Rattle.port_core.specs.Lanes.{LaneView, accepted};
 
     /// A device over an engine without steps and new lanes.
@@ -64,12 +63,11 @@ impl<J: BookName, X: Screen<Shown<J>> + Drop, K: Keeps<Event>, S: Keeps<Step>> D
         requires events { engine.sched.standing.events ≡ [] }
         requires lanes { KeepsLanes [] lanes.items }
         requires number { length lanes.items ≤ MAX_LANES }
-        requires published { (publisher.shown ≡ []) × (publisher.reached ≡ []) }
-        ensures { result ≡ record { engine = engine; lanes = lanes.items; published = publisher } }
+        requires published { publisher ≡ nothing_published }
+        ensures { result ≡ record { engine = engine; lanes = lanes.items; published = nothing_published } }
     {
         Device {
-            engine,
-            lanes,
+            fed: LaneEngine::new(engine, lanes),
             publisher,
         }
     }
@@ -81,7 +79,7 @@ impl<J: BookName, X: Screen<Shown<J>> + Drop, K: Keeps<Event>, S: Keeps<Step>> D
         ensures lanes { KeepsLanes result.now.sched.standing.events self.now.lanes }
         ensures shown { IsPrefix self.now.published.shown result.now.sched.standing.events }
     {
-        &self.engine
+        self.fed.engine()
     }
 
     /// The engine, which outlives the device: monitors go on with what was published last.
@@ -89,15 +87,15 @@ impl<J: BookName, X: Screen<Shown<J>> + Drop, K: Keeps<Event>, S: Keeps<Step>> D
         ensures value { result ≡ self.engine }
         ensures lanes { KeepsLanes result.sched.standing.events self.lanes }
     {
-        let Device { engine, .. } = self;
-        engine
+        let Device { fed, .. } = self;
+        fed.into_engine()
     }
 
     /// How many lanes there are.
     pub fn lanes(&self) -> u32
         ensures { result ≡ length self.now.lanes }
     {
-        self.lanes.len() as u32
+        self.fed.lanes()
     }
 
     /// Takes memory for so many steps of any kind, at most 2^40, as `Engine::reserve` does.
@@ -113,7 +111,7 @@ impl<J: BookName, X: Screen<Shown<J>> + Drop, K: Keeps<Event>, S: Keeps<Step>> D
         ensures missing { OnErr result (self.old.engine.room < steps) }
         ensures err { OnErr result (self.new ≡ self.old) }
     {
-        self.engine.reserve(steps)
+        self.fed.reserve(steps)
     }
 
     /// Gives the packet that is next in turn, as `Engine::dequeue` does.
@@ -129,7 +127,7 @@ impl<J: BookName, X: Screen<Shown<J>> + Drop, K: Keeps<Event>, S: Keeps<Step>> D
             → OnErr result (refusal_of self.old.engine.sched.standing.state (Dequeue moment) ≢ None) }
         ensures unchanged { OnErr result (self.new ≡ self.old) }
     {
-        self.engine.dequeue(moment)
+        self.fed.dequeue(moment)
     }
 
     /// From here on nothing is accepted, as by `Engine::close`. What stands in the lanes then stays there.
@@ -146,7 +144,7 @@ impl<J: BookName, X: Screen<Shown<J>> + Drop, K: Keeps<Event>, S: Keeps<Step>> D
             (refusal_of self.old.engine.sched.standing.state (Close moment) ≢ None) }
         ensures unchanged { OnErr result (self.new ≡ self.old) }
     {
-        self.engine.close(moment)
+        self.fed.close(moment)
     }
 
     /// Shows all events so far to the monitors at once, and answers a receipt that stands for them. Where memory is
@@ -158,8 +156,10 @@ impl<J: BookName, X: Screen<Shown<J>> + Drop, K: Keeps<Event>, S: Keeps<Step>> D
         ensures receipt { IfOk result (λ receipt. receipt ≡ self.old.engine.sched.standing.events) }
         ensures refused { OnErr result (self.new.published.shown ≡ self.old.published.shown) }
         ensures rest { (self.new.engine ≡ self.old.engine) × (self.new.lanes ≡ self.old.lanes) }
+        ensures waits_once { self.new.published.asked ≤ self.old.published.asked + 1 }
     {
-        self.publisher.publish(&EngineJournal::new(&self.engine))
+        self.publisher
+            .publish(&EngineJournal::new(self.fed.engine()))
     }
 
     /// The receipt of the last publish that wasn't refused. It stands for no event before the first.
@@ -172,7 +172,6 @@ impl<J: BookName, X: Screen<Shown<J>> + Drop, K: Keeps<Event>, S: Keeps<Step>> D
     /// Settles a lane by its sender's end, and answers how many packets are left in it: what was submitted is what was
     /// accepted, and then what is left. From here until the close each pump that isn't refused takes as many of them as
     /// its burst allows.
-    #[tactic(auto, using(crate::proofs::DeviceLemmas::rings))]
     pub fn settle_lane(&mut self, lane: u32, end: LaneEnd) -> u64
         requires { slice_get (rings_of self.old.lanes) lane ≡ Some end.ring }
         ensures left { (d : LaneView) → result ≡ length (slice_index_or self.new.lanes lane d).known }
@@ -184,7 +183,7 @@ impl<J: BookName, X: Screen<Shown<J>> + Drop, K: Keeps<Event>, S: Keeps<Step>> D
         ensures rest { (self.new.engine ≡ self.old.engine) × (self.new.published ≡ self.old.published) }
         ensures rings { rings_of self.new.lanes ≡ rings_of self.old.lanes }
     {
-        self.lanes[lane as usize].settle(end)
+        self.fed.settle_lane(lane, end)
     }
 
     /// Takes packets of a lane, at most `burst`, and accepts each at `now`, in microseconds; it answers how many. It
@@ -194,9 +193,10 @@ impl<J: BookName, X: Screen<Shown<J>> + Drop, K: Keeps<Event>, S: Keeps<Step>> D
     pub fn pump(&mut self, lane: u32, now: u64, burst: u64) -> Result<u64, Refusal>
         requires lane { lane < length self.old.lanes }
         requires burst { (0 < burst) × (burst ≤ MAX_BURST) }
-        ensures pumped { IfOk result (λ k. Pumps self.old lane now k self.new) }
+        ensures rest { self.new.published ≡ self.old.published }
+        ensures pumped { IfOk result (λ k. Pumps (fed_of self.old) lane now k (fed_of self.new)) }
         ensures burst { IfOk result (λ k. k ≤ burst) }
-        ensures left { IfOk result (λ k. TakesAllLeft self.old lane burst k) }
+        ensures left { IfOk result (λ k. TakesAllLeft self.old.lanes lane burst k) }
         ensures room { IfOk result (λ k. self.new.engine.room ≡ max self.old.engine.room burst - k) }
         ensures rings { rings_of self.new.lanes ≡ rings_of self.old.lanes }
         ensures fits { OnOk result (pump_refusal_of self.old.engine.sched.standing.state now burst ≡ None) }
@@ -206,55 +206,6 @@ impl<J: BookName, X: Screen<Shown<J>> + Drop, K: Keeps<Event>, S: Keeps<Step>> D
             (pump_refusal_of self.old.engine.sched.standing.state now burst ≢ None) }
         ensures unchanged { OnErr result (self.new ≡ self.old) }
     {
-        // A pump is refused as a close is, but for the ids.
-        self.engine.test(&Step::Close { moment: now })?;
-        if self.engine.ids_left() < burst {
-            return Err(Refusal::Exhausted);
-        }
-        self.engine.reserve(burst)?;
-        Ok(self.pump_reserved(lane, now, burst))
-    }
-
-    /// The same where none of so many packets is refused.
-    #[tactic(auto, using(crate::proofs::PumpLemmas::pumping))]
-    fn pump_reserved(&mut self, lane: u32, now: u64, burst: u64) -> u64
-        requires lane { lane < length self.old.lanes }
-        requires fits { pump_refusal_of self.old.engine.sched.standing.state now burst ≡ None }
-        requires room { burst ≤ self.old.engine.room }
-        ensures pumped { Pumps self.old lane now result self.new }
-        ensures burst { result ≤ burst }
-        ensures left { TakesAllLeft self.old lane burst result }
-        ensures room { self.new.engine.room ≡ self.old.engine.room - result }
-        ensures rings { rings_of self.new.lanes ≡ rings_of self.old.lanes }
-    {
-        let mut pumped = 0;
-        while pumped < burst {
-            if !self.admit(lane, now) {
-                break;
-            }
-            pumped += 1;
-        }
-        pumped
-    }
-
-    /// Takes the next packet of a lane, where there is one, and accepts it.
-    #[tactic(auto, using(crate::proofs::DeviceLemmas::rings_look, crate::proofs::PumpLemmas::enqueue_fits))]
-    fn admit(&mut self, lane: u32, now: u64) -> bool
-        requires lane { lane < length self.old.lanes }
-        requires fits { MayAccept self.old.engine.sched.standing.state now 1 }
-        requires room { 0 < self.old.engine.room }
-        ensures admitted { MatchBool result (Takes self.old lane now self.new) (self.new ≡ self.old) }
-        ensures number { length self.new.lanes ≡ length self.old.lanes }
-        ensures empty { result ≡ false → (d : LaneView) → (slice_index_or self.old.lanes lane d).known ≡ [] }
-        ensures room { result ≡ true → self.new.engine.room ≡ self.old.engine.room - 1 }
-        ensures rings { rings_of self.new.lanes ≡ rings_of self.old.lanes }
-    {
-        let Some(packet) = self.lanes[lane as usize].next() else {
-            return false;
-        };
-        let Ok(_) = self.engine.enqueue(now, lane, packet) else {
-            unreachable!()
-        };
-        true
+        self.fed.pump(lane, now, burst)
     }
 }

@@ -1,12 +1,20 @@
 //! What lies under a port's lock: the engine, and the books of both ledgers.
 
-ghost use Rattle.std.specs.Prelude.{◌≡◌, ◌≤◌, ◌<◌, ◌+◌, ◌^◌, length, sum_by, max, IfOk, IfErr, IfSome, IfNone, OnErr};
+ghost use Rattle.std.specs.Prelude.{◌≡◌, ◌≤◌, ◌<◌, ◌+◌, ◌^◌, ◌++◌, ◌∷◌, ◌⊎◌, [], length, sum_by, IfOk, IfErr, IfSome, IfNone, OnErr, OnOk, Some};
+ghost use Rattle.journal_core.specs.Calls.{admitted_at};
+ghost use Rattle.journal_core.specs.State.{IsRefusal, refusal_of};
 ghost use Rattle.journal_core.specs.Statistics.{statistics};
+ghost use Rattle.journal_core.specs.declared.outcome.Answer.TheVariants as answer;
 ghost use Rattle.journal_core.specs.declared.step.Refusal.TheVariants as refusal;
-ghost use Rattle.port_core.specs.Ports.{Refuses, sent_also, told_also};
+ghost use Rattle.journal_core.specs.declared.step.Step.TheVariants.{Close, Dequeue, Enqueue};
+ghost use Rattle.sched_core.specs.Schedulers.{IsAdvanced, IsServed, discipline_of};
+ghost use Rattle.port_core.specs.Ports.{AreTotalsOfARun, Refuses, moment_at, sent_also, told_also};
+ghost use Rattle.port_core.specs.Settling.{Agrees, IsWhy};
 
+use crate::port::Why;
 use crate::seat::PortSeat;
-use packet_core::Packet;
+use crate::settling::agrees;
+use packet_core::{Packet, Params, Seed};
 use sched_core::{Admitted, Engine, Event, Refusal, Sent, Step, Totals};
 use std::sync::ledger::{Book, Ledger, Share};
 
@@ -23,7 +31,7 @@ pub(crate) struct Front<A: Ledger, S: Ledger> {
 impl<A: Ledger, S: Ledger> Front<A, S> {
     /// The moment of a step that is asked for at `now`: time doesn't go back, whichever thread was first at the lock.
     fn moment(&self, now: u64) -> u64
-        ensures value { result ≡ max now self.now.engine.sched.standing.state.last }
+        ensures value { result ≡ moment_at self.now.engine now }
         ensures range { self.now.engine.sched.standing.state.last < 2 ^ 60 }
     {
         now.max(self.engine.last_moment())
@@ -40,6 +48,15 @@ impl<A: Ledger, S: Ledger> Front<A, S> {
         ensures later { IfOk result (λ a. now ≤ a.moment) }
         ensures refused { Refuses now result }
         ensures unchanged { OnErr result (seat.new ≡ seat.old) }
+        ensures admitted { IfOk result (λ a. a ≡ admitted_at (discipline_of self.old.engine.sched)
+            self.old.engine.sched.standing.state (moment_at self.old.engine now) packet) }
+        ensures made { OnOk result (IsAdvanced self.old.engine.sched
+            (Enqueue (moment_at self.old.engine now) seat.old.lane packet) answer.Accepted self.new.engine.sched) }
+        ensures steps { OnOk result (self.new.engine.steps ≡ self.old.engine.steps
+            ++ Enqueue (moment_at self.old.engine now) seat.old.lane packet ∷ []) }
+        ensures order { IfErr result (IsRefusal (refusal_of self.old.engine.sched.standing.state
+            (Enqueue (moment_at self.old.engine now) seat.old.lane packet))) }
+        ensures kept { OnErr result (self.new.engine ≡ self.old.engine) }
     {
         let moment = self.moment(now);
         let lane = seat.lane;
@@ -73,6 +90,13 @@ impl<A: Ledger, S: Ledger> Front<A, S> {
         ensures refused { Refuses now result }
         ensures memory { now < 2 ^ 60 → IfErr result (λ why. why ≡ refusal.Memory) }
         ensures unchanged { OnErr result (seat.new ≡ seat.old) }
+        ensures made { IfOk result (λ sent. IsServed self.old.engine.sched
+            (moment_at self.old.engine now) sent self.new.engine.sched) }
+        ensures steps { OnOk result (self.new.engine.steps
+            ≡ self.old.engine.steps ++ Dequeue (moment_at self.old.engine now) ∷ []) }
+        ensures order { IfErr result (IsRefusal (refusal_of self.old.engine.sched.standing.state
+            (Dequeue (moment_at self.old.engine now)))) }
+        ensures kept { OnErr result (self.new.engine ≡ self.old.engine) }
     {
         let moment = self.moment(now);
         let sent = self.engine.dequeue(moment)?;
@@ -90,6 +114,16 @@ impl<A: Ledger, S: Ledger> Front<A, S> {
     pub(crate) fn close(&mut self, now: u64) -> Result<u64, Refusal>
         ensures later { IfOk result (λ moment. now ≤ moment) }
         ensures refused { Refuses now result }
+        ensures closed { now < 2 ^ 60
+            → IfErr result (λ why. (why ≡ refusal.ClosedAlready) ⊎ (why ≡ refusal.Memory)) }
+        ensures moment { IfOk result (λ moment. moment ≡ moment_at self.old.engine now) }
+        ensures made { OnOk result (IsAdvanced self.old.engine.sched
+            (Close (moment_at self.old.engine now)) answer.Closed self.new.engine.sched) }
+        ensures steps { OnOk result (self.new.engine.steps
+            ≡ self.old.engine.steps ++ Close (moment_at self.old.engine now) ∷ []) }
+        ensures order { IfErr result (IsRefusal (refusal_of self.old.engine.sched.standing.state
+            (Close (moment_at self.old.engine now)))) }
+        ensures kept { OnErr result (self.new.engine ≡ self.old.engine) }
     {
         let moment = self.moment(now);
         self.engine.close(moment)?;
@@ -103,14 +137,65 @@ impl<A: Ledger, S: Ledger> Front<A, S> {
         ensures balance { result.accepted
             ≡ result.sent + result.dropped_codel + result.dropped_overflow + result.queued }
         ensures seat { seat.new ≡ seat.old }
+        ensures value { result ≡ statistics self.old.engine.sched.standing.events }
+        ensures run { AreTotalsOfARun result }
+        ensures engine { self.new.engine ≡ self.old.engine }
     {
         self.accepted.audit(&mut seat.accepted_share);
         self.sent.audit(&mut seat.sent_share);
+        self.engine.run_of_steps();
         self.engine.totals()
     }
 
+    /// Why the port over this isn't settled with these seats, if it isn't. It was started with these parameters and
+    /// this seed, and with so many seats.
+    fn why_not(
+        &self,
+        params: &Params,
+        seed: &Seed,
+        number: u32,
+        seats: &[PortSeat<A, S>],
+    ) -> Option<Why>
+        ensures { IsWhy self.now.engine.sched (record { params = params.now; seed = seed.now; seats = number })
+            seats.now result }
+    {
+        if seats.len() < number as usize {
+            return Some(Why::NotAll);
+        }
+        if !agrees(&self.engine, params, seed, seats) {
+            return Some(Why::Differs);
+        }
+        None
+    }
+
+    /// The engine of a port that is settled with these seats, or all that was given, unchanged.
+    pub(crate) fn settled(
+        self,
+        params: &Params,
+        seed: &Seed,
+        number: u32,
+        seats: Vec<PortSeat<A, S>>,
+    ) -> Result<Engine, (Why, Front<A, S>, Vec<PortSeat<A, S>>)>
+        requires parts { (number ≡ A.parts) × (number ≡ S.parts) × (0 < number) }
+        ensures engine { IfOk result (λ e. e ≡ self.engine) }
+        ensures agrees { OnOk result (Agrees self.engine.sched params.now seed.now seats.items) }
+        ensures number { OnOk result (length seats.items ≡ number) }
+        ensures accepted { IfOk result (λ e. (statistics e.sched.standing.events).accepted
+            ≡ sum_by (λ s. length s.told) seats.items) }
+        ensures sent { IfOk result (λ e. (statistics e.sched.standing.events).sent
+            ≡ sum_by (λ s. s.sent) seats.items) }
+        ensures why { IfErr result (λ r. IsWhy self.engine.sched
+            (record { params = params.now; seed = seed.now; seats = number }) seats.items (Some r.0)) }
+        ensures back { IfErr result (λ r. (r.1 ≡ self) × (r.2 ≡ seats)) }
+    {
+        match self.why_not(params, seed, number, &seats) {
+            None => Ok(self.summed(seats)),
+            Some(why) => Err((why, self, seats)),
+        }
+    }
+
     /// The engine, whose totals are the sums over all seats.
-    pub(crate) fn summed(self, seats: Vec<PortSeat<A, S>>) -> Engine
+    fn summed(self, seats: Vec<PortSeat<A, S>>) -> Engine
         requires all { (A.parts ≤ length seats.items) × (S.parts ≤ length seats.items) }
         requires some { 0 < A.parts }
         ensures same { result ≡ self.engine }

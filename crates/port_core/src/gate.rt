@@ -1,5 +1,7 @@
 //! What holds a sender up before a call, and why it stopped.
 
+ghost use Rattle.std.specs.Prelude.{ℕ, IsTrue};
+
 use sched_core::Refusal;
 use std::thread;
 
@@ -8,9 +10,13 @@ const MAX_ASKINGS: u32 = 1_000_000;
 
 /// What lets a sender make its calls, in the order that a test or a trace wants.
 pub trait Gate {
+    /// The gate let this call through. An impl may say more of it: contracts of a sender's calls then say that too.
+    ghost LetThrough: { Self → ℕ → Type 0 } = { λ _ _. Unit {0} };
+
     /// Whether the call may be made; calls count from 1. Whoever is asked for a call knows that the one before it was
     /// answered. The gate may wait a little before it answers false, and is asked again then.
-    fn pass(&self, call: u64) -> bool;
+    fn pass(&self, call: u64) -> bool
+        ensures { IsTrue result → LetThrough self.now call };
 }
 
 /// A gate that is always open.
@@ -37,7 +43,9 @@ pub enum Stop {
 }
 
 /// Asks the gate until it opens, but not too often.
-pub(crate) fn passes(gate: &impl Gate, call: u64) -> bool {
+pub(crate) fn passes<G: Gate>(gate: &G, call: u64) -> bool
+    ensures { IsTrue result → G.LetThrough gate.now call }
+{
     for _ in 0..MAX_ASKINGS {
         if gate.pass(call) {
             return true;

@@ -1,6 +1,6 @@
 //! The sender's end of a lane, and a sender that submits its packets there.
 
-ghost use Rattle.std.specs.Prelude.{◌≡◌, ◌⊎◌, ◌≤◌, ◌++◌, ◌∷◌, [], IfSome, MatchResult, length, take};
+ghost use Rattle.std.specs.Prelude.{◌≡◌, ◌⊎◌, ◌≤◌, ◌<◌, ◌++◌, ◌∷◌, [], ℕ, IfSome, MatchResult, length, take};
 ghost use Rattle.port_core.specs.declared.gate.Stop.TheVariants as stop;
 
 use crate::gate::{Gate, Stop, passes};
@@ -125,6 +125,7 @@ pub fn send_lane<G: Gate>(sender: LaneSender, packets: &[Packet], gate: &G) -> L
     ensures done { result.stop ≡ stop.Done → result.submitted ≡ length packets.now }
     ensures all { result.submitted ≡ length packets.now → result.stop ≡ stop.Done }
     ensures stop { (result.stop ≡ stop.Done) ⊎ (result.stop ≡ stop.Stalled) ⊎ (result.stop ≡ stop.Full) }
+    ensures gate { (call : ℕ) → 0 < call → call ≤ result.submitted → G.LetThrough gate.now call }
     ensures end { IfSome result.end (λ end. end ≡ record sender {
       submitted = sender.submitted ++ take result.submitted packets.now;
     }) }

@@ -14,6 +14,7 @@ mod engine_journal;
 mod front;
 mod gate;
 mod lane;
+mod lane_engine;
 mod lane_sender;
 mod opening;
 mod port;
@@ -25,7 +26,8 @@ pub use device::{Device, MAX_BURST, MAX_LANES};
 pub use gate::{Gate, Open, Stop};
 pub use lane_sender::{LaneDone, LaneEnd, LaneFull, LaneSender, send_lane};
 pub use monitor_core::{
-    BookBlank, BookName, LeftRight, Monitor, OpenFault, PublishFault, Receipt, Screen, Seen, Shown,
+    BookBlank, BookName, LeftRight, Monitor, NoReader, OpenFault, PublishFault, Receipt, Screen,
+    Seen, Shown,
 };
 pub use opening::{Layout, MAX_CAPACITY, MAX_MONITORS, Opened, lanes, lanes_with_keepers};
 pub use port::{LockedPort, Unsettled, Why};

@@ -2,6 +2,7 @@
 
 ghost use Rattle.std.specs.Prelude.{◌≡◌, ◌≢◌, ◌≤◌, ◌<◌, [], replicate, IfErr, IfOk};
 ghost use Rattle.monitor_core.specs.declared.opening.OpenFault.TheVariants as open_fault;
+ghost use Rattle.monitor_core.specs.Publishing.{nothing_published};
 ghost use Rattle.port_core.specs.Devices.{AreNewEnds, AreNewLanes};
 ghost use Rattle.port_core.specs.declared.device.TheConstants.{MAX_LANES};
 ghost use Rattle.port_core.specs.declared.opening.TheConstants.{MAX_CAPACITY, MAX_MONITORS};
@@ -10,7 +11,6 @@ ghost use Rattle.sched_core.specs.Engines.{new_engine};
 use crate::device::{Device, MAX_LANES};
 use crate::lane::Lane;
 use crate::lane_sender::LaneSender;
-use left_right::Absorb;
 use monitor_core::{
     BookBlank, BookName, LeftRight, Monitor, OpenFault, Screen, Shown, open_publisher,
 };
@@ -90,17 +90,15 @@ pub fn lanes<J: BookName, R: Wait + Drop>(
     seed: Seed,
     layout: Layout,
 ) -> Result<Opened<J, LeftRight<Shown<J>, R>>, OpenFault>
-where
-    Shown<J>: Absorb<Shown<J>, State = [Event; 0]>,
     requires book { blank ≡ J.book }
     requires lanes { (0 < layout.lanes) × (layout.lanes ≤ MAX_LANES) }
     requires capacity { (0 < layout.capacity) × (layout.capacity ≤ MAX_CAPACITY) }
     requires monitors { layout.monitors ≤ MAX_MONITORS }
     ensures engine { IfOk result (λ o. o.device.engine ≡ new_engine params seed) }
     ensures lanes { IfOk result (λ o. AreNewLanes o.senders.items o.device.lanes layout.lanes) }
-    ensures shown { IfOk result (λ o. o.device.published.shown ≡ []) }
+    ensures published { IfOk result (λ o. o.device.published ≡ nothing_published) }
     ensures monitors { IfOk result (λ o. o.monitors.items ≡ replicate layout.monitors []) }
-    ensures no_place { IfErr result (λ why. layout.monitors ≡ 0 → why ≢ open_fault.NoPlace) }
+    ensures no_place { IfErr result (λ why. layout.monitors ≡ 0 → why ≡ open_fault.Memory) }
 {
     lanes_with_keepers(
         rt,
@@ -125,8 +123,6 @@ pub fn lanes_with_keepers<J: BookName, R: Wait + Drop, K: Keeps<Event>, S: Keeps
     events: K,
     steps: S,
 ) -> Result<Opened<J, LeftRight<Shown<J>, R>, K, S>, OpenFault>
-where
-    Shown<J>: Absorb<Shown<J>, State = [Event; 0]>,
     requires book { blank ≡ J.book }
     requires lanes { (0 < layout.lanes) × (layout.lanes ≤ MAX_LANES) }
     requires capacity { (0 < layout.capacity) × (layout.capacity ≤ MAX_CAPACITY) }
@@ -135,9 +131,9 @@ where
     requires steps { S.told steps ≡ [] }
     ensures engine { IfOk result (λ o. o.device.engine ≡ new_engine params seed) }
     ensures lanes { IfOk result (λ o. AreNewLanes o.senders.items o.device.lanes layout.lanes) }
-    ensures shown { IfOk result (λ o. o.device.published.shown ≡ []) }
+    ensures published { IfOk result (λ o. o.device.published ≡ nothing_published) }
     ensures monitors { IfOk result (λ o. o.monitors.items ≡ replicate layout.monitors []) }
-    ensures no_place { IfErr result (λ why. layout.monitors ≡ 0 → why ≢ open_fault.NoPlace) }
+    ensures no_place { IfErr result (λ why. layout.monitors ≡ 0 → why ≡ open_fault.Memory) }
 {
     let (publisher, monitors) = open_publisher(rt, alloc, blank, layout.monitors)?;
     let engine = Engine::try_with_keepers(alloc, params, seed, events, steps)?;

@@ -1,15 +1,15 @@
 //! The locked port: an engine that several threads use, one call at a time.
 
-ghost use Rattle.std.specs.Prelude.{◌≡◌, ◌≤◌, ◌<◌, ◌+◌, ◌^◌, All, IfOk, IfErr, IfSome, IfNone, OnErr, OnOk, IsTrue, length, sum_by};
+ghost use Rattle.std.specs.Prelude.{◌≡◌, ◌≤◌, ◌<◌, ◌+◌, ◌^◌, ◌⊎◌, All, IfOk, IfErr, IfSome, IfNone, OnErr, OnOk, IsTrue, length, sum_by};
 ghost use Rattle.journal_core.specs.Statistics.{statistics};
 ghost use Rattle.journal_core.specs.declared.step.Refusal.TheVariants as refusal;
-ghost use Rattle.port_core.specs.Ports.{Refuses, new_seats, of_lane, sent_also, told_also};
+ghost use Rattle.port_core.specs.Ports.{AreTotalsOfARun, Refuses, new_seats, of_lane, sent_also, told_also};
+ghost use Rattle.port_core.specs.Settling.{AreAllTold};
 ghost use Rattle.port_core.specs.declared.seat.TheConstants.{MAX_SEATS};
 ghost use Rattle.port_core.specs.declared.port.Why.TheVariants as why;
 
 use crate::front::Front;
 use crate::seat::{PortSeat, seats_of};
-use crate::settling::all_told;
 use packet_core::{Packet, Params, Seed};
 use sched_core::{Admitted, Engine, Memory, Refusal, Sent, Totals};
 use std::alloc::Global;
@@ -58,28 +58,6 @@ pub struct Unsettled<A: Ledger, S: Ledger> {
     pub port: LockedPort<A, S>,
     /// The seats.
     pub seats: Vec<PortSeat<A, S>>,
-}
-
-/// The engine is one of these parameters and this seed, and has of each seat what it was told. What the books can't
-/// say is compared here.
-fn agrees<A: Ledger, S: Ledger>(
-    engine: &Engine,
-    params: &Params,
-    seed: &Seed,
-    seats: &[PortSeat<A, S>],
-) -> bool
-    ensures started { IsTrue result
-        → (engine.now.sched.params ≡ params.now) × (engine.now.sched.seed ≡ seed.now) }
-    ensures told { IsTrue result
-        → All (λ s. of_lane s.lane engine.now.sched.standing.events ≡ s.told) seats.now }
-{
-    if engine.params() != params {
-        return false;
-    }
-    if engine.seed() != *seed {
-        return false;
-    }
-    all_told(engine.events(), seats)
 }
 
 impl<A: Ledger, S: Ledger> LockedPort<A, S> {
@@ -159,17 +137,20 @@ impl<A: Ledger, S: Ledger> LockedPort<A, S> {
     pub fn close<R: Wait>(&self, rt: &R, now: u64) -> Result<u64, Refusal>
         ensures later { IfOk result (λ moment. now ≤ moment) }
         ensures refused { Refuses now result }
+        ensures closed { now < 2 ^ 60
+            → IfErr result (λ why. (why ≡ refusal.ClosedAlready) ⊎ (why ≡ refusal.Memory)) }
     {
         self.front.lock(rt).close(now)
     }
 
-    /// The statistics of the journal at one point. They have at least what this seat was told and given. It takes no
-    /// memory.
+    /// The statistics of the journal at one point: those of a run of steps. They have at least what this seat was told
+    /// and given. It takes no memory.
     pub fn totals<R: Wait>(&self, rt: &R, seat: &mut PortSeat<A, S>) -> Totals
         ensures accepted { length seat.old.told ≤ result.accepted }
         ensures sent { seat.old.sent ≤ result.sent }
         ensures balance { result.accepted
             ≡ result.sent + result.dropped_codel + result.dropped_overflow + result.queued }
+        ensures run { AreTotalsOfARun result }
         ensures seat { seat.new ≡ seat.old }
     {
         self.front.lock(rt).totals(seat)
@@ -182,6 +163,7 @@ impl<A: Ledger, S: Ledger> LockedPort<A, S> {
         ensures params { IfOk result (λ e. (e.sched.params ≡ self.params) × (e.sched.seed ≡ self.seed)) }
         ensures told { IfOk result (λ e. All
             (λ s. of_lane s.lane e.sched.standing.events ≡ s.told) seats.items) }
+        ensures no_other { IfOk result (λ e. AreAllTold e.sched.standing.events seats.items) }
         ensures accepted { IfOk result (λ e. (statistics e.sched.standing.events).accepted
             ≡ sum_by (λ s. length s.told) seats.items) }
         ensures sent { IfOk result (λ e. (statistics e.sched.standing.events).sent
@@ -197,20 +179,17 @@ impl<A: Ledger, S: Ledger> LockedPort<A, S> {
             seed,
             seats: count,
         } = self;
-        let front = front.into_inner();
-        let why = if seats.len() < count as usize {
-            Why::NotAll
-        } else if !agrees(&front.engine, &params, &seed, &seats) {
-            Why::Differs
-        } else {
-            return Ok(front.summed(seats));
-        };
-        let port = LockedPort {
-            front: Mutex::new(front),
-            params,
-            seed,
-            seats: count,
-        };
-        Err(Unsettled { why, port, seats })
+        match front.into_inner().settled(&params, &seed, count, seats) {
+            Ok(engine) => Ok(engine),
+            Err((why, front, seats)) => {
+                let port = LockedPort {
+                    front: Mutex::new(front),
+                    params,
+                    seed,
+                    seats: count,
+                };
+                Err(Unsettled { why, port, seats })
+            }
+        }
     }
 }

@@ -1,7 +1,7 @@
 //! A sender: it calls a locked port for each of its packets.
 
-ghost use Rattle.std.specs.Prelude.{◌≡◌, ◌≤◌, length, map};
-ghost use Rattle.port_core.specs.Senders.{SendsSome};
+ghost use Rattle.std.specs.Prelude.{◌≡◌, ◌≤◌, ◌<◌, ℕ, length, map};
+ghost use Rattle.port_core.specs.Senders.{SendsAt, SendsSome, StopsAs, calls_answered};
 ghost use Rattle.port_core.specs.declared.gate.Stop.TheVariants as stop;
 
 use crate::gate::{Gate, Stop, passes};
@@ -36,6 +36,9 @@ pub fn send_locked<A: Ledger, S: Ledger, R: Wait, G: Gate>(
     ensures told { SendsSome seat (map (λ p. p.1) packets.now) result.calls result.seat }
     ensures calls { result.calls ≤ length packets.now }
     ensures done { result.stop ≡ stop.Done → result.calls ≡ length packets.now }
+    ensures moments { SendsAt seat packets.now (calls_answered result.stop result.calls) result.seat }
+    ensures stop { StopsAs packets.now result.calls result.stop }
+    ensures gate { (call : ℕ) → 0 < call → call ≤ result.calls → G.LetThrough gate.now call }
 {
     let mut seat = seat;
     let mut calls = 0u64;
@@ -49,14 +52,17 @@ pub fn send_locked<A: Ledger, S: Ledger, R: Wait, G: Gate>(
         }
         calls += 1;
         match port.enqueue(rt, &mut seat, *now, *packet) {
-            Ok(_) | Err(Refusal::ClosedAlready) => {}
-            Err(refusal) => {
-                return LockedDone {
-                    calls,
-                    stop: Stop::Refused(refusal),
-                    seat,
-                };
-            }
+            Ok(_) => {}
+            Err(refusal) => match refusal {
+                Refusal::ClosedAlready => {}
+                _ => {
+                    return LockedDone {
+                        calls,
+                        stop: Stop::Refused(refusal),
+                        seat,
+                    };
+                }
+            },
         }
     }
     LockedDone {

@@ -1,13 +1,14 @@
 //! Whether the journal has of each seat's lane what the seat was told: one pass over the journal, with a place for
 //! each seat on the stack.
 
-ghost use Rattle.std.specs.Prelude.{◌≡◌, All, IfSome, IsTrue, List, [], ◌∷◌, ◌++◌, get_or, length};
+ghost use Rattle.std.specs.Prelude.{◌≡◌, ◌<◌, ◌↔◌, All, IfSome, IsSome, IsTrue, List, [], ◌∷◌, ◌++◌, get_or, length};
 ghost use Rattle.journal_core.specs.declared.event.Event.{Event as EventShown};
-ghost use Rattle.port_core.specs.Ports.{AreMet, AreTheirPlaces, of_lane};
+ghost use Rattle.port_core.specs.Settling.{Agrees, AreAllTold, AreMet, AreOneAcceptance, AreTheirPlaces, FitsNext, HaveLanes};
+ghost use Rattle.port_core.specs.declared.seat.TheConstants.{MAX_SEATS as most_seats};
 
 use crate::seat::{MAX_SEATS, PortSeat};
-use packet_core::Packet;
-use sched_core::Event;
+use packet_core::{Packet, Params, Seed};
+use sched_core::{Engine, Event};
 use std::sync::ledger::Ledger;
 
 /// The number of places, as an index.
@@ -18,7 +19,8 @@ const NO_PLACE: usize = usize::MAX;
 
 /// For each lane the place of its seat among these, unless two have one lane.
 fn places_of<A: Ledger, S: Ledger>(seats: &[PortSeat<A, S>]) -> Option<[usize; PLACES]>
-    ensures { IfSome result (λ places. AreTheirPlaces seats.now places) }
+    ensures places { IfSome result (λ places. AreTheirPlaces seats.now places) }
+    ensures lanes { IsSome result ↔ HaveLanes seats.now }
 {
     let mut places = [NO_PLACE; PLACES];
     for place in 0..seats.len() {
@@ -34,14 +36,14 @@ fn places_of<A: Ledger, S: Ledger>(seats: &[PortSeat<A, S>]) -> Option<[usize; P
 
 /// Whether the two are one packet.
 fn is_same_packet(one: &Packet, other: &Packet) -> bool
-    ensures { IsTrue result → one.now ≡ other.now }
+    ensures { IsTrue result ↔ (one.now ≡ other.now) }
 {
     one.tuple() == other.tuple() && one.len() == other.len() && one.ecn() == other.ecn()
 }
 
 /// Whether the two tell of one acceptance.
 fn is_same(one: &Event, other: &Event) -> bool
-    ensures { IsTrue result → one.now ≡ other.now }
+    ensures { IsTrue result ↔ AreOneAcceptance one.now other.now }
 {
     let Event::Accepted {
         id,
@@ -78,8 +80,9 @@ fn meet<A: Ledger, S: Ledger>(
     event: &Event,
 ) -> bool
     requires { AreTheirPlaces seats.now places.now }
-    ensures { IsTrue result → (before : List EventShown)
+    ensures met { IsTrue result → (before : List EventShown)
         → AreMet seats.now met.old before → AreMet seats.now met.new (before ++ event.now ∷ []) }
+    ensures fits { IsTrue result ↔ FitsNext seats.now met.old event.now }
 {
     let Event::Accepted { lane, .. } = *event else {
         return true;
@@ -98,9 +101,10 @@ fn meet<A: Ledger, S: Ledger>(
     true
 }
 
-/// Each seat was told of all acceptances from its lane, in order, and of no other.
-pub(crate) fn all_told<A: Ledger, S: Ledger>(events: &[Event], seats: &[PortSeat<A, S>]) -> bool
-    ensures { IsTrue result → All (λ s. of_lane s.lane events.now ≡ s.told) seats.now }
+/// Each seat was told of all acceptances from its lane, in order, and of no other, and each acceptance is from some
+/// seat's lane.
+fn all_told<A: Ledger, S: Ledger>(events: &[Event], seats: &[PortSeat<A, S>]) -> bool
+    ensures { IsTrue result ↔ AreAllTold events.now seats.now }
 {
     let Some(places) = places_of(seats) else {
         return false;
@@ -116,7 +120,8 @@ pub(crate) fn all_told<A: Ledger, S: Ledger>(events: &[Event], seats: &[PortSeat
 
 /// Each seat's list was met to its end.
 fn are_done<A: Ledger, S: Ledger>(seats: &[PortSeat<A, S>], met: &[usize; PLACES]) -> bool
-    ensures { IsTrue result → All (λ s. get_or met.now s.lane 0 ≡ length s.told) seats.now }
+    ensures { IsTrue result
+        ↔ All (λ s. (s.lane < most_seats) × (get_or met.now s.lane 0 ≡ length s.told)) seats.now }
 {
     for seat in seats {
         let lane = seat.lane as usize;
@@ -125,4 +130,23 @@ fn are_done<A: Ledger, S: Ledger>(seats: &[PortSeat<A, S>], met: &[usize; PLACES
         }
     }
     true
+}
+
+/// The engine is one of these parameters and this seed, and its journal has what these seats were told. What the books
+/// can't say is compared here.
+pub(crate) fn agrees<A: Ledger, S: Ledger>(
+    engine: &Engine,
+    params: &Params,
+    seed: &Seed,
+    seats: &[PortSeat<A, S>],
+) -> bool
+    ensures { IsTrue result ↔ Agrees engine.now.sched params.now seed.now seats.now }
+{
+    if engine.params() != params {
+        return false;
+    }
+    if engine.seed() != *seed {
+        return false;
+    }
+    all_told(engine.events(), seats)
 }

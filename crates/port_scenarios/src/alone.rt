@@ -5,7 +5,7 @@ ghost use Rattle.std.specs.Prelude.{◌≡◌};
 use crate::fixtures::{SEED, accepts, counted, gives, hashed, one_flow, packet, settled};
 use packet_core::Params;
 use port_core::{LockedPort, Open, PortSeat, Stop, Unsettled, Why, send_locked};
-use sched_core::{Engine, MomentFault, Refusal, run_steps};
+use sched_core::{Engine, MomentFault, Refusal, Step, run_steps};
 use std::alloc::Global;
 use std::marker::Brand;
 use std::process::Abort;
@@ -78,6 +78,7 @@ fn at_two_seats<A: Ledger, S: Ledger, R: Wait + Abort>(
     let mut other = seats.pop().ok_or("seat 1")?;
     assert_eq!(rt; counted(&port.totals(rt, &mut other)), (1, 0));
     let (port, mut seats) = unsettled(rt, port, seats)?;
+    accepts(rt, &port, &mut other, 0, (1, 0))?;
     seats.push(other)?;
     is_the_run(rt, alloc, params, &settled(port, seats)?)
 }
@@ -104,7 +105,7 @@ fn unsettled<A: Ledger, S: Ledger, R: Abort>(
     Ok((port, seats))
 }
 
-/// The engine has the events of a run of its steps.
+/// The engine has the events of a run of its steps: two acceptances, one of them after the refusal to settle.
 fn is_the_run<R: Abort>(
     rt: &R,
     alloc: Global,
@@ -113,7 +114,7 @@ fn is_the_run<R: Abort>(
 ) -> Result<(), Fail> {
     let ran = run_steps(alloc, params, SEED, engine.steps())?;
     assert_eq!(rt; engine.events(), ran.engine.events());
-    assert_eq!(rt; engine.events().len(), 1);
+    assert_eq!(rt; engine.events().len(), 2);
     Ok(())
 }
 
@@ -135,12 +136,20 @@ fn at_a_close<A: Ledger, S: Ledger, R: Wait + Abort>(
     let (port, mut seats) = LockedPort::<A, S>::start(alloc, one_flow()?, SEED, 1, accepted, sent)?;
     let seat = seats.pop().ok_or("a seat")?;
     let seat = sends_two(rt, &port, seat, 2)?;
-    assert_eq!(rt; port.close(rt, 2), Ok(8));
+    closes(rt, &port);
     let mut seat = sends_two(rt, &port, seat, 2)?;
     is_closed(rt, &port, &mut seat)?;
     seats.push(seat)?;
     assert!(rt; settled(port, seats)?.is_closed());
     Ok(())
+}
+
+/// A close at 2^60 is refused, and one at 2 is made at the last moment.
+fn closes<A: Ledger, S: Ledger, R: Wait + Abort>(rt: &R, port: &LockedPort<A, S>) {
+    let too_large = Err(Refusal::Moment(MomentFault::TooLarge));
+    assert_eq!(rt; port.close(rt, 1 << 60), too_large);
+    assert_eq!(rt; port.close(rt, 2), Ok(8));
+    assert_eq!(rt; port.close(rt, 1 << 60), too_large);
 }
 
 /// Two calls at 7 and 8, behind which the seat was told of so many packets.
@@ -169,5 +178,75 @@ fn is_closed<A: Ledger, S: Ledger, R: Wait + Abort>(
     gives(rt, port, seat, 10, (0, 10, 53))?;
     gives(rt, port, seat, 10, (1, 10, 54))?;
     assert_eq!(rt; port.dequeue(rt, seat, 10), Ok(None));
+    Ok(())
+}
+
+/// The engine has one step for each call that was answered, at that moment. It has none for a refused call, for the
+/// statistics or for a settling.
+#[test]
+fn engine_has_the_steps_of_the_calls(rt: HostRuntime) -> Result<(), Fail> {
+    at_each_call::<Brand, Brand, _>(&rt, rt.alloc(), Blank::new(1), Blank::new(1))
+}
+
+fn at_each_call<A: Ledger, S: Ledger, R: Wait + Abort>(
+    rt: &R,
+    alloc: Global,
+    accepted: Blank,
+    sent: Blank,
+) -> Result<(), Fail>
+    requires accepted { (accepted.name ≡ A.name) × (accepted.parts ≡ A.parts) × (A.parts ≡ 1) }
+    requires sent { (sent.name ≡ S.name) × (sent.parts ≡ S.parts) × (S.parts ≡ 1) }
+{
+    let (port, mut seats) = LockedPort::<A, S>::start(alloc, one_flow()?, SEED, 1, accepted, sent)?;
+    makes_each_call(rt, &port, seats.first_mut().ok_or("a seat")?)?;
+    let Unsettled { port, .. } = port.settle(Vec::new(alloc)).err().ok_or("a refusal")?;
+    has_the_steps(rt, &settled(port, seats)?)
+}
+
+/// The largest moment.
+const LAST: u64 = (1 << 60) - 1;
+
+/// Each call before and after the close, answered and refused, also where nothing waits and at the largest moment.
+fn makes_each_call<A: Ledger, S: Ledger, R: Wait + Abort>(
+    rt: &R,
+    port: &LockedPort<A, S>,
+    seat: &mut PortSeat<A, S>,
+) -> Result<(), Fail> {
+    assert_eq!(rt; port.dequeue(rt, seat, 1), Ok(None));
+    accepts(rt, port, seat, 2, (0, 2))?;
+    gives(rt, port, seat, 3, (0, 3, 53))?;
+    assert!(rt; port.dequeue(rt, seat, LAST + 1).is_err());
+    assert_eq!(rt; port.dequeue(rt, seat, 4), Ok(None));
+    accepts(rt, port, seat, LAST, (1, LAST))?;
+    assert_eq!(rt; counted(&port.totals(rt, seat)), (2, 1));
+    assert_eq!(rt; port.close(rt, 5), Ok(LAST));
+    assert_eq!(rt; port.close(rt, 6), Err(Refusal::ClosedAlready));
+    assert!(rt; port.enqueue(rt, seat, 7, packet(53)?).is_err());
+    gives(rt, port, seat, 8, (1, LAST, 53))?;
+    assert_eq!(rt; counted(&port.totals(rt, seat)), (2, 2));
+    Ok(())
+}
+
+/// Those of each answered call, in order.
+fn has_the_steps<R: Abort>(rt: &R, engine: &Engine) -> Result<(), Fail> {
+    let (lane, packet) = (0, packet(53)?);
+    let wanted = [
+        Step::Dequeue { moment: 1 },
+        Step::Enqueue {
+            moment: 2,
+            lane,
+            packet,
+        },
+        Step::Dequeue { moment: 3 },
+        Step::Dequeue { moment: 4 },
+        Step::Enqueue {
+            moment: LAST,
+            lane,
+            packet,
+        },
+        Step::Close { moment: LAST },
+        Step::Dequeue { moment: LAST },
+    ];
+    assert_eq!(rt; engine.steps(), &wanted[..]);
     Ok(())
 }

@@ -7,4 +7,6 @@ mod alone;
 #[cfg(test)]
 mod fixtures;
 #[cfg(test)]
+mod journals;
+#[cfg(test)]
 mod together;

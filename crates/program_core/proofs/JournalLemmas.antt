@@ -193,6 +193,14 @@ done_by_lists seat packets items Did jobs seats lists done seats_are lists_are e
     subst (λ x. Did x (items (slice_index_or lists i l)) (slice_index_or done i d)) seat_is
     (subst (λ y. Did (seat (slice_index_or jobs i j)) y (slice_index_or done i d)) list_is (each i d j within))
 
+-- what the jobs did, by one of their parts
+pub done_by_part : {J D G : Type 0} (part : J → G) (Did : G → D → Type 0) (jobs : List J) (parts : List G) (done : List D) → map part jobs ≡ parts
+    → ((i : ℕ) (d : D) (j : J) → i < length jobs → Did (part (slice_index_or jobs i j)) (slice_index_or done i d))
+    → (i : ℕ) (d : D) (g : G) → i < length jobs → Did (slice_index_or parts i g) (slice_index_or done i d)
+done_by_part part Did jobs parts done are each i d g less =
+    let j = member jobs i less in
+    subst (λ x. Did x (slice_index_or done i d)) (sym (get_or-map part jobs i j g less) ∙ ap (λ xs. get_or xs i g) are) (each i d j less)
+
 -- what is left of a loop over a list, one member later
 pub map_more : {X Y : Type 0} (f : X → Y) (made : List Y) (x : X) (rest : List X) (all : List Y)
     → made ++ map f (x ∷ rest) ≡ all → (made ++ f x ∷ []) ++ map f rest ≡ all
@@ -201,6 +209,12 @@ map_more f made x rest all h = append_assoc made (f x ∷ []) (map f rest) ∙ h
 pub all_more : {X : Type 0} (P : X → Type 0) (x : X) (rest : List X) → P x → All P rest → All P (x ∷ rest)
 all_more P x rest first others zero d less = first
 all_more P x rest first others (suc k) d less = others k d (omega (arith, less))
+
+pub all_push : {X : Type 0} (P : X → Type 0) (xs : List X) (x : X) → All P xs → P x → All P (xs ++ x ∷ [])
+all_push P [] x before last zero d less = last
+all_push P [] x before last (suc k) d less = absurd (omega (arith, less))
+all_push P (y ∷ xs) x before last zero d less = before 0 d (omega arith)
+all_push P (y ∷ xs) x before last (suc k) d less = all_push P xs x (λ i e below. before (suc i) e (omega (arith, below))) last k d (omega (arith, less))
 
 -- the seats without the last one
 pub seats_popped : (n : ℕ) (seats : List Seat) (s : Seat) → new_seats (n + 1) ≡ seats ++ s ∷ [] → (seats ≡ new_seats n) × (s ≡ new_seat n)

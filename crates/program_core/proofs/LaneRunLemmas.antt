@@ -1,5 +1,5 @@
 -- A device in a run through lanes, and the rows of its lanes.
-use Rattle.std.proofs.Common.{◌≡◌, ◌≢◌, ◌∙◌, ℕ, zero, suc, ◌+◌, ◌-◌, ◌<◌, ◌≤◌, true, List, [], ◌∷◌, ◌++◌, All, IfOk, IfSome, None, OnErr, OnOk, Option, Some, Result, Ok, Err, Vec, Global, append-nil, append_assoc, ap, arith, cond, drop, get_or, length, map, min, refl, slice_get, slice_index_or, subst, sym, take, length-append, ⊎_elim}
+use Rattle.std.proofs.Common.{◌≡◌, ◌≢◌, ◌∙◌, ℕ, zero, suc, ◌+◌, ◌-◌, ◌<◌, ◌≤◌, true, false, List, [], ◌∷◌, ◌++◌, All, IfOk, IfSome, None, OnErr, OnOk, Option, Some, Result, Ok, Err, Vec, Global, append-nil, append_assoc, ap, arith, cond, drop, get_or, length, map, min, refl, slice_get, slice_index_or, subst, sym, take, length-append, ⊎_elim}
 use Rattle.std.proofs.lemmas.Bool.{eq-eqb, ne_eqb}
 use Rattle.std.proofs.lemmas.Bool.Decides.{eqb_tells, nat_tests}
 use Rattle.std.proofs.lemmas.List.{get_or-map, get_or_append_left, get_or_push, length-map, length-take-le, take-append-le, take_all}
@@ -11,17 +11,22 @@ use Rattle.journal_core.specs.declared.outcome.Answer.TheVariants as answer
 use Rattle.journal_core.specs.declared.step.Refusal.{Refusal}
 use Rattle.journal_core.specs.declared.step.Sent.{Sent}
 use Rattle.journal_core.specs.declared.step.Step.{Step}
-use Rattle.journal_core.specs.declared.step.Step.TheVariants.{Close}
+use Rattle.journal_core.specs.declared.step.Step.TheVariants.{Close, Dequeue, Enqueue}
 use Rattle.journal_core.specs.Runs.{IsRunOf}
 use Rattle.fair_core.specs.FqCodel.{fq_codel}
 use Rattle.sched_core.specs.Engines.{Running}
 use Rattle.sched_core.specs.Schedulers.{IsAdvanced, IsServed, discipline_of}
 use Rattle.port_core.proofs.LaneLemmas.{stays_closed, stays_served}
-use Rattle.port_core.specs.Devices.{AreNewLanes, Holding, KeepsLanes, Pumps, TakesAllLeft, rings_of}
+use Rattle.port_core.specs.Devices.{AreNewLanes, Holding, KeepsLanes, Pumps, TakesAllLeft, fed_of, rings_of}
 use Rattle.port_core.specs.Lanes.{LaneView, RingId, Sending, accepted}
 use Rattle.port_core.specs.declared.gate.Stop.TheVariants as stop
 use Rattle.port_core.specs.declared.lane_sender.LaneDone.{LaneDone}
 use Rattle.trace_core.specs.declared.journal_report.SenderRow.{SenderRow}
+use Rattle.journal_core.specs.Statistics.{statistics}
+use Rattle.program_core.specs.DeviceRuns.{Dequeues, IsDeviceRun, IsIdle, has_close}
+use Rattle.journal_core.specs.Calls.{Gives}
+use Rattle.journal_core.proofs.StepTotals.{adds_sent, given_count}
+use Rattle.program_core.proofs.DeviceRunLemmas.{dequeues_next, pumped_also}
 use Rattle.program_core.proofs.JournalLemmas.{member}
 use Rattle.program_core.specs.Journals.{AreCalls, AreLaneRows, AreLanesJournal, IsLaneDone, IsLaneRow, IsSameDevice, IsSent, calls_of, submitted_of}
 
@@ -43,7 +48,7 @@ same_more old mid new a b = record { rings = b.rings ∙ a.rings; number = b.num
 pub same_unchanged : (old new : Holding) → new ≡ old → IsSameDevice old new
 same_unchanged old new same = subst (IsSameDevice old) (sym same) (same_still old)
 
-pub pumped_same : (old new : Holding) (lane now : ℕ) (r : Result ℕ Refusal) → IfOk r (λ k. Pumps old lane now k new) → rings_of new.lanes ≡ rings_of old.lanes → OnErr r (new ≡ old) → IsSameDevice old new
+pub pumped_same : (old new : Holding) (lane now : ℕ) (r : Result ℕ Refusal) → IfOk r (λ k. Pumps (fed_of old) lane now k (fed_of new)) → rings_of new.lanes ≡ rings_of old.lanes → OnErr r (new ≡ old) → IsSameDevice old new
 pumped_same old new lane now (Ok k) pumps rings same = same_by old new rings pumps.params pumps.seed
 pumped_same old new lane now (Err why) pumps rings same = same_unchanged old new same
 
@@ -70,8 +75,59 @@ closed_accepts old new now (Err why) made same lane = ap (λ (h : Holding). acce
 
 pub ruleset device_goes_on = (same_still, same_more, pumped_same, served_same, closed_same, published_same, served_accepts, closed_accepts)
 
+-- So many packets were sent by dequeues at that moment since the device was another.
+pub record Emptied (old : Holding) (now n : ℕ) (new : Holding) : Type 0 where
+  pub same : IsSameDevice old new
+  pub accepts : (lane : ℕ) → accepted lane new.engine.sched.standing.events ≡ accepted lane old.engine.sched.standing.events
+  pub steps : Dequeues now old.engine.steps new.engine.steps
+  pub all : (statistics new.engine.sched.standing.events).accepted ≡ (statistics old.engine.sched.standing.events).accepted
+  pub sent : (statistics new.engine.sched.standing.events).sent ≡ (statistics old.engine.sched.standing.events).sent + n
+
+pub emptied_none : (h : Holding) (now : ℕ) → Emptied h now 0 h
+emptied_none h now = record {
+  same = same_still h;
+  accepts = λ lane. refl;
+  steps = (0, sym (append-nil h.engine.steps));
+  all = refl;
+  sent = omega arith;
+}
+
+-- a dequeue more
+pub emptied_more : (old mid new : Holding) (now n : ℕ) (sent : Option Sent) → Emptied old now n mid → IsServed mid.engine.sched now sent new.engine.sched
+    → new.engine.steps ≡ mid.engine.steps ++ Dequeue now ∷ [] → new.lanes ≡ mid.lanes → Emptied old now (n + given_count sent) new
+emptied_more old mid new now n sent e made steps lanes =
+    let adds = adds_sent (discipline_of mid.engine.sched) mid.engine.sched.standing new.engine.sched.standing now sent made.gives in
+    record {
+      same = same_more old mid new e.same (same_by mid new (ap rings_of lanes) made.params made.seed);
+      accepts = λ lane. stays_served (discipline_of mid.engine.sched) mid.engine.sched.standing new.engine.sched.standing now sent made.gives lane ∙ e.accepts lane;
+      steps = (e.steps.0 + 1, dequeues_next old.engine.steps mid.engine.steps new.engine.steps now e.steps.0 e.steps.1 steps);
+      all = omega (arith, adds.accepted_more, e.all);
+      sent = omega (arith, adds.sent_more, e.sent);
+    }
+
+-- how many packets a dequeue sends
+pub given_if : (sent : Option Sent) → sent ≢ None → given_count sent ≡ 1
+given_if None some = absurd (some refl)
+given_if (Some s) some = refl
+
+pub none_given : (sent : Option Sent) → given_count sent ≡ 0 → sent ≡ None
+none_given None none = refl
+none_given (Some s) none = absurd (omega (arith, none))
+
+-- a dequeue that sends none
+pub idle_by : (old new : Holding) (now : ℕ) (sent : Option Sent) → IsServed old.engine.sched now sent new.engine.sched → sent ≡ None → IsIdle now new.engine
+idle_by old new now sent made none = record {
+  before = old.engine.sched.standing;
+  gives =
+      subst (λ (s : Seed). Gives (fq_codel new.engine.sched.params s) old.engine.sched.standing now None new.engine.sched.standing) (sym made.seed)
+      (subst (λ (q : ParamFields). Gives (fq_codel q old.engine.sched.seed) old.engine.sched.standing now None new.engine.sched.standing) (sym made.params)
+      (subst (λ (o : Option Sent). Gives (discipline_of old.engine.sched) old.engine.sched.standing now o new.engine.sched.standing) none made.gives));
+}
+
 -- A settled lane, of which so many packets are left, since the device was another.
-pub record Emptying (old : Holding) (lane left : ℕ) (new : Holding) : Type 0 where
+pub record Emptying (old : Holding) (lane now left : ℕ) (new : Holding) : Type 0 where
+  pub packets : List PacketParts
+  pub steps : new.engine.steps ≡ old.engine.steps ++ map (Enqueue now lane) packets
   pub same : IsSameDevice old new
   pub settled : (d : LaneView) → (slice_index_or new.lanes lane d).settled ≡ true
   pub many : (d : LaneView) → left ≡ length (slice_index_or new.lanes lane d).known
@@ -79,20 +135,22 @@ pub record Emptying (old : Holding) (lane left : ℕ) (new : Holding) : Type 0 w
       ≡ accepted lane old.engine.sched.standing.events ++ (slice_index_or old.lanes lane d).known
   pub others : (i : ℕ) → i ≢ lane → accepted i new.engine.sched.standing.events ≡ accepted i old.engine.sched.standing.events
 
-pub emptying_none : (h : Holding) (lane left : ℕ) → ((d : LaneView) → (slice_index_or h.lanes lane d).settled ≡ true) → ((d : LaneView) → left ≡ length (slice_index_or h.lanes lane d).known) → Emptying h lane left h
-emptying_none h lane left settled many = record { same = same_still h; settled = settled; many = many; taken = λ d. refl; others = λ i apart. refl }
+pub emptying_none : (h : Holding) (lane now left : ℕ) → ((d : LaneView) → (slice_index_or h.lanes lane d).settled ≡ true) → ((d : LaneView) → left ≡ length (slice_index_or h.lanes lane d).known) → Emptying h lane now left h
+emptying_none h lane now left settled many = record { packets = []; steps = sym (append-nil h.engine.steps); same = same_still h; settled = settled; many = many; taken = λ d. refl; others = λ i apart. refl }
 
 some_lane : (ls : List LaneView) (i : ℕ) → i < length ls → LaneView
 some_lane [] i less = absurd (omega (arith, less))
 some_lane (l ∷ ls) i less = l
 
 -- a pump takes from it, and leaves fewer
-pub emptying_more : (old mid new : Holding) (lane now left k : ℕ) → lane < length mid.lanes → Emptying old lane left mid → Pumps mid lane now k new → TakesAllLeft mid lane 64 k → rings_of new.lanes ≡ rings_of mid.lanes
-    → (k ≤ left) × (0 < left → 0 < k) × Emptying old lane (left - k) new
+pub emptying_more : (old mid new : Holding) (lane now left k : ℕ) → lane < length mid.lanes → Emptying old lane now left mid → Pumps (fed_of mid) lane now k (fed_of new) → TakesAllLeft mid.lanes lane 64 k → rings_of new.lanes ≡ rings_of mid.lanes
+    → (k ≤ left) × (0 < left → 0 < k) × Emptying old lane now (left - k) new
 emptying_more old mid new lane now left k there e p all rings = (
   within,
   (λ some. let l = e.many first in let most = most_of first in grind (arith, nat_tests)),
   record {
+    packets = e.packets ++ p.packets;
+    steps = pumped_also old.engine.steps mid.engine.steps new.engine.steps now lane e.packets p.packets e.steps p.steps;
     same = same_more old mid new e.same (same_by mid new rings p.params p.seed);
     settled = λ d. (p.gives d).settled ∙ e.settled d;
     many = λ d. omega (arith, e.many d, cut d);
@@ -258,9 +316,20 @@ pub lanes_journal : (p : ParamFields) (seed : Seed) (n : ℕ) (steps : List Step
     → AreCalls p seed n steps calls → map (λ l. l.items) lists ≡ map (λ l. map (λ call. call.1) l.items) calls
     → AreLaneRows lists engine.sched.standing.events rows
     → engine.sched.params ≡ p → engine.sched.seed ≡ seed → IsRunOf (discipline_of engine.sched) engine.steps engine.sched.standing
+    → IsDeviceRun (length lists) steps [] engine.steps → (statistics engine.sched.standing.events).closed ≡ true
+    → (moment : ℕ) × IsIdle moment engine → (has_close steps ≡ false → All (λ row. row.left ≡ 0) rows)
     → AreLanesJournal p seed n steps engine.sched.standing.events rows
-lanes_journal p seed n steps calls lists engine rows are listed told params_are seed_is run = record {
+lanes_journal p seed n steps calls lists engine rows are listed told params_are seed_is run made closed idle none_left = record {
   made = engine.steps;
+  by_rows = subst (λ k. IsDeviceRun k steps [] engine.steps) as_many made;
+  closed = closed;
+  idle = (
+    idle.0,
+    idle.1.before,
+    subst (λ (s : Seed). Gives (fq_codel p s) idle.1.before idle.0 None engine.sched.standing) seed_is
+        (subst (λ (q : ParamFields). Gives (fq_codel q engine.sched.seed) idle.1.before idle.0 None engine.sched.standing) params_are idle.1.gives),
+  );
+  none_left = none_left;
   standing = engine.sched.standing;
   run = subst (λ (s : Seed). IsRunOf (fq_codel p s) engine.steps engine.sched.standing) seed_is
       (subst (λ (q : ParamFields). IsRunOf (fq_codel q engine.sched.seed) engine.steps engine.sched.standing) params_are run);

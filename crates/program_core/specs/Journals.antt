@@ -1,12 +1,12 @@
 -- The journals of runs by senders that are threads.
-use Rattle.std.specs.Prelude.{◌≡◌, ◌≤◌, ◌<◌, ℕ, ◌+◌, ◌-◌, ◌%◌, ◌==◌, List, [], ◌∷◌, ◌++◌, Ok, Option, Some, None, IfSome, Vec, if◌then◌else◌, length, map, slice_get, slice_index_or, sum_by, take}
+use Rattle.std.specs.Prelude.{◌≡◌, ◌≤◌, ◌<◌, ℕ, ◌+◌, ◌-◌, ◌%◌, ◌==◌, true, false, All, List, [], ◌∷◌, ◌++◌, Ok, Option, Some, None, IfSome, Vec, if◌then◌else◌, length, map, slice_get, slice_index_or, sum_by, take}
 use Rattle.std.specs.Global.{Global}
 use Rattle.std.specs.List.{flat_map}
 use Rattle.packet_core.specs.FlowNumber.{flow_number}
 use Rattle.packet_core.specs.Packets.{PacketParts}
 use Rattle.packet_core.specs.declared.flow.Seed.{Seed}
 use Rattle.packet_core.specs.declared.params.ParamFields.{ParamFields}
-use Rattle.journal_core.specs.Calls.{Standing}
+use Rattle.journal_core.specs.Calls.{Gives, Standing}
 use Rattle.journal_core.specs.Runs.{IsRunOf}
 use Rattle.journal_core.specs.Statistics.{statistics}
 use Rattle.journal_core.specs.declared.event.Event.{Event}
@@ -22,6 +22,8 @@ use Rattle.port_core.specs.Senders.{IsSubsequence, SendsSome, packets_told}
 use Rattle.port_core.specs.declared.gate.Stop.{Stop}
 use Rattle.port_core.specs.declared.lane_sender.LaneDone.{LaneDone}
 use Rattle.port_core.specs.declared.gate.Stop.TheVariants as stop
+use Rattle.program_core.specs.DeviceRuns.{IsDeviceRun, IsIdle, has_close}
+use Rattle.program_core.specs.Interleavings.{IsInterleaving}
 use Rattle.trace_core.specs.Report.{journal_text}
 use Rattle.row_core.specs.Traces.{trace_of}
 use Rattle.trace_core.specs.declared.journal_report.SenderRow.{SenderRow}
@@ -53,6 +55,10 @@ pub record IsDone (old : Seat) (list : List (ℕ × PacketParts)) (calls : ℕ) 
   pub told : SendsSome old (map (λ p. p.1) list) calls new
   pub done : why ≡ stop.Done → calls ≡ length list
 
+-- A gate let each of so many calls through.
+abbrev pub LetsThrough : (ℕ → Type 0) → ℕ → Type 0
+LetsThrough Let calls = (call : ℕ) → 0 < call → call ≤ calls → Let call
+
 -- the row of a sender that made so many calls
 abbrev pub row_of : ℕ → Seat → SenderRow
 row_of calls seat = record {
@@ -72,14 +78,18 @@ pub record IsSenderRow (sender : ℕ) (calls : List (ℕ × PacketParts)) (event
   pub left : row.accepted + row.left ≡ row.submitted
   pub in_order : IsSubsequence (packets_told (of_lane sender events)) (map (λ p. p.1) calls)
 
--- The events are those of some run with that seed and those parameters, in which the packets of the steps were
--- submitted by so many senders, and the rows are theirs. All that was accepted is some sender's.
+-- The events are those of a run with that seed and those parameters, by calls of so many senders for the packets of the
+-- steps and of the main thread for the other steps, and the rows are theirs. At its end it is closed, and nothing waits.
+-- All that was accepted is some sender's.
 pub record AreLockedJournal (p : ParamFields) (seed : Seed) (senders : ℕ) (steps : List Step) (events : List Event)
     (rows : List SenderRow) : Type 0 where
   pub made : List Step
+  pub by_calls : IsInterleaving senders (λ i. calls_of p seed senders i steps) steps made
   pub standing : Standing FairQueues
   pub run : IsRunOf (fq_codel p seed) made standing
   pub journal : standing.events ≡ events
+  pub closed : (statistics events).closed ≡ true
+  pub none_waits : (statistics events).queued ≡ 0
   pub number : length rows ≡ senders
   pub each : (i : ℕ) (d : SenderRow) → i < senders
       → IsSenderRow i (calls_of p seed senders i steps) events (slice_index_or rows i d)
@@ -132,21 +142,31 @@ pub record AreLaneRows (lists : List (Vec PacketParts Global)) (events : List Ev
       → IsLaneRow i (slice_index_or lists i l).items events (slice_index_or rows i r)
   pub no_other : (i : ℕ) → length lists ≤ i → accepted i events ≡ []
 
--- The engine is that of a device at its end, to whose lanes these packets were submitted, and the rows are theirs.
-pub record IsLanesRunOf (device : Holding) (lists : List (Vec PacketParts Global)) (engine : Running)
+-- The engine is that of a device at its end, which made a run of these steps and to whose lanes these packets were
+-- submitted, and the rows are theirs.
+pub record IsLanesRunOf (device : Holding) (steps : List Step) (lists : List (Vec PacketParts Global)) (engine : Running)
     (told : List SenderRow) : Type 0 where
   pub params : engine.sched.params ≡ device.engine.sched.params
   pub seed : engine.sched.seed ≡ device.engine.sched.seed
   pub rows : AreLaneRows lists engine.sched.standing.events told
+  pub run : IsDeviceRun (length lists) steps device.engine.steps engine.steps
+  pub idle : (moment : ℕ) × IsIdle moment engine
+  pub none_left : has_close device.engine.steps ≡ false → has_close steps ≡ false → All (λ row. row.left ≡ 0) told
 
--- The events are those of some run with that seed and those parameters, into which a device took the packets of the
--- steps from the lanes of so many senders, and the rows are theirs. All that was accepted came out of some lane.
+-- The events are those of a run with that seed and those parameters, in which a device took the packets of the steps
+-- from the lanes of so many senders, by the rows of the trace, and the rows are theirs. At its end it is closed, and its
+-- last dequeue found no packet. Where no row of the trace is a close no packet is left. All that was accepted came out
+-- of some lane.
 pub record AreLanesJournal (p : ParamFields) (seed : Seed) (senders : ℕ) (steps : List Step) (events : List Event)
     (rows : List SenderRow) : Type 0 where
   pub made : List Step
+  pub by_rows : IsDeviceRun senders steps [] made
   pub standing : Standing FairQueues
   pub run : IsRunOf (fq_codel p seed) made standing
   pub journal : standing.events ≡ events
+  pub closed : (statistics events).closed ≡ true
+  pub idle : (moment : ℕ) × (before : Standing FairQueues) × Gives (fq_codel p seed) before moment None standing
+  pub none_left : has_close steps ≡ false → All (λ row. row.left ≡ 0) rows
   pub number : length rows ≡ senders
   pub each : (i : ℕ) (d : SenderRow) → i < senders
       → IsLaneRow i (map (λ call. call.1) (calls_of p seed senders i steps)) events (slice_index_or rows i d)

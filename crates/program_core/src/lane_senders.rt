@@ -4,7 +4,7 @@ ghost use denote.Param.Send.{IsSync};
 ghost use Rattle.command_core.specs.declared.command_line.TheConstants.{MAX_SENDERS};
 ghost use Rattle.port_core.specs.declared.opening.TheConstants.{MAX_CAPACITY};
 ghost use Rattle.program_core.specs.Faults.{IsLanesRunFault};
-ghost use Rattle.program_core.specs.Journals.{IsLaneDone};
+ghost use Rattle.program_core.specs.Journals.{IsLaneDone, LetsThrough};
 
 use crate::program_run::ProgramFault;
 use command_core::MAX_SENDERS;
@@ -75,6 +75,7 @@ fn lane_jobs_of<'a, G>(
     requires { (length lists.now ≡ length senders.items) × (length gates.now ≡ length senders.items) }
     ensures senders { IfOk result (λ jobs. map (λ j. j.sender) jobs.items ≡ senders.items) }
     ensures packets { IfOk result (λ jobs. map (λ j. j.packets.now) jobs.items ≡ map (λ l. l.items) lists.now) }
+    ensures gates { IfOk result (λ jobs. map (λ j. j.gate.now) jobs.items ≡ gates.now) }
 {
     let mut jobs = Vec::new(alloc);
     let mut next = 0;
@@ -90,8 +91,8 @@ fn lane_jobs_of<'a, G>(
 }
 
 /// Starts the senders, each in a thread of its own with its lane, its list and its gate, calls the device's part once
-/// meanwhile, joins the senders, and gives what each of them did, in their order. Where a thread can't be made, another
-/// one runs its part. It fails where a growth is refused.
+/// meanwhile, joins the senders, and gives what each of them did, in their order. The gate of each let every submit of its
+/// sender through. Where a thread can't be made, another one runs its part. It fails where a growth is refused.
 pub fn start_lanes<H: Threads + Sync, G: Gate + Sync, F: FnOnce() -> X, X: Drop>(
     rt: &H,
     alloc: Global,
@@ -108,6 +109,8 @@ pub fn start_lanes<H: Threads + Sync, G: Gate + Sync, F: FnOnce() -> X, X: Drop>
         → IsLaneDone (slice_index_or senders.items i s) (slice_index_or lists.now i l).items
         (slice_index_or r.0.items i d).submitted (slice_index_or r.0.items i d).stop
         (slice_index_or r.0.items i d).end) }
+    ensures gates { IfOk result (λ r. (i : ℕ) (d : _) (g : _) → i < length senders.items
+        → LetsThrough (G.LetThrough (slice_index_or gates.now i g)) (slice_index_or r.0.items i d).submitted) }
 {
     let jobs = lane_jobs_of(alloc, senders, lists, gates)?;
     let senders = move || -> Result<Vec<LaneDone>, AllocError>
@@ -116,7 +119,10 @@ pub fn start_lanes<H: Threads + Sync, G: Gate + Sync, F: FnOnce() -> X, X: Drop>
             × ((i : ℕ) (d : _) (j : _) → i < length jobs.entry.items
             → IsLaneDone (slice_index_or jobs.entry.items i j).sender (slice_index_or jobs.entry.items i j).packets.now
             (slice_index_or done.items i d).submitted (slice_index_or done.items i d).stop
-            (slice_index_or done.items i d).end)) }
+            (slice_index_or done.items i d).end)
+            × ((i : ℕ) (d : _) (j : _) → i < length jobs.entry.items
+            → LetsThrough (G.LetThrough (slice_index_or jobs.entry.items i j).gate.now)
+            (slice_index_or done.items i d).submitted)) }
     { send_all(rt, jobs) };
     let (done, answer) = thread::join(rt, senders, part);
     Ok((done?, answer))
@@ -132,9 +138,13 @@ fn send_all<H: Threads + Sync, G: Gate + Sync>(
         → IsLaneDone (slice_index_or jobs.entry.items i j).sender (slice_index_or jobs.entry.items i j).packets.now
         (slice_index_or done.items i d).submitted (slice_index_or done.items i d).stop
         (slice_index_or done.items i d).end) }
+    ensures gates { IfOk result (λ done. (i : ℕ) (d : _) (j : _) → i < length jobs.entry.items
+        → LetsThrough (G.LetThrough (slice_index_or jobs.entry.items i j).gate.now)
+        (slice_index_or done.items i d).submitted) }
 {
     let send = move |job: LaneJob<G>| -> LaneDone
-        ensures { IsLaneDone job.entry.sender job.entry.packets.now result.submitted result.stop result.end }
+        ensures { IsLaneDone job.entry.sender job.entry.packets.now result.submitted result.stop result.end
+            × LetsThrough (G.LetThrough job.entry.gate.now) result.submitted }
     { send_lane(job.sender, job.packets, job.gate) };
     thread::map_vec(rt, jobs, &send)
 }

@@ -1,5 +1,5 @@
 //! The run of a trace by senders that are threads, through lanes into a device.
-ghost use Rattle.std.specs.Prelude.{◌≡◌, ◌≢◌, ◌≤◌, ◌<◌, ◌++◌, ◌⊎◌, ℕ, All, IfErr, IfOk, None, OnOk, length, map, option_map, slice_index_or, true};
+ghost use Rattle.std.specs.Prelude.{◌≡◌, ◌≢◌, ◌≤◌, ◌<◌, ◌++◌, ◌⊎◌, [], ℕ, All, IfErr, IfOk, IsOk, None, OnOk, false, length, map, option_map, slice_index_or, true};
 ghost use Rattle.std.specs.Io.KnownBytes.{Appends, Keeps};
 ghost use denote.Param.Send.{IsSync};
 ghost use Rattle.command_core.specs.declared.command_line.TheConstants.{MAX_MONITORS, MAX_SENDERS};
@@ -7,9 +7,11 @@ ghost use Rattle.port_core.specs.Devices.{AreNewLanes, rings_of};
 ghost use Rattle.port_core.specs.Lanes.{LaneView, accepted};
 ghost use Rattle.port_core.specs.declared.gate.Stop.TheVariants as stop;
 ghost use Rattle.port_core.specs.declared.opening.TheConstants.{MAX_CAPACITY};
+ghost use Rattle.program_core.specs.DeviceRuns.{Dequeues, EmptiesLane, EndsRun, Finishes, HasServed, IsAny, IsBurst, IsDeviceRun, IsIdle, PumpsAll, ServesRow, closed_at, has_close, last_moment};
 ghost use Rattle.program_core.specs.Faults.{IsLanesFault, IsLanesRunFault};
 ghost use Rattle.program_core.specs.Journals.{AreLaneRows, AreLanesJournal, FitsLane, IsLaneRow, IsLanesRunOf, IsSameDevice, submitted_of};
 ghost use Rattle.program_core.specs.Runs.{IsSendersRunFor};
+ghost use Rattle.program_core.specs.Watched.{IsSeen, TellsSeen};
 ghost use Rattle.program_core.specs.declared.program_run.ProgramFault.TheVariants as program_fault;
 
 use crate::lane_senders::{capacity_of, packets_of, start_lanes};
@@ -35,7 +37,7 @@ use trace_core::{SenderRow, read_trace, write_journal};
 const BURST: u64 = 64;
 
 /// Reads a trace, makes its run through lanes, with the seed and the parameters that were asked for, and writes the
-/// journal; on `told` it tells what each monitor saw. The seed is read first, then the parameters, then the trace.
+/// journal; on `told` it reports what each monitor saw, in lines that may be cut where memory or a write is refused. The seed is read first, then the parameters, then the trace.
 pub fn simulate_lanes<H: Threads + Wait + Sync, R: Read, W: Write, F: Write>(
     rt: &H,
     alloc: Global,
@@ -54,6 +56,7 @@ pub fn simulate_lanes<H: Threads + Wait + Sync, R: Read, W: Write, F: Write>(
         (W.contents writer.old) (W.contents writer.new)) }
     ensures untouched { IfErr result (λ fault. (fault ≢ program_fault.Write)
         → Keeps (W.contents writer.old) (W.contents writer.new)) }
+    ensures told { OnOk result (TellsSeen request.now.monitors (F.contents told.old) (F.contents told.new)) }
     ensures quiet { request.now.monitors ≡ 0 → Keeps (F.contents told.old) (F.contents told.new) }
 {
     let run = &request.by.run;
@@ -62,7 +65,7 @@ pub fn simulate_lanes<H: Threads + Wait + Sync, R: Read, W: Write, F: Write>(
     let steps = read_trace(alloc, reader)?;
     let (engine, rows, seen) = run_lanes(rt, alloc, params, seed, request, &steps)?;
     write_journal(alloc, writer, &engine, &rows)?;
-    tell_seen(told, &seen);
+    tell_seen(alloc, told, &seen);
     Ok(())
 }
 
@@ -80,7 +83,7 @@ fn run_lanes<H: Threads + Wait + Sync>(
     requires monitors { request.now.monitors ≤ MAX_MONITORS }
     ensures journal { IfOk result (λ r. AreLanesJournal params seed request.now.by.senders steps.now
         r.0.sched.standing.events r.1.items) }
-    ensures seen { IfOk result (λ r. length r.2.items ≡ request.now.monitors) }
+    ensures seen { IfOk result (λ r. (length r.2.items ≡ request.now.monitors) × All IsSeen r.2.items) }
     ensures fault { IfErr result (IsLanesRunFault request.now.by.senders) }
 {
     let calls = lists_of(alloc, &params, &seed, request.by.senders, steps)?;
@@ -94,6 +97,8 @@ fn run_lanes<H: Threads + Wait + Sync>(
     let blank = BookBlank::new();
     let run = run_in_book::<Brand, _>(rt, alloc, blank, params, seed, layout, steps, &lists)?;
     run.0.run_of_steps();
+    let closed = run.0.is_closed();
+    prove!(closed);
     Ok(run)
 }
 
@@ -114,15 +119,18 @@ fn run_in_book<J: BookName + Send + Sync, H: Threads + Wait + Sync>(
     requires monitors { layout.monitors ≤ MAX_MONITORS }
     ensures params { IfOk result (λ r. (r.0.sched.params ≡ params) × (r.0.sched.seed ≡ seed)) }
     ensures rows { IfOk result (λ r. AreLaneRows lists.now r.0.sched.standing.events r.1.items) }
-    ensures seen { IfOk result (λ r. length r.2.items ≡ layout.monitors) }
+    ensures made { IfOk result (λ r. IsDeviceRun (length lists.now) steps.now [] r.0.steps) }
+    ensures idle { IfOk result (λ r. (moment : ℕ) × IsIdle moment r.0) }
+    ensures none_left { IfOk result (λ r. has_close steps.now ≡ false → All (λ row. row.left ≡ 0) r.1.items) }
+    ensures seen { IfOk result (λ r. (length r.2.items ≡ layout.monitors) × All IsSeen r.2.items) }
     ensures fault { IfErr result (IsLanesRunFault (length lists.now)) }
 {
     let opened = lanes::<J, _>(rt, alloc, blank, params, seed, layout)?;
     run_opened(rt, alloc, opened, steps, lists)
 }
 
-/// Makes the run through lanes that were just opened. Its monitors read in threads of their own until it has ended. The
-/// run comes first: where no thread can be made, it has ended before the first of them reads.
+/// Makes the run through lanes that were just opened. Its monitors read in threads of their own until it has ended.
+/// Where no thread can be made, the run ends before the first of them reads.
 fn run_opened<
     J: BookName + Send + Sync,
     X: Screen<Shown<J>> + Drop + Send,
@@ -139,7 +147,11 @@ fn run_opened<
     ensures params { IfOk result (λ r. (r.0.sched.params ≡ opened.device.engine.sched.params)
         × (r.0.sched.seed ≡ opened.device.engine.sched.seed)) }
     ensures rows { IfOk result (λ r. AreLaneRows lists.now r.0.sched.standing.events r.1.items) }
-    ensures seen { IfOk result (λ r. length r.2.items ≡ length opened.monitors.items) }
+    ensures made { IfOk result (λ r. IsDeviceRun (length lists.now) steps.now opened.device.engine.steps r.0.steps) }
+    ensures idle { IfOk result (λ r. (moment : ℕ) × IsIdle moment r.0) }
+    ensures none_left { IfOk result (λ r. has_close opened.device.engine.steps ≡ false → has_close steps.now ≡ false
+        → All (λ row. row.left ≡ 0) r.1.items) }
+    ensures seen { IfOk result (λ r. (length r.2.items ≡ length opened.monitors.items) × All IsSeen r.2.items) }
     ensures fault { IfErr result (IsLanesRunFault (length lists.now)) }
 {
     let Opened {
@@ -153,7 +165,7 @@ fn run_opened<
     let run = move || -> Result<(Device<J, X>, Vec<SenderRow>), ProgramFault>
         requires { IsSync H.row × AreNewLanes senders.items device.lanes (length lists.now)
             × (length lists.now ≤ MAX_SENDERS) }
-        ensures { IfOk result (λ r. IsLanesRunOf device lists.entry.now r.0.engine r.1.items)
+        ensures { IfOk result (λ r. IsLanesRunOf device steps.entry.now lists.entry.now r.0.engine r.1.items)
             × IfErr result (IsLanesRunFault (length lists.entry.now)) }
     {
         let made = run_device(rt, alloc, senders, device, steps, lists, readers);
@@ -162,9 +174,10 @@ fn run_opened<
     };
     let read = move || -> Result<Vec<Seen>, AllocError>
         requires { IsSync H.row }
-        ensures { IfOk result (λ seen. length seen.items ≡ length monitors.items) }
+        ensures { IfOk result (λ seen. (length seen.items ≡ length monitors.items) × All IsSeen seen.items) }
     { read_all(rt, monitors, over) };
-    let (made, seen) = thread::join(rt, run, read);
+    // Where no thread can be made, `join` calls its first closure last: the run has ended before a monitor reads.
+    let (seen, made) = thread::join(rt, read, run);
     // The device is there until each monitor has read for the last time.
     let (device, rows) = made?;
     Ok((device.into_engine(), rows, seen?))
@@ -184,17 +197,18 @@ fn run_device<J: BookName, X: Screen<Shown<J>> + Drop, H: Threads + Sync>(
 ) -> Result<(Device<J, X>, Vec<SenderRow>), ProgramFault>
     requires lanes { AreNewLanes senders.items device.lanes (length lists.now) }
     requires number { length lists.now ≤ MAX_SENDERS }
-    ensures made { IfOk result (λ r. IsLanesRunOf device lists.now r.0.engine r.1.items) }
+    ensures made { IfOk result (λ r. IsLanesRunOf device steps.now lists.now r.0.engine r.1.items) }
     ensures fault { IfErr result (IsLanesRunFault (length lists.now)) }
 {
     let gates = vec![in alloc; Open; lists.len()]?;
     let part = move || -> Result<Device<J, X>, ProgramFault>
-        ensures { IfOk result (λ d. IsSameDevice device d)
+        ensures { IfOk result (λ d. IsSameDevice device d
+            × HasServed (length device.lanes) device.engine.steps steps.entry.now d.engine.steps)
             × IfErr result (λ why. why ≡ program_fault.Memory) }
     { device_part(device, steps, readers) };
     let (done, device) = start_lanes(rt, alloc, senders, lists, &gates, part)?;
     let mut device = device?;
-    let rows = ended(alloc, &mut device, done, steps.len())?;
+    let rows = ended(alloc, &mut device, done)?;
     publish(&mut device, readers)?;
     device.engine().run_of_steps();
     Ok((device, rows))
@@ -207,6 +221,7 @@ fn device_part<J: BookName, X: Screen<Shown<J>> + Drop>(
     readers: usize,
 ) -> Result<Device<J, X>, ProgramFault>
     ensures same { IfOk result (λ d. IsSameDevice device d) }
+    ensures rows { IfOk result (λ d. HasServed (length device.lanes) device.engine.steps steps.now d.engine.steps) }
     ensures fault { IfErr result (λ why. why ≡ program_fault.Memory) }
 {
     let mut device = device;
@@ -223,25 +238,63 @@ fn serve<J: BookName, X: Screen<Shown<J>> + Drop>(
     readers: usize,
 ) -> Result<(), ProgramFault>
     ensures same { IsSameDevice device.old device.new }
+    ensures rows { OnOk result (HasServed (length device.old.lanes) device.old.engine.steps steps.now
+        device.new.engine.steps) }
     ensures fault { IfErr result (λ why. why ≡ program_fault.Memory) }
 {
     let mut now = 0;
     for step in steps {
-        match *step {
-            Step::Enqueue { .. } => {}
-            Step::Dequeue { moment } => {
-                now = moment.max(now);
-                pump_all(device, now)?;
-                device.dequeue(now)?;
-                publish(device, readers)?;
-            }
-            Step::Close { moment } => {
-                now = moment.max(now);
-                close(device, now)?;
-            }
-        }
+        now = serve_row(device, now, step, readers)?;
     }
     Ok(())
+}
+
+/// Makes a row of the trace, and answers the device's moment then.
+#[tactic(auto, using(crate::proofs::LaneRunLemmas::device_goes_on))]
+fn serve_row<J: BookName, X: Screen<Shown<J>> + Drop>(
+    device: &mut Device<J, X>,
+    now: u64,
+    row: &Step,
+    readers: usize,
+) -> Result<u64, ProgramFault>
+    ensures same { IsSameDevice device.old device.new }
+    ensures row { IfOk result (λ later. ServesRow (length device.old.lanes) now device.old.engine.steps row.now
+        later device.new.engine.steps) }
+    ensures fault { IfErr result (λ why. why ≡ program_fault.Memory) }
+{
+    match *row {
+        Step::Enqueue { .. } => Ok(now),
+        Step::Dequeue { moment } => {
+            let now = moment.max(now);
+            pump_all(device, now)?;
+            device.dequeue(now)?;
+            publish(device, readers)?;
+            Ok(now)
+        }
+        Step::Close { moment } => {
+            let now = moment.max(now);
+            close(device, now)?;
+            Ok(now)
+        }
+    }
+}
+
+/// Whether one of its steps is a close.
+fn is_closed<J: BookName, X: Screen<Shown<J>> + Drop>(device: &Device<J, X>) -> bool
+    ensures { result ≡ has_close device.now.engine.steps }
+{
+    let engine = device.engine();
+    engine.run_of_steps();
+    engine.is_closed()
+}
+
+/// The moment of its last step, and 0 before the first.
+fn last_moment<J: BookName, X: Screen<Shown<J>> + Drop>(device: &Device<J, X>) -> u64
+    ensures { result ≡ last_moment device.now.engine.steps }
+{
+    let engine = device.engine();
+    engine.run_of_steps();
+    engine.last_moment()
 }
 
 /// Publishes the statistics, unless nobody reads.
@@ -266,9 +319,11 @@ fn pump_all<J: BookName, X: Screen<Shown<J>> + Drop>(
     device: &mut Device<J, X>,
     now: u64,
 ) -> Result<(), Refusal>
-    ensures { IsSameDevice device.old device.new }
+    ensures same { IsSameDevice device.old device.new }
+    ensures pumped { OnOk result (PumpsAll IsBurst now device.old.engine.steps (length device.old.lanes)
+        device.new.engine.steps) }
 {
-    if device.engine().is_closed() {
+    if is_closed(device) {
         return Ok(());
     }
     for lane in 0..device.lanes() {
@@ -286,21 +341,22 @@ fn close<J: BookName, X: Screen<Shown<J>> + Drop>(
     ensures same { IsSameDevice device.old device.new }
     ensures accepted { (lane : ℕ) → accepted lane device.new.engine.sched.standing.events
         ≡ accepted lane device.old.engine.sched.standing.events }
+    ensures closed { OnOk result (device.new.engine.steps ≡ closed_at now device.old.engine.steps) }
+    ensures again { has_close device.old.engine.steps ≡ true → IsOk result }
 {
-    if device.engine().is_closed() {
+    if is_closed(device) {
         return Ok(());
     }
     device.close(now)
 }
 
-/// What is done behind the last step of a trace, and the rows of the lanes: the lanes are settled and emptied, and then
-/// packets are taken, at most so many, until none waits.
+/// What is done after the last row of a trace, and the rows of the lanes: the lanes are settled and emptied, and then
+/// packets are taken until none is sent.
 #[tactic(auto, using(crate::proofs::LaneRunLemmas::same_more))]
 fn ended<J: BookName, X: Screen<Shown<J>> + Drop>(
     alloc: Global,
     device: &mut Device<J, X>,
     done: Vec<LaneDone>,
-    most: usize,
 ) -> Result<Vec<SenderRow>, ProgramFault>
     requires number { (length done.items ≡ length device.old.lanes) × (length done.items ≤ MAX_SENDERS) }
     requires each { (i : ℕ) (d : _) → i < length done.items
@@ -311,10 +367,14 @@ fn ended<J: BookName, X: Screen<Shown<J>> + Drop>(
         → IsLaneRow i (submitted_of (slice_index_or done.items i d).end) device.new.engine.sched.standing.events
         (slice_index_or rows.items i r)) }
     ensures done { OnOk result (All (λ d. (d.stop ≡ stop.Done) × (d.end ≢ None)) done.items) }
+    ensures ends { OnOk result (EndsRun (length device.old.lanes) device.old.engine.steps device.new.engine.steps) }
+    ensures idle { OnOk result ((moment : ℕ) × IsIdle moment device.new.engine) }
+    ensures none_left { has_close device.old.engine.steps ≡ false
+        → IfOk result (λ rows. All (λ row. row.left ≡ 0) rows.items) }
     ensures fault { IfErr result (IsLanesRunFault (length done.items)) }
 {
     let rows = rows_of(alloc, device, done)?;
-    finish(device, most)?;
+    finish(device)?;
     Ok(rows)
 }
 
@@ -334,6 +394,10 @@ fn rows_of<J: BookName, X: Screen<Shown<J>> + Drop>(
         → IsLaneRow i (submitted_of (slice_index_or done.items i d).end) device.new.engine.sched.standing.events
         (slice_index_or rows.items i r)) }
     ensures done { OnOk result (All (λ d. (d.stop ≡ stop.Done) × (d.end ≢ None)) done.items) }
+    ensures emptied { OnOk result (PumpsAll IsAny (last_moment device.old.engine.steps) device.old.engine.steps
+        (length device.old.lanes) device.new.engine.steps) }
+    ensures none_left { has_close device.old.engine.steps ≡ false
+        → IfOk result (λ rows. All (λ row. row.left ≡ 0) rows.items) }
     ensures fault { IfErr result (IsLanesRunFault (length done.items)) }
 {
     let mut rows = Vec::new(alloc);
@@ -356,6 +420,8 @@ fn row_of<J: BookName, X: Screen<Shown<J>> + Drop>(
     ensures same { IsSameDevice device.old device.new }
     ensures row { IfOk result (IsLaneRow lane (submitted_of done.end) device.new.engine.sched.standing.events) }
     ensures done { OnOk result ((done.stop ≡ stop.Done) × (done.end ≢ None)) }
+    ensures emptied { OnOk result (EmptiesLane lane device.old.engine.steps device.new.engine.steps) }
+    ensures none_left { has_close device.old.engine.steps ≡ false → IfOk result (λ row. row.left ≡ 0) }
     ensures others { (i : ℕ) → i ≢ lane → accepted i device.new.engine.sched.standing.events
         ≡ accepted i device.old.engine.sched.standing.events }
     ensures fault { IfErr result (λ why. (why ≡ program_fault.Memory) ⊎ (why ≡ program_fault.Lane lane)) }
@@ -397,31 +463,54 @@ fn emptied<J: BookName, X: Screen<Shown<J>> + Drop>(
         ≡ accepted lane device.old.engine.sched.standing.events ++ (slice_index_or device.old.lanes lane d).known }
     ensures others { (i : ℕ) → i ≢ lane → accepted i device.new.engine.sched.standing.events
         ≡ accepted i device.old.engine.sched.standing.events }
+    ensures emptied { OnOk result (EmptiesLane lane device.old.engine.steps device.new.engine.steps) }
+    ensures none_left { has_close device.old.engine.steps ≡ false → IfOk result (λ n. n ≡ 0) }
 {
-    let now = device.engine().last_moment();
+    if is_closed(device) {
+        return Ok(left);
+    }
+    let now = last_moment(device);
     let mut left = left;
-    while left > 0 && !device.engine().is_closed() {
+    while left > 0 {
         left -= device.pump(lane, now, BURST)?;
     }
     Ok(left)
 }
 
-/// Closes, unless there was a close, and takes packets, at most so many, at the last moment, until none waits.
+/// Closes, unless there was a close, and takes packets at the last moment until none is sent.
 #[tactic(auto, using(crate::proofs::LaneRunLemmas::device_goes_on))]
-fn finish<J: BookName, X: Screen<Shown<J>> + Drop>(
+fn finish<J: BookName, X: Screen<Shown<J>> + Drop>(device: &mut Device<J, X>) -> Result<(), Refusal>
+    ensures same { IsSameDevice device.old device.new }
+    ensures accepted { (lane : ℕ) → accepted lane device.new.engine.sched.standing.events
+        ≡ accepted lane device.old.engine.sched.standing.events }
+    ensures steps { OnOk result (Finishes device.old.engine.steps device.new.engine.steps) }
+    ensures idle { OnOk result (IsIdle (last_moment device.old.engine.steps) device.new.engine) }
+{
+    let now = last_moment(device);
+    close(device, now)?;
+    empty(device, now)
+}
+
+/// Takes packets until none is sent.
+fn empty<J: BookName, X: Screen<Shown<J>> + Drop>(
     device: &mut Device<J, X>,
-    most: usize,
+    now: u64,
 ) -> Result<(), Refusal>
     ensures same { IsSameDevice device.old device.new }
     ensures accepted { (lane : ℕ) → accepted lane device.new.engine.sched.standing.events
         ≡ accepted lane device.old.engine.sched.standing.events }
+    ensures steps { OnOk result (Dequeues now device.old.engine.steps device.new.engine.steps) }
+    ensures idle { OnOk result (IsIdle now device.new.engine) }
 {
-    let now = device.engine().last_moment();
-    close(device, now)?;
-    for _packet in 0..=most {
+    let totals = device.engine().totals();
+    for _packet in 0..totals.accepted - totals.sent {
         if device.dequeue(now)?.is_none() {
-            break;
+            return Ok(());
         }
     }
+    // Every packet that was accepted was sent.
+    device.dequeue(now)?;
+    let totals = device.engine().totals();
+    prove!(totals.sent <= totals.accepted);
     Ok(())
 }

@@ -2,6 +2,7 @@
 //! journal of its run by senders that are threads, or help.
 #![tactic(auto)]
 
+mod interleaving;
 mod lane_senders;
 mod lanes;
 mod locked;

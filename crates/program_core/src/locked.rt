@@ -1,6 +1,9 @@
 //! The run of a trace by senders that are threads, through a locked port.
-ghost use Rattle.std.specs.Prelude.{◌≡◌, ◌≢◌, ◌≤◌, ◌<◌, ◌+◌, ◌-◌, ℕ, All, Err, IfErr, IfOk, OnOk, length, map, option_map, slice_index_or};
+ghost use Rattle.std.specs.Prelude.{◌≡◌, ◌≢◌, ◌≤◌, ◌<◌, ◌+◌, ◌-◌, ℕ, All, Err, IfErr, IfOk, IsTrue, OnOk, length, map, option_map, slice_index_or, true};
 ghost use Rattle.std.specs.Io.KnownBytes.{Appends, Keeps};
+ghost use Rattle.journal_core.specs.Statistics.{statistics};
+ghost use Rattle.journal_core.specs.declared.step.Refusal.TheVariants.{ClosedAlready};
+ghost use Rattle.program_core.specs.Interleavings.{IsInterleaving};
 ghost use Rattle.program_core.specs.Faults.{IsLockedFault, IsLockedRunFault};
 ghost use Rattle.program_core.specs.Journals.{AreCalls, AreLockedJournal, row_of};
 ghost use Rattle.program_core.specs.Runs.{IsSendersRunFor};
@@ -8,6 +11,7 @@ ghost use Rattle.command_core.specs.declared.command_line.TheConstants.{MAX_SEND
 ghost use Rattle.program_core.specs.declared.program_run.ProgramFault.TheVariants as program_fault;
 ghost use Rattle.port_core.specs.declared.gate.Stop.TheVariants as stop;
 
+use crate::interleaving::is_interleaving;
 use crate::program_run::{ProgramFault, seed_given};
 use crate::senders::{lists_of, start_locked};
 use command_core::{MAX_SENDERS, SendersRequest};
@@ -106,11 +110,26 @@ fn run_lists<A: Ledger + Send + Sync, S: Ledger + Send + Sync, H: Threads + Wait
     seats.push(seat)?;
     match port.settle(seats) {
         Ok(engine) => {
+            if !is_whole(&engine, lists, steps) {
+                return Err(ProgramFault::Settle);
+            }
             engine.run_of_steps();
             Ok((engine, rows))
         }
         Err(_) => Err(ProgramFault::Settle),
     }
+}
+
+/// Whether the engine is that of a whole run: its steps are made by the calls of the senders, a list for each, and of
+/// the main thread, it is closed, and nothing waits.
+fn is_whole(engine: &Engine, lists: &[Vec<(u64, Packet)>], steps: &[Step]) -> bool
+    ensures calls { IsTrue result → (calls_of : ℕ → _)
+        → ((i : ℕ) (d : _) → i < length lists.now → (slice_index_or lists.now i d).items ≡ calls_of i)
+        → IsInterleaving (length lists.now) calls_of steps.now engine.now.steps }
+    ensures closed { IsTrue result → (statistics engine.now.sched.standing.events).closed ≡ true }
+    ensures none_waits { IsTrue result → (statistics engine.now.sched.standing.events).queued ≡ 0 }
+{
+    engine.is_closed() && engine.queued() == 0 && is_interleaving(lists, steps, engine.steps())
 }
 
 /// The device's part: the dequeues and closes of the steps, in their order. A close behind another one is passed over.
@@ -140,7 +159,9 @@ fn close<A: Ledger, S: Ledger, H: Wait>(
     rt: &H,
     port: &LockedPort<A, S>,
     moment: u64,
-) -> Result<(), Refusal> {
+) -> Result<(), Refusal>
+    ensures { IfErr result (λ why. why ≢ ClosedAlready) }
+{
     match port.close(rt, moment) {
         Ok(_) | Err(Refusal::ClosedAlready) => Ok(()),
         Err(refusal) => Err(refusal),

@@ -1,9 +1,11 @@
 //! The monitors of a run: threads that read its statistics while it lasts.
-ghost use Rattle.std.specs.Prelude.{◌≡◌, [], IfOk, length};
-ghost use Rattle.std.specs.Io.KnownBytes.{Keeps};
+ghost use Rattle.std.specs.Prelude.{◌≡◌, [], ℕ, All, IfOk, length, string_bytes, take};
+ghost use Rattle.std.specs.Io.KnownBytes.{Appends, Keeps};
+ghost use Rattle.program_core.specs.Watched.{IsSeen, TellsSeen, seen_line};
 
+use crate::program_run::show;
 use port_core::{BookName, Monitor, Seen};
-use std::alloc::AllocError;
+use std::alloc::{AllocError, Global};
 use std::io::Write;
 use std::marker::{Send, Sync};
 use std::sync::Wait;
@@ -17,14 +19,19 @@ pub(crate) fn read_all<J: BookName + Send + Sync, H: Threads + Wait + Sync>(
     monitors: Vec<Monitor<J>>,
     ended: &AtomicBool,
 ) -> Result<Vec<Seen>, AllocError>
-    ensures { IfOk result (λ seen. length seen.items ≡ length monitors.items) }
+    ensures number { IfOk result (λ seen. length seen.items ≡ length monitors.items) }
+    ensures each { IfOk result (λ seen. All IsSeen seen.items) }
 {
-    let read = move |monitor: Monitor<J>| -> Seen { read_on(rt, monitor, ended) };
+    let read = move |monitor: Monitor<J>| -> Seen
+        ensures { IsSeen result }
+    { read_on(rt, monitor, ended) };
     thread::map_vec(rt, monitors, &read)
 }
 
 /// Reads until the run has ended, and gives what was seen last.
-fn read_on<J: BookName, H: Wait>(rt: &H, monitor: Monitor<J>, ended: &AtomicBool) -> Seen {
+fn read_on<J: BookName, H: Wait>(rt: &H, monitor: Monitor<J>, ended: &AtomicBool) -> Seen
+    ensures { IsSeen result }
+{
     let mut monitor = monitor;
     for _ in rt.forever() {
         // What is read behind the end is what was published at the end.
@@ -38,23 +45,37 @@ fn read_on<J: BookName, H: Wait>(rt: &H, monitor: Monitor<J>, ended: &AtomicBool
     unreachable!()
 }
 
-/// Tells what each monitor saw last, a line for each. Where that can't be written there is nowhere left to say so, and
-/// it is passed over.
-pub(crate) fn tell_seen<F: Write>(told: &mut F, seen: &[Seen])
+/// Reports what each monitor saw last, a line for each by rising number from 0. Where a line can't be written there is
+/// nowhere left to say so, and it is passed over: a front of it is written, and nothing where memory for it is refused.
+pub(crate) fn tell_seen<F: Write>(alloc: Global, told: &mut F, seen: &[Seen])
+    requires { All IsSeen seen.now }
+    ensures told { TellsSeen (length seen.now) (F.contents told.old) (F.contents told.new) }
     ensures quiet { length seen.now ≡ 0 → Keeps (F.contents told.old) (F.contents told.new) }
 {
     for monitor in 0..seen.len() {
-        tell_one(told, monitor, &seen[monitor]);
+        tell_one(alloc, told, monitor, &seen[monitor]);
     }
 }
 
-/// Tells what one monitor saw last.
-fn tell_one<F: Write>(told: &mut F, monitor: usize, seen: &Seen) {
-    let totals = &seen.totals;
-    let dropped = totals.dropped_codel.saturating_add(totals.dropped_overflow);
-    let _ = writeln!(
-        told,
-        "monitor {monitor} {} {} {} {dropped} {}",
-        seen.events, totals.accepted, totals.sent, totals.queued
-    );
+/// Reports what one monitor saw last.
+fn tell_one<F: Write>(alloc: Global, told: &mut F, monitor: usize, seen: &Seen)
+    requires { IsSeen seen.now }
+    ensures { (count : ℕ)
+        × Appends (F.contents told.old) (F.contents told.new) (take count (seen_line monitor seen.now)) }
+{
+    if let Ok(line) = line_of(alloc, monitor, *seen) {
+        let _ = show(told, line.as_str());
+    }
+}
+
+/// The line of a monitor. It fails where memory is refused.
+fn line_of(alloc: Global, monitor: usize, seen: Seen) -> Result<String, AllocError>
+    requires { IsSeen seen }
+    ensures { IfOk result (λ line. string_bytes line ≡ seen_line monitor seen) }
+{
+    let events = seen.events;
+    let totals = seen.totals;
+    let (accepted, sent, queued) = (totals.accepted, totals.sent, totals.queued);
+    let dropped = totals.dropped_codel + totals.dropped_overflow;
+    format!(in alloc; "monitor {monitor} {events} {accepted} {sent} {dropped} {queued}\n")
 }

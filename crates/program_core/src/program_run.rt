@@ -56,7 +56,8 @@ pub enum ProgramFault {
     /// A write failed or took nothing. What was written is the front of the report or of the help.
     #[error("write")]
     Write,
-    /// The journal isn't what the senders were told. It would show a fault of the locked port itself.
+    /// The journal isn't what the senders were told, or isn't that of a whole run by their calls. It would show a fault of
+    /// the locked port itself.
     #[error("settle")]
     Settle,
     /// The sender of that lane didn't submit all of its packets, or its lane has no end. A lane has room for 1,048,576
@@ -149,7 +150,7 @@ impl From<OpenFault> for ProgramFault {
 
     fn from(fault: OpenFault) -> ProgramFault {
         match fault {
-            OpenFault::Memory | OpenFault::NoPlace => ProgramFault::Memory,
+            OpenFault::Memory | OpenFault::NoPlace(_) => ProgramFault::Memory,
         }
     }
 }
@@ -258,8 +259,8 @@ fn answer<H: Threads + Wait + Sync, R: Read, W: Write, F: Write>(
     }
 }
 
-/// Writes the text of help. Where a write fails or takes nothing, a front of it is written.
-fn show<W: Write>(writer: &mut W, text: &str) -> Result<(), ProgramFault>
+/// Writes a text. Where a write fails or takes nothing, a front of it is written.
+pub(crate) fn show<W: Write>(writer: &mut W, text: &str) -> Result<(), ProgramFault>
     ensures whole { OnOk result (Appends (W.contents writer.old) (W.contents writer.new) text.now) }
     ensures front { OnErr result ((count : ℕ)
         × Appends (W.contents writer.old) (W.contents writer.new) (take count text.now)) }

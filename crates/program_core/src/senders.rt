@@ -1,7 +1,7 @@
 //! The senders of a trace: the packets of each, and their threads.
 ghost use Rattle.std.specs.Prelude.{◌≡◌, ◌<◌, ℕ, IfOk, length, map, slice_index_or};
 ghost use denote.Param.Send.{IsSend, IsSync};
-ghost use Rattle.program_core.specs.Journals.{AreCalls, IsDone};
+ghost use Rattle.program_core.specs.Journals.{AreCalls, IsDone, LetsThrough};
 
 use packet_core::{Packet, Params, Seed, flow_of};
 use port_core::{Gate, LockedDone, LockedPort, PortSeat, send_locked};
@@ -54,6 +54,7 @@ fn jobs_of<'a, A: Ledger, S: Ledger, G>(
     requires { (length lists.now ≡ length seats.items) × (length gates.now ≡ length seats.items) }
     ensures seats { IfOk result (λ jobs. map (λ j. j.seat) jobs.items ≡ seats.items) }
     ensures packets { IfOk result (λ jobs. map (λ j. j.packets.now) jobs.items ≡ map (λ l. l.items) lists.now) }
+    ensures gates { IfOk result (λ jobs. map (λ j. j.gate.now) jobs.items ≡ gates.now) }
 {
     let mut jobs = Vec::new(alloc);
     let mut next = 0;
@@ -69,8 +70,8 @@ fn jobs_of<'a, A: Ledger, S: Ledger, G>(
 }
 
 /// Starts the senders, each in a thread of its own with its seat, its list and its gate, calls the main thread's part
-/// once meanwhile, joins the senders, and gives what each of them did, in their order. Where a thread can't be made,
-/// another one runs its part. It fails where a growth is refused.
+/// once meanwhile, joins the senders, and gives what each of them did, in their order. The gate of each let every call of
+/// its sender through. Where a thread can't be made, another one runs its part. It fails where a growth is refused.
 pub fn start_locked<
     A: Ledger + Send + Sync,
     S: Ledger + Send + Sync,
@@ -94,6 +95,8 @@ pub fn start_locked<
     ensures each { IfOk result (λ r. (i : ℕ) (d : _) (s : _) (l : _) → i < length seats.items
         → IsDone (slice_index_or seats.items i s) (slice_index_or lists.now i l).items
         (slice_index_or r.0.items i d).calls (slice_index_or r.0.items i d).stop (slice_index_or r.0.items i d).seat) }
+    ensures gates { IfOk result (λ r. (i : ℕ) (d : _) (g : _) → i < length seats.items
+        → LetsThrough (G.LetThrough (slice_index_or gates.now i g)) (slice_index_or r.0.items i d).calls) }
 {
     let jobs = jobs_of(alloc, seats, lists, gates)?;
     let senders = move || -> Result<Vec<LockedDone<A, S>>, AllocError>
@@ -102,7 +105,10 @@ pub fn start_locked<
             × ((i : ℕ) (d : _) (j : _) → i < length jobs.entry.items
             → IsDone (slice_index_or jobs.entry.items i j).seat (slice_index_or jobs.entry.items i j).packets.now
             (slice_index_or done.items i d).calls (slice_index_or done.items i d).stop
-            (slice_index_or done.items i d).seat)) }
+            (slice_index_or done.items i d).seat)
+            × ((i : ℕ) (d : _) (j : _) → i < length jobs.entry.items
+            → LetsThrough (G.LetThrough (slice_index_or jobs.entry.items i j).gate.now)
+            (slice_index_or done.items i d).calls)) }
     { send_all(rt, port, jobs) };
     let (done, answer) = thread::join(rt, senders, part);
     Ok((done?, answer))
@@ -124,9 +130,13 @@ fn send_all<
         → IsDone (slice_index_or jobs.entry.items i j).seat (slice_index_or jobs.entry.items i j).packets.now
         (slice_index_or done.items i d).calls (slice_index_or done.items i d).stop
         (slice_index_or done.items i d).seat) }
+    ensures gates { IfOk result (λ done. (i : ℕ) (d : _) (j : _) → i < length jobs.entry.items
+        → LetsThrough (G.LetThrough (slice_index_or jobs.entry.items i j).gate.now)
+        (slice_index_or done.items i d).calls) }
 {
     let send = move |job: Job<A, S, G>| -> LockedDone<A, S>
-        ensures { IsDone job.entry.seat job.entry.packets.now result.calls result.stop result.seat }
+        ensures { IsDone job.entry.seat job.entry.packets.now result.calls result.stop result.seat
+            × LetsThrough (G.LetThrough job.entry.gate.now) result.calls }
     { send_locked(rt, port, job.seat, job.packets, job.gate) };
     thread::map_vec(rt, jobs, &send)
 }

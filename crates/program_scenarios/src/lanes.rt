@@ -1,11 +1,11 @@
 //! Senders in threads of their own, each with a lane.
 ghost use Rattle.std.specs.Prelude.{◌≡◌, ◌<◌, ◌≤◌, length};
 
+use crate::gates::{FEW_LOOKS, Held, has_asked};
 use crate::packets::packet;
 use packet_core::{Packet, Seed, read_params};
 use port_core::{
-    BookBlank, BookName, Device, Gate, LaneDone, LaneSender, Layout, Opened, Screen, Shown, Stop,
-    lanes,
+    BookBlank, BookName, Device, LaneDone, LaneSender, Layout, Opened, Screen, Shown, Stop, lanes,
 };
 use program_core::start_lanes;
 use std::alloc::Global;
@@ -16,30 +16,15 @@ use std::sync::atomic::{AtomicU64, Ordering};
 use std::test::Fail;
 use std::thread::{self, Threads};
 
-/// So often the device looks for a packet.
-const MAX_LOOKS: u32 = 1_000_000;
-
-/// Holds a sender's calls, but for so many, until it is opened.
-#[derive(Drop)]
-struct HeldUp<'a> {
-    free: u64,
-    open: &'a AtomicU64,
-}
-
-impl Gate for HeldUp<'_> {
-    fn pass(&self, call: u64) -> bool {
-        call <= self.free || self.open.load(Ordering::SeqCst) > 0
-    }
-}
-
-/// The device takes a packet from lane 1 before it lets that lane's sender submit another. So neither can run behind
-/// the other: on one thread the sender would be held up for good, or the device would find nothing.
+/// Sender 1's second call waits for the answer of sender 0's first, and every other call for that of sender 1's first.
+/// All of them wait for the device, which looks for sender 1's first packet. So no list can be sent after another one,
+/// nor before or after the device's part: on one thread a gate would stay closed.
 #[test]
 fn gate_lanes(rt: HostRuntime) -> Result<(), Fail> {
     by_gates::<Brand, _>(&rt, rt.alloc(), BookBlank::new(), 2)
 }
 
-/// The same while 62 other senders send as they like.
+/// The same with 62 other senders, which are held as sender 0 is.
 #[test]
 fn gate_lanes_of_64_senders(rt: HostRuntime) -> Result<(), Fail> {
     by_gates::<Brand, _>(&rt, rt.alloc(), BookBlank::new(), 64)
@@ -73,17 +58,33 @@ fn lists(alloc: Global, senders: usize) -> Result<Vec<Vec<Packet>>, Fail> {
     Ok(lists)
 }
 
-/// The gates of so many senders, of which the second is held up behind its first call.
-fn gates<'a>(alloc: Global, senders: usize, open: &'a AtomicU64) -> Result<Vec<HeldUp<'a>>, Fail> {
+/// The gates of so many senders: the second is held at its second call, and each other at its first.
+fn gates<'a>(
+    alloc: Global,
+    senders: usize,
+    zero: &'a AtomicU64,
+    one: &'a AtomicU64,
+    others: &'a AtomicU64,
+    open: &'a AtomicU64,
+) -> Result<Vec<Held<'a>>, Fail> {
     let mut gates = Vec::new(alloc);
     for sender in 0..senders {
-        let free = if sender == 1 { 1 } else { 2 };
-        gates.push(HeldUp { free, open })?;
+        let (first_held, asked, asked_there) = match sender {
+            0 => (1, zero, one),
+            1 => (2, one, zero),
+            _ => (1, others, one),
+        };
+        gates.push(Held {
+            first_held,
+            asked,
+            asked_there,
+            open,
+        })?;
     }
     Ok(gates)
 }
 
-/// Senders, the second of which waits for the device.
+/// Senders that wait for one another's answers and for the device.
 fn send_by_gates<J: BookName, X: Screen<Shown<J>> + Drop, R: Threads + Abort + Sync>(
     rt: &R,
     alloc: Global,
@@ -94,14 +95,15 @@ fn send_by_gates<J: BookName, X: Screen<Shown<J>> + Drop, R: Threads + Abort + S
         device,
         monitors: _monitors,
     } = opened;
+    let (zero, one, others) = (AtomicU64::new(0), AtomicU64::new(0), AtomicU64::new(0));
     let open = AtomicU64::new(0);
     let count = senders.len();
     let lists = lists(alloc, count)?;
-    let gates = gates(alloc, count, &open)?;
+    let gates = gates(alloc, count, &zero, &one, &others, &open)?;
     if lists.len() != count || gates.len() != count {
         return Err("as many lists and gates as senders".into());
     }
-    let (done, took) = send_held(rt, alloc, senders, device, &lists, &gates, &open)?;
+    let (done, took) = send_held(rt, alloc, senders, device, &lists, &gates, (&one, &open))?;
     assert!(rt; took);
     are_done(rt, count, done)
 }
@@ -113,38 +115,53 @@ fn send_held<J: BookName, X: Screen<Shown<J>> + Drop, R: Threads + Sync>(
     senders: Vec<LaneSender>,
     device: Device<J, X>,
     lists: &[Vec<Packet>],
-    gates: &[HeldUp<'_>],
-    open: &AtomicU64,
+    gates: &[Held<'_>],
+    one_and_open: (&AtomicU64, &AtomicU64),
 ) -> Result<(Vec<LaneDone>, bool), Fail>
     requires { (length lists.now ≡ length senders.items) × (length gates.now ≡ length senders.items) }
 {
-    let part = move || takes_one(device, open);
+    let (one, open) = one_and_open;
+    let part = move || takes_one(device, one, open);
     let (done, (device, took)) = start_lanes(rt, alloc, senders, lists, gates, part)?;
     Ok((done, took && device.engine().totals().accepted == 1))
 }
 
-/// The device's part: it looks for a packet in lane 1 until there is one, and then opens that sender's gate.
+/// The device's part: once sender 1 has asked for its second call, it takes that sender's first packet, and sees that
+/// there is no other. Then it opens the gates.
 fn takes_one<J: BookName, X: Screen<Shown<J>> + Drop>(
     device: Device<J, X>,
+    asked: &AtomicU64,
     open: &AtomicU64,
 ) -> (Device<J, X>, bool) {
     let mut device = device;
-    let took = took_one(&mut device);
+    let took = has_asked(asked, 2) && took_one(&mut device);
     if took {
         open.store(1, Ordering::SeqCst);
     }
     (device, took)
 }
 
-/// Whether a packet came through lane 1, which is looked for some time.
+/// Whether a packet stood in lane 1, and no other comes through lanes 0 and 1 for some time.
 fn took_one<J: BookName, X: Screen<Shown<J>> + Drop>(device: &mut Device<J, X>) -> bool {
-    for _look in 0..MAX_LOOKS {
-        if device.lanes() > 1 && device.pump(1, 0, 1) == Ok(1) {
-            return true;
+    if !pumps(device, 1, 1) {
+        return false;
+    }
+    for _look in 0..FEW_LOOKS {
+        if !pumps(device, 0, 0) || !pumps(device, 1, 0) {
+            return false;
         }
         thread::yield_now();
     }
-    false
+    true
+}
+
+/// Whether a pump of the lane takes so many packets.
+fn pumps<J: BookName, X: Screen<Shown<J>> + Drop>(
+    device: &mut Device<J, X>,
+    lane: u32,
+    wanted: u64,
+) -> bool {
+    lane < device.lanes() && device.pump(lane, 0, 2) == Ok(wanted)
 }
 
 /// Each of so many senders submitted both of its packets, and its lane has an end.

@@ -11,6 +11,30 @@ use std::{io, str};
 /// The words of a run with one flow and otherwise the standard parameters.
 const WORDS: [&str; 5] = ["trace", "classify", "dport", "flows", "1"];
 
+/// A trace of one dequeue, which finds nothing.
+const ONE_DEQUEUE: &str = "deq,0\n";
+
+/// Its report.
+const IDLE: &str = "idle\ntotals,0,0,0,0,0,0,0,0,0,0,0,open\n";
+
+/// The trace of the example `closing`: a packet, the close, a packet too late, a dequeue and a second close.
+const CLOSING: &str = "enq,0,17,10.0.0.1,10.0.0.2,5000,53,1000,0
+close,1
+enq,2,17,10.0.0.1,10.0.0.2,5000,53,1000,0
+deq,3
+close,4
+";
+
+/// Its report.
+const CLOSED: &str = "accepted,0,0
+closed
+refused,closed
+sent,0,0
+refused,closed
+totals,1,1000,1,1000,0,0,0,0,0,0,0,closed
+tuple,17,10.0.0.1,10.0.0.2,5000,53,0,1,1,0,0
+";
+
 /// A reader that gives its text, and then fails.
 #[derive(Drop)]
 struct CutReader<'a> {
@@ -62,6 +86,35 @@ impl Write for NarrowWriter {
     }
 }
 
+/// A writer that takes so many bytes, then once none, and from then on all. It counts its calls.
+#[derive(Drop)]
+struct PausingWriter {
+    taken: Vec<u8>,
+    front: usize,
+    has_paused: bool,
+    calls: u32,
+}
+
+impl Write for PausingWriter {
+    fn write(&mut self, buf: &[u8]) -> io::Result<usize> {
+        self.calls = self.calls.saturating_add(1);
+        let room = self.front.saturating_sub(self.taken.len());
+        let pauses = room == 0 && !self.has_paused;
+        let count = if self.has_paused {
+            buf.len()
+        } else {
+            buf.len().min(room)
+        };
+        self.has_paused = self.has_paused || pauses;
+        self.taken.extend_from_slice(&buf[..count])?;
+        Ok(count)
+    }
+
+    fn flush(&mut self) -> io::Result<()> {
+        Ok(())
+    }
+}
+
 /// A stream that is interrupted so often before it is read or written.
 #[derive(Drop)]
 struct Interrupted<T> {
@@ -98,10 +151,11 @@ impl Write for Interrupted<Vec<u8>> {
     }
 }
 
-/// Runs the program on a trace of one dequeue with a reader and a writer that are interrupted so often, and compares
-/// what it writes and how it ends.
+/// Runs the program on a trace with a reader and a writer that are interrupted so often, and compares what it writes
+/// and how it ends.
 fn expect_interrupted(
     rt: &(impl Abort + AllocGlobal + Threads + Wait + Sync),
+    trace: &str,
     reads: u32,
     writes: u32,
     status: u8,
@@ -109,7 +163,7 @@ fn expect_interrupted(
     faults: &str,
 ) -> Result<(), Fail> {
     let mut reader = Interrupted {
-        stream: "deq,0\n".as_bytes(),
+        stream: trace.as_bytes(),
         left: reads,
     };
     let mut writer = Interrupted {
@@ -121,6 +175,8 @@ fn expect_interrupted(
     assert_eq!(rt; str::from_utf8(&told)?, faults);
     assert_eq!(rt; str::from_utf8(&writer.stream)?, report);
     assert_eq!(rt; ended, status);
+    // Each call that was interrupted was made, and none after the last one.
+    assert_eq!(rt; reader.left, reads.saturating_sub(1_001));
     Ok(())
 }
 
@@ -157,7 +213,7 @@ fn expect_taken(
         room,
     };
     let mut told = Vec::new(rt.alloc());
-    let mut trace = "deq,0\n".as_bytes();
+    let mut trace = ONE_DEQUEUE.as_bytes();
     let ended = program(rt, rt.alloc(), &WORDS, &mut trace, &mut writer, &mut told);
     assert_eq!(rt; str::from_utf8(&told)?, faults);
     assert_eq!(rt; str::from_utf8(&writer.taken)?, report);
@@ -181,10 +237,13 @@ fn failed_reads_refused(rt: HostRuntime) -> Result<(), Fail> {
 
 #[test]
 fn interruptions_are_tried_again(rt: HostRuntime) -> Result<(), Fail> {
-    let report = "idle\ntotals,0,0,0,0,0,0,0,0,0,0,0,open\n";
-    expect_interrupted(&rt, 1_000, 1_000, 0, report, "")?;
-    expect_interrupted(&rt, 1_001, 0, 1, "", "fqsim: row 0: Read\n")?;
-    expect_interrupted(&rt, 0, 1_001, 1, "", "fqsim: write\n")
+    for (trace, report) in [(ONE_DEQUEUE, IDLE), (CLOSING, CLOSED)] {
+        expect_interrupted(&rt, trace, 1_000, 1_000, 0, report, "")?;
+        expect_interrupted(&rt, trace, 1_001, 0, 1, "", "fqsim: row 0: Read\n")?;
+        expect_interrupted(&rt, trace, 2_000, 0, 1, "", "fqsim: row 0: Read\n")?;
+        expect_interrupted(&rt, trace, 0, 1_001, 1, "", "fqsim: write\n")?;
+    }
+    Ok(())
 }
 
 #[test]
@@ -196,9 +255,8 @@ fn slow_readers_are_read(rt: HostRuntime) -> Result<(), Fail> {
 
 #[test]
 fn slow_writers_are_written(rt: HostRuntime) -> Result<(), Fail> {
-    let report = "idle\ntotals,0,0,0,0,0,0,0,0,0,0,0,open\n";
-    expect_taken(&rt, 1, 1_000, 0, report, "")?;
-    expect_taken(&rt, 3, 1_000, 0, report, "")
+    expect_taken(&rt, 1, 1_000, 0, IDLE, "")?;
+    expect_taken(&rt, 3, 1_000, 0, IDLE, "")
 }
 
 #[test]
@@ -237,6 +295,27 @@ fn writes_that_take_nothing_refused(rt: HostRuntime) -> Result<(), Fail> {
     assert_eq!(rt; str::from_utf8(&told)?, "fqsim: write\n");
     assert_eq!(rt; str::from_utf8(&taken)?, "idle\nto");
     assert_eq!(rt; ended, 1);
+    Ok(())
+}
+
+#[test]
+fn a_write_that_takes_nothing_is_the_last_one(rt: HostRuntime) -> Result<(), Fail> {
+    // It is no interruption, so there is no other write, though that would take all.
+    for front in [0, 1, 7, CLOSED.len() - 1] {
+        let mut writer = PausingWriter {
+            taken: Vec::new(rt.alloc()),
+            front,
+            has_paused: false,
+            calls: 0,
+        };
+        let mut told = Vec::new(rt.alloc());
+        let mut trace = CLOSING.as_bytes();
+        let ended = program(&rt, rt.alloc(), &WORDS, &mut trace, &mut writer, &mut told);
+        assert_eq!(rt; str::from_utf8(&told)?, "fqsim: write\n");
+        assert_eq!(rt; str::from_utf8(&writer.taken)?, &CLOSED[..front]);
+        assert_eq!(rt; writer.calls, if front == 0 { 1 } else { 2 });
+        assert_eq!(rt; ended, 1);
+    }
     Ok(())
 }
 

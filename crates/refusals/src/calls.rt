@@ -22,12 +22,16 @@ pub(crate) enum Wrong {
     AText,
     #[error("Device::close")]
     DeviceClose,
+    #[error("Device::close once more")]
+    DeviceCloseOnceMore,
     #[error("Device::dequeue")]
     DeviceDequeue,
     #[error("Device::publish")]
     DevicePublish,
     #[error("Device::pump")]
     DevicePump,
+    #[error("Device::pump behind Device::close")]
+    DevicePumpBehindDeviceClose,
     #[error("Device::pump behind Device::reserve")]
     DevicePumpBehindDeviceReserve,
     #[error("Device::receipt")]
@@ -44,6 +48,8 @@ pub(crate) enum Wrong {
     EngineDequeueBehindEngineReserve,
     #[error("Engine::enqueue")]
     EngineEnqueue,
+    #[error("Engine::enqueue behind Engine::close")]
+    EngineEnqueueBehindEngineClose,
     #[error("Engine::enqueue behind Engine::reserve")]
     EngineEnqueueBehindEngineReserve,
     #[error("Engine::make")]
@@ -68,10 +74,14 @@ pub(crate) enum Wrong {
     Lanes,
     #[error("LockedPort::close")]
     LockedPortClose,
+    #[error("LockedPort::close once more")]
+    LockedPortCloseOnceMore,
     #[error("LockedPort::dequeue")]
     LockedPortDequeue,
     #[error("LockedPort::enqueue")]
     LockedPortEnqueue,
+    #[error("LockedPort::enqueue behind LockedPort::close")]
+    LockedPortEnqueueBehindLockedPortClose,
     #[error("LockedPort::start")]
     LockedPortStart,
     #[error("Monitor::totals")]
@@ -96,6 +106,8 @@ pub(crate) enum Wrong {
     SchedDequeue,
     #[error("Sched::enqueue")]
     SchedEnqueue,
+    #[error("Sched::enqueue behind Sched::close")]
+    SchedEnqueueBehindSchedClose,
     #[error("Sched::enqueue behind Sched::reserve")]
     SchedEnqueueBehindSchedReserve,
     #[error("Sched::reserve")]

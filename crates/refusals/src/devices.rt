@@ -6,8 +6,8 @@ use crate::calls::{Calls, Wrong, unless_memory, wanted};
 use crate::pictures::{Picture, of_engine};
 use crate::values::{SEED, one_flow, packet};
 use port_core::{
-    BookBlank, BookName, Device, LaneSender, Layout, LeftRight, Monitor, Opened, Screen, Shown,
-    lanes,
+    BookBlank, BookName, Device, LaneSender, Layout, LeftRight, Monitor, OpenFault, Opened,
+    PublishFault, Screen, Shown, lanes,
 };
 use sched_core::Refusal;
 use std::alloc::Global;
@@ -25,19 +25,25 @@ const LAYOUT: Layout = Layout {
 };
 
 /// All that can be read of a device: of its engine, and how much was published.
-fn picture<J: BookName, X: Screen<Shown<J>> + Drop>(device: &mut Device<J, X>) -> (Picture, u64) {
+pub(crate) fn picture<J: BookName, X: Screen<Shown<J>> + Drop>(
+    device: &mut Device<J, X>,
+) -> (Picture, u64) {
     (of_engine(device.engine()), device.receipt().events())
 }
 
 /// What was opened, and None where memory was refused.
-fn opened<'a, J: BookName, R: Wait>(
+pub(crate) fn opened<'a, J: BookName, R: Wait>(
     rt: &'a R,
     alloc: Global,
     blank: BookBlank,
 ) -> Result<Option<Opened<J, LeftRight<Shown<J>, &'a R>>>, Wrong>
     requires { blank ≡ J.book }
 {
-    Ok(lanes(rt, alloc, blank, one_flow()?, SEED, LAYOUT).ok())
+    match lanes(rt, alloc, blank, one_flow()?, SEED, LAYOUT) {
+        Ok(opened) => Ok(Some(opened)),
+        Err(OpenFault::Memory) => Ok(None),
+        Err(OpenFault::NoPlace(_)) => Err(Wrong::Lanes),
+    }
 }
 
 /// Lanes are opened with the name of a book, which doesn't come back where memory is refused, and then with another.
@@ -124,10 +130,32 @@ fn device_calls<J: BookName, X: Screen<Shown<J>> + Drop>(
         |device: &mut Device<J, X>| { unless_memory(device.close(1)) },
     )?;
     wanted(answer.is_ok(), Wrong::DeviceClose)?;
+    closed(sender, device)?;
     let totals = device.engine().totals();
     wanted(
         (totals.accepted, totals.sent) == (PACKETS + 1, PACKETS),
         Wrong::EngineTotals,
+    )
+}
+
+/// Behind the close a packet stays in its lane, and so does the device.
+fn closed<J: BookName, X: Screen<Shown<J>> + Drop>(
+    sender: &mut LaneSender,
+    device: &mut Device<J, X>,
+) -> Result<(), Wrong> {
+    let before = picture(device);
+    wanted(sender.submit(packet(53)?).is_ok(), Wrong::LaneSenderSubmit)?;
+    let pumped = pump_at(device, 1);
+    let closed = Some(Err(Refusal::ClosedAlready));
+    wanted(pumped == closed, Wrong::DevicePumpBehindDeviceClose)?;
+    let again = device.close(1);
+    wanted(
+        again == Err(Refusal::ClosedAlready),
+        Wrong::DeviceCloseOnceMore,
+    )?;
+    wanted(
+        picture(device) == before,
+        Wrong::DevicePumpBehindDeviceClose,
     )
 }
 
@@ -146,14 +174,22 @@ fn admits<J: BookName, X: Screen<Shown<J>> + Drop>(
 fn pump<J: BookName, X: Screen<Shown<J>> + Drop>(
     device: &mut Device<J, X>,
 ) -> Option<Result<u64, Refusal>> {
+    pump_at(device, 0)
+}
+
+/// The same at that moment.
+fn pump_at<J: BookName, X: Screen<Shown<J>> + Drop>(
+    device: &mut Device<J, X>,
+    moment: u64,
+) -> Option<Result<u64, Refusal>> {
     if device.lanes() == 0 {
         return None;
     }
-    unless_memory(device.pump(0, 0, 8))
+    unless_memory(device.pump(0, moment, 8))
 }
 
-/// The second publish is refused: the monitor still has what it saw, the receipt is the first one, and the next
-/// publish shows all.
+/// A publish is refused: the monitor still has what it saw, the receipt is the one before, and the next publish shows
+/// all that came meanwhile.
 pub(crate) fn second_publish<R: Wait>(
     rt: &R,
     alloc: Global,
@@ -199,43 +235,40 @@ fn with_monitor<J: BookName, X: Screen<Shown<J>> + Drop>(
     publishes(sender, &mut device, monitor, calls)
 }
 
-/// Of three acceptances the first is published, then the second, and then all.
+/// Three packets are accepted, and all is published behind each. A publish that is refused isn't made again: the next
+/// one shows what it left out.
 fn publishes<J: BookName, X: Screen<Shown<J>> + Drop>(
     sender: &mut LaneSender,
     device: &mut Device<J, X>,
     monitor: &mut Monitor<J>,
     calls: &mut Calls,
 ) -> Result<(), Wrong> {
-    admits(sender, device, calls)?;
-    let first = calls.answered(
-        Wrong::DevicePublish,
-        device,
-        picture,
-        |device: &mut Device<J, X>| { device.publish().ok() },
-    )?;
-    monitor.learn(&first);
-    admits(sender, device, calls)?;
-    let shown = match device.publish() {
-        Ok(second) => second.events(),
-        Err(_) => {
-            calls.note();
-            1
+    let mut shown = 0;
+    for accepted in 1..4 {
+        admits(sender, device, calls)?;
+        if shows(device, monitor, calls)? {
+            shown = accepted;
         }
-    };
-    wanted(monitor.totals().events == shown, Wrong::MonitorTotals)?;
-    wanted(device.receipt().events() == shown, Wrong::DeviceReceipt)?;
-    wanted(shown == 1 || shown == 2, Wrong::DevicePublish)?;
-    admits(sender, device, calls)?;
-    let third = calls.answered(
-        Wrong::DevicePublish,
-        device,
-        picture,
-        |device: &mut Device<J, X>| { device.publish().ok() },
-    )?;
-    monitor.learn(&third);
-    let seen = monitor.totals();
-    wanted(
-        (seen.events, seen.totals.accepted) == (3, 3),
-        Wrong::MonitorTotals,
-    )
+        wanted(monitor.totals().events == shown, Wrong::MonitorTotals)?;
+        wanted(device.receipt().events() == shown, Wrong::DeviceReceipt)?;
+    }
+    wanted(shown == 3, Wrong::DevicePublish)
+}
+
+/// Publishes once, and says whether that wasn't refused. What was published the monitor shows from then on.
+fn shows<J: BookName, X: Screen<Shown<J>> + Drop>(
+    device: &mut Device<J, X>,
+    monitor: &mut Monitor<J>,
+    calls: &mut Calls,
+) -> Result<bool, Wrong> {
+    match device.publish() {
+        Ok(receipt) => {
+            monitor.learn(&receipt);
+            Ok(true)
+        }
+        Err(PublishFault::Memory) => {
+            calls.note();
+            Ok(false)
+        }
+    }
 }

@@ -100,9 +100,15 @@ fn closes(engine: &mut Engine, calls: &mut Calls) -> Result<(), Wrong> {
         unless_memory(engine.close(9))
     })?;
     wanted(answer.is_ok(), Wrong::EngineClose)?;
+    let before = picture(engine);
+    let refused = engine.enqueue(9, 0, packet(53)?);
+    wanted(
+        refused == Err(Refusal::ClosedAlready),
+        Wrong::EngineEnqueueBehindEngineClose,
+    )?;
     let again = engine.close(9);
     wanted(
-        again == Err(Refusal::ClosedAlready),
+        again == Err(Refusal::ClosedAlready) && picture(engine) == before,
         Wrong::EngineCloseOnceMore,
     )
 }

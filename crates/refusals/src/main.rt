@@ -13,6 +13,7 @@ mod flow_lists;
 mod pictures;
 mod ports;
 mod programs;
+mod quiet;
 mod schedulers;
 mod traces;
 mod values;
@@ -33,7 +34,7 @@ const REFUSED: u32 = 1_000;
 const ALL: &str = "all";
 
 /// The names of the sequences.
-const SEQUENCES: [&str; 10] = [
+const SEQUENCES: [&str; 15] = [
     "flows",
     "sched",
     "engine",
@@ -41,8 +42,13 @@ const SEQUENCES: [&str; 10] = [
     "locked",
     "lanes",
     "publish",
+    "quiet_sched",
+    "quiet_engine",
+    "quiet_device",
     "trace",
     "journal",
+    "program_locked",
+    "program_lanes",
     "program",
 ];
 
@@ -128,8 +134,13 @@ fn make<H: Print + Threads + Wait + Sync>(
         "locked" => ports::locked(rt, alloc, calls),
         "lanes" => devices::lane(rt, alloc, calls),
         "publish" => devices::second_publish(rt, alloc, calls),
+        "quiet_sched" => quiet::sched(alloc, calls),
+        "quiet_engine" => quiet::engine(alloc, calls),
+        "quiet_device" => quiet::device(rt, alloc, calls),
         "trace" => traces::trace(alloc, calls),
         "journal" => traces::journal(alloc, calls),
+        "program_locked" => programs::locked(rt, alloc, calls),
+        "program_lanes" => programs::lanes(rt, alloc, calls),
         "program" => programs::whole(rt, alloc, trace, calls),
         _ => Err(Wrong::ASequenceOfThatName),
     }

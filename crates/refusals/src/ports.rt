@@ -108,9 +108,33 @@ fn closes<A: Ledger, S: Ledger, R: Wait>(
     let close = |_: &mut PortSeat<A, S>| unless_memory(port.close(rt, PACKETS));
     let answer = calls.answered(Wrong::LockedPortClose, seat, picture, close)?;
     wanted(answer == Ok(PACKETS), Wrong::LockedPortClose)?;
+    closed(rt, port, seat)?;
     wanted(
         (seat.accepted(), seat.sent()) == (2 * PACKETS, PACKETS),
         Wrong::PortSeat,
+    )
+}
+
+/// Behind the close a packet is refused, and so is another close, and all is as before.
+fn closed<A: Ledger, S: Ledger, R: Wait>(
+    rt: &R,
+    port: &LockedPort<A, S>,
+    seat: &mut PortSeat<A, S>,
+) -> Result<(), Wrong> {
+    let before = picture_of(rt, port, seat);
+    let refused = port.enqueue(rt, seat, PACKETS, packet(53)?);
+    wanted(
+        refused == Err(Refusal::ClosedAlready),
+        Wrong::LockedPortEnqueueBehindLockedPortClose,
+    )?;
+    let again = port.close(rt, PACKETS);
+    wanted(
+        again == Err(Refusal::ClosedAlready),
+        Wrong::LockedPortCloseOnceMore,
+    )?;
+    wanted(
+        picture_of(rt, port, seat) == before,
+        Wrong::LockedPortEnqueueBehindLockedPortClose,
     )
 }
 

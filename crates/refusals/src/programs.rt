@@ -23,6 +23,61 @@ const WORDS: [&str; 6] = [
     "1ms",
 ];
 
+/// Packets of one sender alone, with no row that asks for one meanwhile, so that no schedule of threads decides anything.
+const SENDERS_TRACE: &str = "enq,5,17,10.0.0.1,10.0.0.2,5000,1,100,0
+enq,3,17,10.0.0.1,10.0.0.2,5000,1,100,0
+enq,9,17,10.0.0.1,10.0.0.2,5000,5,100,0
+enq,9,17,10.0.0.1,10.0.0.2,5000,1,100,0
+";
+
+/// Their journal: the fourth packet is one more than the limit, and half of the four are dropped.
+const SENDERS_JOURNAL: &str = "accepted,0,1
+accepted,1,1
+accepted,2,1
+accepted,3,1
+dropped,0,overflow
+dropped,1,overflow
+closed
+sent,2,0
+sent,3,0
+totals,4,400,2,200,0,2,200,0,0,0,0,closed
+tuple,17,10.0.0.1,10.0.0.2,5000,1,1,3,1,2,0
+tuple,17,10.0.0.1,10.0.0.2,5000,5,1,1,1,0,0
+sender,0,0,0,0
+sender,1,4,4,0
+";
+
+/// The words of a run by senders that share the scheduler.
+const LOCKED_WORDS: [&str; 9] = [
+    "locked",
+    "--senders",
+    "2",
+    "classify",
+    "dport",
+    "flows",
+    "4",
+    "limit",
+    "3",
+];
+
+/// The words of a run by senders with a lane each, and a monitor.
+const LANES_WORDS: [&str; 11] = [
+    "lanes",
+    "--senders",
+    "2",
+    "--monitors",
+    "1",
+    "classify",
+    "dport",
+    "flows",
+    "4",
+    "limit",
+    "3",
+];
+
+/// What the monitor saw last: 9 events, 4 packets accepted, 2 sent, 2 dropped and none waiting.
+const SEEN: &str = "monitor 0 9 4 2 2 0\n";
+
 /// Runs the program on a trace. Where memory was refused it says so and nothing else, and once more it gives the
 /// report.
 pub(crate) fn whole<H: Print + Threads + Wait + Sync>(
@@ -31,42 +86,129 @@ pub(crate) fn whole<H: Print + Threads + Wait + Sync>(
     trace: &str,
     calls: &mut Calls,
 ) -> Result<(), Wrong> {
-    if ran(rt, alloc, trace)? {
+    if prints(rt, alloc, trace)? {
         return Ok(());
     }
     calls.note();
-    wanted(ran(rt, alloc, trace)?, Wrong::Program)
+    wanted(prints(rt, alloc, trace)?, Wrong::Program)
+}
+
+/// The same by senders that share the scheduler.
+pub(crate) fn locked<H: Threads + Wait + Sync>(
+    rt: &H,
+    alloc: Global,
+    calls: &mut Calls,
+) -> Result<(), Wrong> {
+    by_senders(rt, alloc, &LOCKED_WORDS, "", calls)
+}
+
+/// The same by senders with a lane each, and a monitor.
+pub(crate) fn lanes<H: Threads + Wait + Sync>(
+    rt: &H,
+    alloc: Global,
+    calls: &mut Calls,
+) -> Result<(), Wrong> {
+    by_senders(rt, alloc, &LANES_WORDS, SEEN, calls)
+}
+
+/// Runs the program by senders with those words. Where memory was refused it says so and nothing else, and once more it
+/// gives the journal, and says that beside it.
+fn by_senders<H: Threads + Wait + Sync>(
+    rt: &H,
+    alloc: Global,
+    words: &[&str],
+    beside: &str,
+    calls: &mut Calls,
+) -> Result<(), Wrong> {
+    if gives(rt, alloc, words, beside)? {
+        return Ok(());
+    }
+    calls.note();
+    wanted(gives(rt, alloc, words, beside)?, Wrong::Program)
+}
+
+/// Runs the program by senders once. It answers whether there was a journal: else memory was refused.
+fn gives<H: Threads + Wait + Sync>(
+    rt: &H,
+    alloc: Global,
+    words: &[&str],
+    beside: &str,
+) -> Result<bool, Wrong> {
+    let mut page = [0u8; PAGE];
+    let mut line = [0u8; LINE];
+    let ran = run_on(rt, alloc, words, SENDERS_TRACE, &mut page, &mut line);
+    let journal = text_of(&page, ran.written)?;
+    let told = text_of(&line, ran.told)?;
+    if ran.status == 0 {
+        wanted(journal == SENDERS_JOURNAL && told == beside, Wrong::Program)?;
+        return Ok(true);
+    }
+    was_memory(&ran, told)?;
+    Ok(false)
 }
 
 /// Runs the program once, and prints its report. It answers whether there was one: else memory was refused.
-fn ran<H: Print + Threads + Wait + Sync>(
+fn prints<H: Print + Threads + Wait + Sync>(
     rt: &H,
     alloc: Global,
     trace: &str,
 ) -> Result<bool, Wrong> {
     let mut page = [0u8; PAGE];
     let mut line = [0u8; LINE];
-    let mut room = &mut page[..];
-    let mut told = &mut line[..];
+    let ran = run_on(rt, alloc, &WORDS, trace, &mut page, &mut line);
+    let report = text_of(&page, ran.written)?;
+    let told = text_of(&line, ran.told)?;
+    if ran.status == 0 {
+        let _ = print!(rt; "{report}");
+        return Ok(told.is_empty());
+    }
+    was_memory(&ran, told)?;
+    Ok(false)
+}
+
+/// What became of a run: its status, and how many bytes it wrote and told.
+#[derive(Clone, Copy)]
+struct RanOnce {
+    status: u8,
+    written: usize,
+    told: usize,
+}
+
+/// Runs the program with those words on a trace. It writes onto the page, and tells faults on the line.
+fn run_on<H: Threads + Wait + Sync>(
+    rt: &H,
+    alloc: Global,
+    words: &[&str],
+    trace: &str,
+    page: &mut [u8],
+    line: &mut [u8],
+) -> RanOnce {
+    let mut room = page;
+    let mut free = line;
+    let most = room.len();
+    let most_told = free.len();
     let status = program(
         rt,
         alloc,
-        &WORDS,
+        words,
         &mut trace.as_bytes(),
         &mut room,
-        &mut told,
+        &mut free,
     );
-    let written = PAGE.saturating_sub(room.len());
-    let said = LINE.saturating_sub(told.len());
-    let report = text_of(&page, written)?;
-    let fault = text_of(&line, said)?;
-    if status == 0 {
-        let _ = print!(rt; "{report}");
-        return Ok(fault.is_empty());
+    RanOnce {
+        status,
+        written: most.saturating_sub(room.len()),
+        told: most_told.saturating_sub(free.len()),
     }
-    let is_memory = fault == "fqsim: memory\n" || is_row_fault(fault);
-    wanted(status == 1 && written == 0 && is_memory, Wrong::Program)?;
-    Ok(false)
+}
+
+/// The run ended for want of memory, and wrote nothing.
+fn was_memory(ran: &RanOnce, told: &str) -> Result<(), Wrong> {
+    let is_memory = told == "fqsim: memory\n" || is_row_fault(told);
+    wanted(
+        ran.status == 1 && ran.written == 0 && is_memory,
+        Wrong::Program,
+    )
 }
 
 /// Whether memory was refused at a row.

@@ -11,4 +11,4 @@ mod streams;
 pub use faults::{MAX_BYTES, MAX_ROWS, TraceFault, TraceFaultKind};
 pub use interruptions::{Interruptions, MAX_INTERRUPTIONS};
 pub use reader::{Next, TraceRows, read_text, read_trace, read_trace_from};
-pub use streams::{Source, Watched};
+pub use streams::Source;

@@ -2,15 +2,13 @@
 ghost use Rattle.std.specs.Prelude.{◌≡◌, ◌<◌, ◌≤◌, ◌⊎◌, ◌∷◌, [], ℕ, ◌+◌, ◌++◌, IfErr, IfOk, IfSome, IsErrOf, List, Ok, OnErr, OnOk, false, length, true, vec_len};
 ghost use Rattle.csv.specs.Reading.{default_config, error_kind, records, strip_bom};
 ghost use Rattle.csv.specs.Records.{fields_of};
-ghost use Rattle.std.specs.Io.{ReadsAtMost};
-ghost use Rattle.std.specs.Io.KnownBytes.{ReadConsumes};
-ghost use Rattle.row_core.specs.Streams.{GaveUp, WentOn};
+ghost use Rattle.row_core.specs.Streams.{EndsWith, IsEnd, IsReadFailure};
 ghost use Rattle.row_core.specs.Traces as Traces;
 
 use crate::faults::{MAX_BYTES, MAX_ROWS, TraceFault, TraceFaultKind};
-use crate::interruptions::{Interruptions, MAX_INTERRUPTIONS};
+use crate::interruptions::Interruptions;
 use crate::row::{Version, field, read_row, read_version, tells_version};
-use crate::streams::{Source, Watched};
+use crate::streams::Source;
 use csv::{ByteRecord, ErrorKind, ReaderBuilder};
 use journal_core::Step;
 use std::alloc::Global;
@@ -19,19 +17,27 @@ use std::io::Read;
 /// How many bytes are asked for at once.
 const CHUNK: usize = 65_536;
 
+/// After so many calls there are too many bytes or too many interruptions.
+const MAX_CALLS: usize = 134_218_728;
+
 /// The steps of the trace that a reader gives, one for each row that asks for one, in order. It refuses a trace whose
-/// bytes can't be read or are too many, and then the first faulty row.
-pub fn read_trace<R: Read>(alloc: Global, reader: &mut R) -> Result<Vec<Step>, TraceFault>
+/// bytes can't be read or are too many, and then the first faulty row. `Read` at row 0 is answered only where a read was
+/// answered with an error, which was no interruption or the one after `MAX_INTERRUPTIONS` others, and `Read` at a later
+/// row only where the reader of `csv` over the text has failed.
+pub fn read_trace<R: Read + Source>(alloc: Global, reader: &mut R) -> Result<Vec<Step>, TraceFault>
     ensures steps { IfOk result (λ steps.
-        IfSome (R.remaining reader.old) (λ bytes. Traces.trace_of bytes ≡ Ok steps.items)) }
-    ensures fault { IfErr result (λ fault. IfSome (R.remaining reader.old) (λ bytes. Traces.IsFaultOf bytes fault)) }
+        IfSome (R.Source.remaining reader.old) (λ bytes. Traces.trace_of bytes ≡ Ok steps.items)) }
+    ensures fault { IfErr result (λ fault.
+        IfSome (R.Source.remaining reader.old) (λ bytes. Traces.IsFaultOf bytes fault)) }
+    ensures read { IfErr result (λ fault. fault.what ≡ TraceFaultKind.Read
+        → Traces.ReadFails (R.Source.remaining reader.old)
+        (EndsWith R.Answered IsReadFailure reader.old reader.new) fault.row) }
+    ensures ended { OnOk result (EndsWith R.Answered IsEnd reader.old reader.new) }
 {
-    read_trace_from(alloc, &mut Watched::new(reader))
+    read_trace_from(alloc, reader)
 }
 
-/// The same as `read_trace`, of the trace that a source gives, which tells whether it has failed. `Read` at row 0 is
-/// answered only where it has or was interrupted more than `MAX_INTERRUPTIONS` times, and `Read` at a later row only
-/// where the reader of `csv` over its text has failed.
+/// The same as `read_trace`, of the trace that a source gives which needn't be a `Read`.
 pub fn read_trace_from<S: Source>(alloc: Global, source: &mut S) -> Result<Vec<Step>, TraceFault>
     ensures steps { IfOk result (λ steps.
         IfSome (S.remaining source.old) (λ bytes. Traces.trace_of bytes ≡ Ok steps.items)) }
@@ -40,24 +46,24 @@ pub fn read_trace_from<S: Source>(alloc: Global, source: &mut S) -> Result<Vec<S
     // Read comes only where the source was given up or `csv`'s reader of its text has failed.
     ensures read { IfErr result (λ fault. fault.what ≡ TraceFaultKind.Read
         → Traces.ReadFails (S.remaining source.old)
-        (GaveUp (S.HasFailed source.new) (S.interruptions source.old) (S.interruptions source.new)) fault.row) }
-    ensures went_on { OnOk result (WentOn (S.interruptions source.old) (S.interruptions source.new)) }
+        (EndsWith S.Answered IsReadFailure source.old source.new) fault.row) }
+    ensures ended { OnOk result (EndsWith S.Answered IsEnd source.old source.new) }
 {
     let text = read_text(alloc, source)?;
     all_steps(alloc, &mut TraceRows::new(alloc, &text))
 }
 
 /// The text of the trace that a source gives: all its bytes, of which there are at most `MAX_BYTES`. A fault stands at
-/// row 0, and `Read` is answered only where the source has failed or was interrupted more than `MAX_INTERRUPTIONS`
-/// times.
+/// row 0, and `Read` is answered only where a call of the source was answered with an error, which was no interruption
+/// or the one after `MAX_INTERRUPTIONS` others.
 pub fn read_text<S: Source>(alloc: Global, source: &mut S) -> Result<Vec<u8>, TraceFault>
     ensures whole { IfOk result (λ text. IfSome (S.remaining source.old) (λ bytes. text.items ≡ bytes)) }
     ensures bound { IfOk result (λ text. vec_len text ≤ MAX_BYTES) }
     ensures fault { IfErr result (λ fault. IfSome (S.remaining source.old) (λ bytes. Traces.IsFaultOf bytes fault)) }
     ensures row { IfErr result (λ fault. fault.row ≡ 0) }
     ensures read { IfErr result (λ fault. fault.what ≡ TraceFaultKind.Read
-        → GaveUp (S.HasFailed source.new) (S.interruptions source.old) (S.interruptions source.new)) }
-    ensures went_on { OnOk result (WentOn (S.interruptions source.old) (S.interruptions source.new)) }
+        → EndsWith S.Answered IsReadFailure source.old source.new) }
+    ensures ended { OnOk result (EndsWith S.Answered IsEnd source.old source.new) }
 {
     match read_bytes(alloc, source) {
         Ok(text) => Ok(text),
@@ -65,8 +71,8 @@ pub fn read_text<S: Source>(alloc: Global, source: &mut S) -> Result<Vec<u8>, Tr
     }
 }
 
-/// All the bytes that a source gives. It refuses more than `MAX_BYTES`, a read that fails, and a growth
-/// that is refused.
+/// All the bytes that a source gives. It refuses more than `MAX_BYTES`, a source that is given up, and a growth that is
+/// refused. It asks again where the source is interrupted.
 fn read_bytes<S: Source>(alloc: Global, source: &mut S) -> Result<Vec<u8>, TraceFaultKind>
     ensures whole { IfOk result (λ text. IfSome (S.remaining source.old) (λ bytes. text.items ≡ bytes)) }
     ensures bound { IfOk result (λ text. vec_len text ≤ MAX_BYTES) }
@@ -75,61 +81,32 @@ fn read_bytes<S: Source>(alloc: Global, source: &mut S) -> Result<Vec<u8>, Trace
     ensures fault { IfErr result (λ fault.
         (fault ≡ TraceFaultKind.Read) ⊎ (fault ≡ TraceFaultKind.TooLarge) ⊎ (fault ≡ TraceFaultKind.Memory)) }
     ensures read { IsErrOf result TraceFaultKind.Read
-        → GaveUp (S.HasFailed source.new) (S.interruptions source.old) (S.interruptions source.new) }
-    ensures went_on { OnOk result (WentOn (S.interruptions source.old) (S.interruptions source.new)) }
+        → EndsWith S.Answered IsReadFailure source.old source.new }
+    ensures ended { OnOk result (EndsWith S.Answered IsEnd source.old source.new) }
 {
     let mut text = Vec::new(alloc);
     let mut chunk = [0u8; CHUNK];
     let mut interruptions = Interruptions::none();
-    // Each turn that isn't the last one takes a byte or more.
-    for _turn in 0..=MAX_BYTES {
-        let Ok(count) = read_some(source, &mut chunk, &mut interruptions) else {
-            return Err(TraceFaultKind::Read);
-        };
-        if count == 0 {
-            return Ok(text);
-        }
-        if count > MAX_BYTES.saturating_sub(text.len()) {
-            return Err(TraceFaultKind::TooLarge);
-        }
-        if text.extend_from_slice(&chunk[..count]).is_err() {
-            return Err(TraceFaultKind::Memory);
-        }
-    }
-    Err(TraceFaultKind::TooLarge)
-}
-
-/// The source was given up.
-#[derive(Drop)]
-struct Unread;
-
-/// Fills the front of a buffer, and says how many bytes of it. It asks again where the source is interrupted.
-fn read_some<S: Source>(
-    source: &mut S,
-    buffer: &mut [u8],
-    interruptions: &mut Interruptions,
-) -> Result<usize, Unread>
-    requires { interruptions.old.count ≤ MAX_INTERRUPTIONS }
-    ensures bound { ReadsAtMost result buffer.new }
-    ensures bytes { ReadConsumes (S.remaining source.old) (S.remaining source.new) result buffer.new }
-    ensures count { OnOk result ((interruptions.new.count ≤ MAX_INTERRUPTIONS)
-        × (S.interruptions source.new + interruptions.old.count
-        ≡ S.interruptions source.old + interruptions.new.count)) }
-    ensures unread { OnErr result ((S.HasFailed source.new)
-        ⊎ (S.interruptions source.new + interruptions.old.count ≡ S.interruptions source.old + 1001)) }
-{
-    // Each turn that isn't the last one is an interruption more.
-    for _turn in 0..=MAX_INTERRUPTIONS {
-        match source.read(buffer) {
-            Ok(count) => return Ok(count),
+    // Each turn that isn't the last one takes a byte or more, or is an interruption more.
+    for _turn in 0..=MAX_CALLS {
+        match source.fill(&mut chunk) {
+            Ok(0) => return Ok(text),
+            Ok(count) => {
+                if count > MAX_BYTES.saturating_sub(text.len()) {
+                    return Err(TraceFaultKind::TooLarge);
+                }
+                if text.extend_from_slice(&chunk[..count]).is_err() {
+                    return Err(TraceFaultKind::Memory);
+                }
+            }
             Err(why) => {
                 if !interruptions.retries(&why) {
-                    return Err(Unread);
+                    return Err(TraceFaultKind::Read);
                 }
             }
         }
     }
-    Err(Unread)
+    Err(TraceFaultKind::TooLarge)
 }
 
 /// What stands next in a text.

@@ -1,98 +1,40 @@
-//! What gives a trace: streams that tell whether they have failed.
-ghost use Rattle.std.specs.Prelude.{◌≡◌, ◌⊎◌, ◌^◌, ◌-◌, ℕ, IfErr, IfOk, List, Option, false, true};
+//! What gives a trace: a stream of bytes, and what it can answer.
+ghost use Rattle.std.specs.Prelude.{ℕ, List, Option, Result, ⊤};
 ghost use Rattle.std.specs.Io.{ReadsAtMost};
-ghost use Rattle.std.specs.IoError.{error_kind};
 ghost use Rattle.std.specs.Io.KnownBytes.{ReadConsumes};
-ghost use Rattle.row_core.specs.Streams.{IsStopped};
-ghost use Rattle.std.specs.declared.io.ErrorKind.TheVariants.{Interrupted};
+ghost use Rattle.std.specs.declared.io.Error.{Error};
 
-use std::io::{self, ErrorKind, Read};
+use std::io::{self, Read};
 
-/// What gives the bytes of a trace, and tells whether it has failed.
+/// What gives the bytes of a trace. Every `Read` is one.
 ///
-/// std's `Read` has no word for a failed read, so no contract over it can say that a read has failed. This one is
-/// for an embedder whose reader can tell: a buffer that a device fills, say, with a flag for an overrun. Of such a
-/// reader `read_trace_from` promises more than `read_trace` does of a `Read`: a fault `Read` at row 0 comes only
-/// where it has failed or was interrupted too often. To be interrupted is no failure: it is tried again, up to
-/// `MAX_INTERRUPTIONS` times over one reading.
+/// Its member `Answered` names the calls: which answer takes it from one state to another. A reading is proved for
+/// every such relation, so for that of the calls which were made and no others. Hence what `read_trace` says of the
+/// fault `Read`: without a call that was answered with an error there is none.
+///
+/// std's `Read` has no word for what it answers when, so of a reader as such each answer is allowed. An embedder whose
+/// reader can tell more, a buffer that a device fills, say, with a flag for an overrun, implements this trait for it.
+/// To be interrupted is no failure: the call is made again, up to `MAX_INTERRUPTIONS` times over one reading.
 pub trait Source {
     /// The bytes that it gives from here on, where they are known.
     ghost remaining: { Self → Option (List ℕ) };
 
-    /// A read of it has failed.
-    ghost HasFailed: { Self → Type 0 };
-
-    /// How many reads of it were interrupted.
-    ghost interruptions: { Self → ℕ };
+    /// A call of it was answered so, and took it from the first state to the second.
+    ghost Answered: { Self → Result ℕ Error → Self → Type 0 };
 
     /// Fills the front of a buffer, and says how many bytes of it. It gives none at the end alone.
-    fn read(&mut self, buffer: &mut [u8]) -> io::Result<usize>
+    fn fill(&mut self, buffer: &mut [u8]) -> io::Result<usize>
         ensures bound { ReadsAtMost result buffer.new }
         ensures bytes { ReadConsumes (remaining self.old) (remaining self.new) result buffer.new }
-        ensures uninterrupted { IfOk result (λ _. interruptions self.new ≡ interruptions self.old) }
-        ensures failed { IfErr result (λ why.
-            IsStopped why (interruptions self.old) (interruptions self.new) (HasFailed self.new)) };
+        ensures answered { Answered self.old result self.new };
 }
 
-/// A stream, whether it has failed and how often it was interrupted: what makes a source of a reader.
-#[derive(Drop)]
-pub struct Watched<'a, T> {
-    /// The stream.
-    pub stream: &'a mut T,
-    /// Whether a call of it has failed.
-    pub has_failed: bool,
-    /// How many calls of it were interrupted.
-    pub interruptions: u64,
-}
+impl<R: Read> Source for R {
+    ghost remaining = { λ reader. R.remaining reader };
 
-impl<'a, T> Watched<'a, T> {
-    /// The stream, of which no failure and no interruption is known.
-    pub fn new(stream: &'a mut T) -> Watched<'a, T>
-        ensures same_reference { result.stream.ghost_name ≡ stream.entry.ghost_name }
-        ensures value { result.stream.now ≡ stream.old }
-        ensures fresh { result.has_failed ≡ false }
-        ensures uninterrupted { result.interruptions ≡ 0 }
-    {
-        Watched {
-            stream,
-            has_failed: false,
-            interruptions: 0,
-        }
-    }
+    ghost Answered = { λ _ _ _. ⊤ };
 
-    /// Notes what a call of the stream ended with, and answers it: it was interrupted, or it has failed. An interruption
-    /// that can't be counted any more is a failure, and is answered as an error of another kind.
-    pub fn note(&mut self, why: io::Error) -> io::Error
-        ensures stopped { IsStopped result self.old.interruptions self.new.interruptions (self.new.has_failed ≡ true) }
-        ensures answered { (result ≡ why) ⊎ ((error_kind why ≡ Interrupted) × (self.old.interruptions ≡ 2 ^ 64 - 1)) }
-        ensures failed_no_more { error_kind result ≡ Interrupted → self.new.has_failed ≡ self.old.has_failed }
-        ensures stream { self.new.stream.now ≡ self.old.stream.now }
-        ensures same_reference { self.new.stream.ghost_name ≡ self.old.stream.ghost_name }
-    {
-        if why.kind() != ErrorKind::Interrupted {
-            self.has_failed = true;
-            return why;
-        }
-        if self.interruptions == u64::MAX {
-            self.has_failed = true;
-            return io::Error::from(ErrorKind::Other);
-        }
-        self.interruptions += 1;
-        why
-    }
-}
-
-impl<R: Read> Source for Watched<'_, R> {
-    ghost remaining = { λ w. R.remaining w.stream.now };
-
-    ghost HasFailed = { λ w. w.has_failed ≡ true };
-
-    ghost interruptions = { λ w. w.interruptions };
-
-    fn read(&mut self, buffer: &mut [u8]) -> io::Result<usize> {
-        match self.stream.read(buffer) {
-            Ok(count) => Ok(count),
-            Err(why) => Err(self.note(why)),
-        }
+    fn fill(&mut self, buffer: &mut [u8]) -> io::Result<usize> {
+        self.read(buffer)
     }
 }

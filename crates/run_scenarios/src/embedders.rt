@@ -1,10 +1,11 @@
-//! Runs between a source and a sink of a caller's own, which tell whether they have failed.
+//! Runs between a source and a sink of a caller's own, which know whether they have failed.
 
-ghost use Rattle.std.specs.Prelude.{◌≡◌, ◌++◌, Some, true};
+ghost use Rattle.std.specs.Prelude.{◌≡◌, ◌<◌, ◌++◌, IfErr, MatchResult, Some, true};
 
 use crate::packets::{SEED, one_flow};
 use packet_core::Params;
 use sched_core::Step;
+use std::alloc::Global;
 use std::io::{self, ErrorKind, Read};
 use std::process::Abort;
 use std::str;
@@ -41,11 +42,9 @@ impl<'a> Intake<'a> {
 impl Source for Intake<'_> {
     ghost remaining = { λ intake. Some intake.bytes.now };
 
-    ghost HasFailed = { λ intake. intake.has_failed ≡ true };
+    ghost Answered = { λ _ answer new. IfErr answer (λ _. new.has_failed ≡ true) };
 
-    ghost interruptions = { λ _. 0 };
-
-    fn read(&mut self, buffer: &mut [u8]) -> io::Result<usize> {
+    fn fill(&mut self, buffer: &mut [u8]) -> io::Result<usize> {
         if self.overran && self.bytes.is_empty() {
             self.has_failed = true;
             return Err(io::Error::from(ErrorKind::UnexpectedEof));
@@ -72,16 +71,14 @@ impl Sink for Page {
 
     ghost Wrote = { λ a text b. b.bytes.items ≡ a.bytes.items ++ text };
 
-    ghost HasFailed = { λ page. page.is_full ≡ true };
-
-    ghost interruptions = { λ _. 0 };
+    ghost Answered = { λ _ answer new. MatchResult answer (λ count. 0 < count) (λ _. new.is_full ≡ true) };
 
     ghost wrote_none = { λ a. sym (append-nil a.bytes.items) };
 
     ghost wrote_more = { λ a b c first second one two.
         two ∙ ap (λ l. l ++ second) one ∙ append_assoc a.bytes.items first second };
 
-    fn write(&mut self, text: &[u8]) -> io::Result<usize> {
+    fn put(&mut self, text: &[u8]) -> io::Result<usize> {
         let count = text.len().min(self.room);
         if count == 0 || self.bytes.extend_from_slice(&text[..count]).is_err() {
             self.is_full = true;
@@ -90,6 +87,18 @@ impl Sink for Page {
         self.room -= count;
         Ok(count)
     }
+}
+
+/// Runs what an intake has onto a page. `Write` is answered only where the page is full.
+fn run_onto(
+    alloc: Global,
+    intake: &mut Intake<'_>,
+    page: &mut Page,
+    params: Params,
+) -> Result<(), RunFault>
+    ensures { IfErr result (λ fault. fault ≡ RunFault.Write → page.new.is_full ≡ true) }
+{
+    run_between(alloc, intake, page, params, SEED)
 }
 
 /// Runs the first bytes of the trace onto a page with so much room, and compares what it took, how the run ended and
@@ -108,7 +117,7 @@ fn expect_run_between(
         is_full: false,
     };
     let params = Params::try_new(one_flow())?;
-    let answer = run_between(rt.alloc(), &mut intake, &mut page, params, SEED);
+    let answer = run_onto(rt.alloc(), &mut intake, &mut page, params);
     assert_eq!(rt; str::from_utf8(&page.bytes)?, report);
     assert_eq!(rt; answer, ended);
     assert_eq!(rt; intake.has_failed, bytes.len() < TRACE.len());

@@ -12,10 +12,45 @@ fn expect_turns(
     given: Option<u64>,
     turns: u64,
 ) -> Result<(), Fail> {
-    let answer = sched.dequeue(1)?;
+    expect_turns_at(rt, sched, 1, given, turns)
+}
+
+/// The same at that moment.
+fn expect_turns_at(
+    rt: &impl Abort,
+    sched: &mut Sched,
+    moment: u64,
+    given: Option<u64>,
+    turns: u64,
+) -> Result<(), Fail> {
+    let answer = sched.dequeue(moment)?;
     assert_eq!(rt; answer.map(|sent| sent.id), given);
     assert_eq!(rt; sched.turns(), turns, "for {given:?}");
     Ok(())
+}
+
+/// The turns of a flow of ten packets of 1,000 bytes, four of which CoDel drops.
+fn expect_turns_of_ten(rt: &impl Abort, sched: &mut Sched) -> Result<(), Fail> {
+    arrive(sched, PORT, 10, 1_000)?;
+    // A quantum is 1,514 bytes, and only the packets that are sent use it up. So the third dequeue, the fifth and the
+    // sixth make a turn that gives a quantum first. The last one finds the flow empty, as an old one.
+    for (moment, given, turns) in [
+        (5_000, Some(0), 1),
+        (105_000, Some(2), 1),
+        (205_000, Some(4), 2),
+        (275_710, Some(6), 1),
+        (333_445, Some(8), 2),
+        (333_446, Some(9), 2),
+        (333_447, None, 1),
+    ] {
+        expect_turns_at(rt, sched, moment, given, turns)?;
+    }
+    Ok(())
+}
+
+#[test]
+fn ten_packets(rt: HostRuntime) -> Result<(), Fail> {
+    expect_turns_of_ten(&rt, &mut scheduler(&rt, one_flow())?)
 }
 
 /// The turns of two flows with a quantum of 300 bytes.

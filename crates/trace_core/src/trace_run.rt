@@ -1,12 +1,12 @@
 //! The run of a trace: its steps are made as its rows are read, and the report is written.
 ghost use Rattle.std.specs.Prelude.{◌≡◌, ◌≢◌, ◌≤◌, ◌<◌, ◌+◌, ◌⊎◌, ℕ, List, IfErr, IfOk, IfSome, OnErr, OnOk, [], length, take};
 ghost use Rattle.std.specs.Result.{IsOkUnless};
-ghost use Rattle.std.specs.Io.KnownBytes.{Appends, Keeps};
+ghost use Rattle.std.specs.Io.KnownBytes.{Keeps};
 ghost use Rattle.packet_core.specs.declared.flow.Seed.{Seed};
 ghost use Rattle.packet_core.specs.declared.params.ParamFields.{ParamFields};
 ghost use Rattle.sched_core.specs.Schedulers.{new_scheduler};
 ghost use Rattle.trace_core.specs.Report.{IsReportOf, RunsStep, RunsText};
-ghost use Rattle.row_core.specs.Streams.{GaveUp, WentOn};
+ghost use Rattle.row_core.specs.Streams.{EndsWith, IsEnd, IsReadFailure, IsWriteFailure, WentOn};
 ghost use Rattle.row_core.specs.Traces.{HasTaken, IsFaultOf, IsRowsFault, ReadFails, TextReader, reader_of};
 ghost use Rattle.row_core.specs.declared.faults.TraceFault.{TraceFault};
 ghost use Rattle.row_core.specs.declared.faults.TraceFaultKind.TheVariants as kind;
@@ -17,7 +17,7 @@ use crate::streams::Sink;
 use packet_core::{Params, Seed};
 use row_core::{
     Interruptions, MAX_BYTES, MAX_INTERRUPTIONS, Next, Source, TraceFault, TraceFaultKind,
-    TraceRows, Watched, read_text,
+    TraceRows, read_text,
 };
 use sched_core::{Memory, Sched, Step};
 use std::alloc::{AllocError, Global};
@@ -56,36 +56,38 @@ impl From<AllocError> for RunFault {
 
 /// Reads a trace, makes its steps with a new scheduler of those parameters and that seed, and writes the report.
 /// The whole report is made before the first byte of it is written. The writer isn't flushed.
-pub fn run<R: Read, W: Write>(
+///
+/// `Read` at row 0 is answered only where a read was answered with an error, and `Write` only where a write was answered
+/// with an error or took nothing. An interruption is such an error only after `MAX_INTERRUPTIONS` others of the same
+/// stream. `Read` at a later row is answered only where the reader of `csv` over the text has failed.
+pub fn run<R: Read + Source, W: Write + Sink>(
     alloc: Global,
     reader: &mut R,
     writer: &mut W,
     params: Params,
     seed: Seed,
 ) -> Result<(), RunFault>
-    ensures report { OnOk result (IfSome (R.remaining reader.old) (λ bytes. (text : List ℕ)
-        × IsReportOf params seed bytes text × Appends (W.contents writer.old) (W.contents writer.new) text)) }
+    ensures report { OnOk result (IfSome (R.Source.remaining reader.old) (λ bytes. (text : List ℕ)
+        × IsReportOf params seed bytes text × W.Wrote writer.old text writer.new)) }
     ensures front { IfErr result (λ fault. fault ≡ RunFault.Write
-        → IfSome (R.remaining reader.old) (λ bytes. (text : List ℕ) × IsReportOf params seed bytes text
-        × (count : ℕ) × Appends (W.contents writer.old) (W.contents writer.new) (take count text))) }
+        → IfSome (R.Source.remaining reader.old) (λ bytes. (text : List ℕ) × IsReportOf params seed bytes text
+        × (count : ℕ) × W.Wrote writer.old (take count text) writer.new)) }
     ensures trace { IfErr result (λ fault. (why : TraceFault) → fault ≡ RunFault.Trace why
-        → IfSome (R.remaining reader.old) (λ bytes. IsFaultOf bytes why)) }
+        → IfSome (R.Source.remaining reader.old) (λ bytes. IsFaultOf bytes why)) }
     ensures untouched { IfErr result (λ fault. (fault ≢ RunFault.Write)
         → Keeps (W.contents writer.old) (W.contents writer.new)) }
+    ensures read { IfErr result (λ fault. (why : TraceFault) → fault ≡ RunFault.Trace why → why.what ≡ kind.Read
+        → ReadFails (R.Source.remaining reader.old)
+        (EndsWith R.Answered IsReadFailure reader.old reader.new) why.row) }
+    ensures write { IfErr result (λ fault. fault ≡ RunFault.Write
+        → EndsWith W.Answered IsWriteFailure writer.old writer.new) }
+    ensures ended { OnOk result (EndsWith R.Answered IsEnd reader.old reader.new) }
+    ensures wrote { OnOk result (WentOn W.Answered writer.old writer.new) }
 {
-    run_between(
-        alloc,
-        &mut Watched::new(reader),
-        &mut Watched::new(writer),
-        params,
-        seed,
-    )
+    run_between(alloc, reader, writer, params, seed)
 }
 
-/// The same as `run`, from a source to a sink, which tell whether they have failed. For a caller whose reader or
-/// writer can tell that: `Read` at row 0 is answered only where the source has failed or was interrupted more than
-/// `MAX_INTERRUPTIONS` times, `Read` at a later row only where the reader of `csv` over its text has failed, and
-/// `Write` only where the sink has failed or was interrupted more than `MAX_INTERRUPTIONS` times.
+/// The same as `run`, from a source to a sink which needn't be a `Read` and a `Write`.
 pub fn run_between<S: Source, K: Sink>(
     alloc: Global,
     source: &mut S,
@@ -106,11 +108,11 @@ pub fn run_between<S: Source, K: Sink>(
     // sink was given up.
     ensures read { IfErr result (λ fault. (why : TraceFault) → fault ≡ RunFault.Trace why → why.what ≡ kind.Read
         → ReadFails (S.remaining source.old)
-        (GaveUp (S.HasFailed source.new) (S.interruptions source.old) (S.interruptions source.new)) why.row) }
+        (EndsWith S.Answered IsReadFailure source.old source.new) why.row) }
     ensures write { IfErr result (λ fault. fault ≡ RunFault.Write
-        → GaveUp (K.HasFailed sink.new) (K.interruptions sink.old) (K.interruptions sink.new)) }
-    ensures read_on { OnOk result (WentOn (S.interruptions source.old) (S.interruptions source.new)) }
-    ensures wrote_on { OnOk result (WentOn (K.interruptions sink.old) (K.interruptions sink.new)) }
+        → EndsWith K.Answered IsWriteFailure sink.old sink.new) }
+    ensures ended { OnOk result (EndsWith S.Answered IsEnd source.old source.new) }
+    ensures wrote { OnOk result (WentOn K.Answered sink.old sink.new) }
 {
     let text = read_text(alloc, source)?;
     let report = run_text(alloc, &text, params, seed)?;
@@ -174,62 +176,31 @@ fn run_step(sched: &mut Sched, step: &Step, report: &mut Rows) -> Result<(), Mem
     report.step(answer, &sched.events()[first..])
 }
 
-/// Writes the whole of a text. Where the sink is given up, the front of the text is written.
+/// Writes the whole of a text. Where the sink is given up, the front of the text is written. It tries again where the
+/// sink is interrupted.
 pub(crate) fn write_text<S: Sink>(sink: &mut S, text: &[u8]) -> Result<(), RunFault>
     ensures whole { OnOk result (S.Wrote sink.old text.now sink.new) }
     ensures front { OnErr result ((count : ℕ) × S.Wrote sink.old (take count text.now) sink.new) }
-    ensures gave_up { OnErr result
-        (GaveUp (S.HasFailed sink.new) (S.interruptions sink.old) (S.interruptions sink.new)) }
-    ensures went_on { OnOk result (WentOn (S.interruptions sink.old) (S.interruptions sink.new)) }
+    ensures gave_up { OnErr result (EndsWith S.Answered IsWriteFailure sink.old sink.new) }
+    ensures went_on { OnOk result (WentOn S.Answered sink.old sink.new) }
     ensures fault { IsOkUnless result RunFault.Write }
 {
     let mut done = 0;
     let mut interruptions = Interruptions::none();
-    // Each turn takes a byte or more.
-    for _turn in 0..text.len() {
+    // Each turn takes a byte or more, or is an interruption more.
+    for _turn in 0..text.len().saturating_add(MAX_INTERRUPTIONS as usize) {
         if done == text.len() {
             return Ok(());
         }
-        match write_some(sink, &text[done..], &mut interruptions) {
+        match sink.put(&text[done..]) {
+            Ok(0) => return Err(RunFault::Write),
             Ok(count) => done += count,
-            Err(_) => return Err(RunFault::Write),
-        }
-    }
-    Ok(())
-}
-
-/// The sink was given up.
-#[derive(Drop)]
-struct Unwritten;
-
-/// Writes the front of a text that isn't empty, and says how many bytes of it. It tries again where the sink is
-/// interrupted.
-fn write_some<S: Sink>(
-    sink: &mut S,
-    text: &[u8],
-    interruptions: &mut Interruptions,
-) -> Result<usize, Unwritten>
-    requires text { 0 < length text.now }
-    requires few { interruptions.old.count ≤ MAX_INTERRUPTIONS }
-    ensures bound { IfOk result (λ count. (0 < count) × (count ≤ length text.now)) }
-    ensures bytes { IfOk result (λ count. S.Wrote sink.old (take count text.now) sink.new) }
-    ensures nothing { OnErr result (S.Wrote sink.old [] sink.new) }
-    ensures count { OnOk result ((interruptions.new.count ≤ MAX_INTERRUPTIONS)
-        × (S.interruptions sink.new + interruptions.old.count
-        ≡ S.interruptions sink.old + interruptions.new.count)) }
-    ensures unwritten { OnErr result ((S.HasFailed sink.new)
-        ⊎ (S.interruptions sink.new + interruptions.old.count ≡ S.interruptions sink.old + 1001)) }
-{
-    // Each turn that isn't the last one is an interruption more.
-    for _turn in 0..=MAX_INTERRUPTIONS {
-        match sink.write(text) {
-            Ok(count) => return Ok(count),
             Err(why) => {
                 if !interruptions.retries(&why) {
-                    return Err(Unwritten);
+                    return Err(RunFault::Write);
                 }
             }
         }
     }
-    Err(Unwritten)
+    Ok(())
 }

@@ -113,3 +113,6 @@ returns-in-Err-clause-mistake c =
     IfErr-weaker c.without_matches.result _ _
     (λ fault h text is_mistake. mistake_made_in (app_of c.in_ok-command.command) words c.in-Err.error line kinds (h text is_mistake))
     c.without_matches.ensures.mistake
+
+pub returns-in_err-request_of-in-Ok-clause-shown : goal.returns-in_err-request_of-in-Ok-clause-shown
+returns-in_err-request_of-in-Ok-clause-shown c = memory_is_no_mistake c.from_residual-in_err-request_of-in-Ok.result _ c.from_residual-in_err-request_of-in-Ok.ensures.1

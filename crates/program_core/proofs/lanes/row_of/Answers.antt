@@ -1,6 +1,7 @@
-use Rattle.std.proofs.Common.{◌≡◌, ◌≢◌, ◌∙◌, ◌++◌, ◌<◌, ℕ, ap, arith, length, slice_index_or, sym}
+use Rattle.std.proofs.Common.{◌≡◌, ◌≢◌, ◌∙◌, ◌++◌, ◌<◌, ℕ, ap, arith, length, slice_index_or, subst, sym}
 use Rattle.sched_core.specs.Engines.{Running}
 use Rattle.port_core.specs.Lanes.{LaneView, accepted}
+use Rattle.program_core.specs.DeviceRuns.{EmptiesLane, has_close}
 use Rattle.program_core.specs.Journals.{IsSameDevice}
 use Rattle.program_core.proofs.LaneRunLemmas.{lane_counts, lane_row, same_by, same_more}
 use Rattle.program_core.proofs.lanes.row_of.Goals as goal
@@ -42,3 +43,10 @@ pub returns-clause-row : goal.returns-clause-row
 returns-clause-row g c =
     let a = (goal.at.returns-clause-row g c).After-emptied in
     rw c.in-Some.is (lane_row c.emptied.new.device c.args.lane c.in_ok-left.left c.args.done.submitted c.in-Some.end.submitted (there g a) (whole g a) c.in_ok-left.ensures.left (many g a))
+
+pub returns-clause-emptied : goal.returns-clause-emptied
+returns-clause-emptied g c =
+    subst (λ (e : Running). EmptiesLane c.args.lane e.steps c.emptied.new.device.engine.steps) c.settle_lane-left.ensures.rest.0 c.in_ok-left.ensures.emptied
+
+pub returns-clause-none_left : goal.returns-clause-none_left
+returns-clause-none_left g c free = c.in_ok-left.ensures.none_left (ap (λ (e : Running). has_close e.steps) c.settle_lane-left.ensures.rest.0 ∙ free)

@@ -1,7 +1,9 @@
-use Rattle.std.proofs.Common.{ℕ, ◌∙◌, ◌<◌, Vec, Global, arith, length, rules, slice_index_or}
+use Rattle.std.proofs.Common.{ℕ, ◌∙◌, ◌<◌, Vec, Global, arith, length, rules, slice_index_or, subst}
 use Rattle.packet_core.specs.Packets.{PacketParts}
 use Rattle.port_core.specs.Devices.{KeepsLanes, rings_of}
 use Rattle.port_core.specs.declared.lane_sender.LaneDone.{LaneDone}
+use Rattle.program_core.specs.DeviceRuns.{EndsRun, HasServed}
+use Rattle.program_core.proofs.DeviceRunLemmas.{served_open}
 use Rattle.program_core.specs.Journals.{IsSameDevice, IsSent}
 use Rattle.program_core.proofs.JournalLemmas.{member}
 use Rattle.program_core.proofs.LaneRunLemmas.{lane_rows, same_more, sent_each}
@@ -12,6 +14,12 @@ use Rattle.program_core.proofs.lanes.run_device.Given.{Over}
 -- the device behind its part
 same : (g : Over) (c : In_ok-device g) → IsSameDevice c.args.device c.in_ok-device.device
 same g c = search rules
+
+-- what it did for the rows
+served : (g : Over) (c : In_ok-device g) → HasServed (length c.args.lists.now) c.args.device.engine.steps c.args.steps.now c.in_ok-device.device.engine.steps
+served g c =
+    let rows : HasServed (length c.args.device.lanes) c.args.device.engine.steps c.args.steps.now c.in_ok-device.device.engine.steps = search rules in
+    subst (λ n. HasServed n c.args.device.engine.steps c.args.steps.now c.in_ok-device.device.engine.steps) c.requires.lanes.lanes_number rows
 
 -- what each sender did
 sent : (g : Over) (c : In_ok-device g) (i : ℕ) (d : LaneDone) (l : Vec PacketParts Global) → i < length c.args.lists.now
@@ -35,4 +43,12 @@ returns-clause-made g c =
       rows = lane_rows c.args.lists.now _ c.in_ok-done.done.items c.in_ok-rows.rows.items c.ended.new.device (sent g at)
           (c.in_ok-done.ensures.number ∙ c.requires.lanes.senders_number) c.in_ok-rows.ensures.number c.in_ok-rows.ensures.done c.in_ok-rows.ensures.rows
           keeps (behind.number ∙ c.requires.lanes.lanes_number);
+      run = record {
+        served = c.in_ok-device.device.engine.steps;
+        serves = served g at;
+        ends = subst (λ n. EndsRun n c.in_ok-device.device.engine.steps c.ended.new.device.engine.steps) ((same g at).number ∙ c.requires.lanes.lanes_number) c.in_ok-rows.ensures.ends;
+      };
+      idle = c.in_ok-rows.ensures.idle;
+      none_left = λ free none. c.in_ok-rows.ensures.none_left
+          (served_open (length c.args.lists.now) c.args.device.engine.steps c.args.steps.now c.in_ok-device.device.engine.steps free none (served g at));
     })

@@ -1,4 +1,4 @@
-use Rattle.std.proofs.Common.{◌≡◌, ◌∙◌, ◌+◌, ◌<◌, ◌++◌, ◌∷◌, [], List, ap, append-nil, arith, length, map, refl, rules, subst, sum_by, sym}
+use Rattle.std.proofs.Common.{◌≡◌, ◌∙◌, ◌+◌, ◌<◌, ◌++◌, ◌∷◌, [], List, ap, arith, length, map, refl, rules, subst, sum_by, sym}
 use Rattle.std.proofs.lemmas.Grind.{common_steps}
 use Rattle.std.proofs.lemmas.List.{length-map}
 use Rattle.packet_core.specs.declared.flow.Seed.{Seed}
@@ -7,7 +7,7 @@ use Rattle.journal_core.specs.Runs.{IsRunOf}
 use Rattle.fair_core.specs.FqCodel.{fq_codel}
 use Rattle.port_core.specs.Ports.{Port, Seat, new_seat, new_seats}
 use Rattle.trace_core.specs.declared.journal_report.SenderRow.{SenderRow}
-use Rattle.program_core.specs.Journals.{row_of}
+use Rattle.program_core.specs.Journals.{calls_of, row_of}
 use Rattle.program_core.proofs.JournalLemmas.{accepted_of_rows, new_seats_length, rows_of_done, seats_popped}
 use Rattle.program_core.proofs.locked.run_lists.Goals.{In-Some}
 use Rattle.program_core.proofs.locked.run_lists.Given.{Over}
@@ -56,10 +56,13 @@ returns-in-Ok-clause-journal g c =
     c.requires.lists number (λ i d s l less. each i d s l (omega (arith, less, new_seats_length n))) c.in_ok-rows.ensures.done told in
     record {
       made = engine.steps;
+      by_calls = c.if-not-is_whole.ensures.calls refl (λ i. calls_of c.args.params c.args.seed n i c.args.steps.now) c.requires.lists.each;
       standing = engine.sched.standing;
       run = subst (λ (s : Seed). IsRunOf (fq_codel c.args.params s) engine.steps engine.sched.standing) with_seed
           (subst (λ (p : ParamFields). IsRunOf (fq_codel p engine.sched.seed) engine.steps engine.sched.standing) with_params c.run_of_steps.ensures);
       journal = refl;
+      closed = c.if-not-is_whole.ensures.closed refl;
+      none_waits = c.if-not-is_whole.ensures.none_waits refl;
       number = ap length rows_are ∙ length-map done (λ d. row_of d.calls d.seat) ∙ number;
       each = λ i r less. rw rows_are (sender_rows i r less);
       all =

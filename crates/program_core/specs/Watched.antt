@@ -1,0 +1,42 @@
+-- What monitors saw of a run, and the lines that say so.
+use Rattle.std.specs.Prelude.{◌≡◌, ℕ, ◌+◌, List, [], ◌∷◌, ◌++◌, All, Option, codes, length, take}
+use Rattle.std.specs.Fmt.{decimal}
+use Rattle.std.specs.Io.KnownBytes.{Appends}
+use Rattle.std.specs.List.{join_with_byte}
+use Rattle.journal_core.specs.Statistics.{statistics}
+use Rattle.journal_core.specs.declared.event.Event.{Event}
+use Rattle.monitor_core.specs.declared.monitor.Seen.{Seen}
+
+-- What a monitor saw: the statistics of as many events as it says.
+pub record IsSeen (seen : Seen) : Type 0 where
+  pub events : List Event
+  pub totals : seen.totals ≡ statistics events
+  pub count : seen.events ≡ length events
+
+-- how many packets were dropped
+abbrev pub dropped_of : Seen → ℕ
+dropped_of seen = seen.totals.dropped_codel + seen.totals.dropped_overflow
+
+-- the line of a monitor: its fields with a space between each two, and a line feed
+abbrev pub seen_line : ℕ → Seen → List ℕ
+seen_line monitor seen =
+    join_with_byte 32
+    (codes "monitor" ∷ decimal monitor ∷ decimal seen.events ∷ decimal seen.totals.accepted ∷ decimal seen.totals.sent
+    ∷ decimal (dropped_of seen) ∷ decimal seen.totals.queued ∷ []) ++ 10 ∷ []
+
+-- The text is a front of each monitor's line, one after the other; the monitors are numbered from that number on. A
+-- front is the whole line, unless memory or a write was refused.
+abbrev pub AreFronts : ℕ → List Seen → List ℕ → Type 0
+AreFronts monitor [] text = text ≡ []
+AreFronts monitor (one ∷ seen) text =
+    (count : ℕ) × (rest : List ℕ) × (text ≡ take count (seen_line monitor one) ++ rest)
+    × AreFronts (monitor + 1) seen rest
+
+-- What so many monitors saw was written behind what was there.
+pub record TellsSeen (monitors : ℕ) (old new : Option (List ℕ)) : Type 0 where
+  pub seen : List Seen
+  pub number : length seen ≡ monitors
+  pub each : All IsSeen seen
+  pub text : List ℕ
+  pub fronts : AreFronts 0 seen text
+  pub told : Appends old new text
