@@ -1,6 +1,7 @@
 //! The publisher: the part of a journal's owner that shows its statistics to monitors.
 
 ghost use Rattle.std.specs.Prelude.{◌≡◌, ◌⊎◌, ◌+◌, ◌<◌, ◌≤◌, [], length, IfOk, MatchBool, OnErr, OnOk};
+ghost use Rattle.std.specs.Option.{option_map_or};
 ghost use mathlib.Core.List.{IsPrefix};
 ghost use Rattle.monitor_core.specs.Batches.{joined};
 ghost use Rattle.monitor_core.specs.Publishing.{nothing_published};
@@ -21,8 +22,8 @@ pub enum PublishFault {
 }
 
 /// What publishes a journal, over a screen, or over none where nobody reads. Contracts see the events that are shown,
-/// those that stand in the book, which after a publish that was refused may be more, and how often the screen was asked
-/// to show some.
+/// which are the screen's where there is one. They see those that stand in the book, which after a publish that was
+/// refused may be more, and how often the screen was asked to show some.
 #[derive(Drop)]
 pub struct Publisher<J: BookName, X: Screen<Shown<J>> + Drop> {
     screen: Option<X>,
@@ -36,6 +37,7 @@ pub struct Publisher<J: BookName, X: Screen<Shown<J>> + Drop> {
 
 impl<J: BookName, X: Screen<Shown<J>> + Drop> Model for Publisher<J, X> {
     ghost use Rattle.std.specs.Prelude.{◌≡◌, length};
+    ghost use Rattle.std.specs.Option.{option_map_or};
     ghost use Rattle.monitor_core.specs.Batches.{joined};
     ghost use Rattle.monitor_core.specs.Publishing.{Published};
 
@@ -43,11 +45,13 @@ impl<J: BookName, X: Screen<Shown<J>> + Drop> Model for Publisher<J, X> {
 
     ghost view = { λ p. record {
       reached = joined p.front;
-      shown = p.shown;
+      shown = option_map_or X.shown p.screen p.shown;
       asked = length p.asked.items;
     } };
 
-    ghost invariant = { λ p. p.reached ≡ length (joined p.front) };
+    // What readers take is what receipts stand for.
+    ghost invariant = { λ p. (p.reached ≡ length (joined p.front))
+        × (option_map_or X.shown p.screen p.shown ≡ p.shown) };
 }
 
 impl<J: BookName, X: Screen<Shown<J>> + Drop> Publisher<J, X> {
@@ -58,7 +62,8 @@ impl<J: BookName, X: Screen<Shown<J>> + Drop> Publisher<J, X> {
         front: Front<J>,
         shown: Shown<J>,
     ) -> Publisher<J, X>
-        requires { joined front ≡ [] }
+        requires none { joined front ≡ [] }
+        requires shown { option_map_or X.shown screen shown ≡ shown }
         ensures { result ≡ record { reached = []; shown = shown; asked = 0 } }
     {
         Publisher {

@@ -12,8 +12,12 @@ use std::sync::Wait;
 /// What shows a value to readers until the next one. Only `show` waits, for readers that are just reading: so what owns
 /// a screen waits nowhere else, and its type needs no `Wait`.
 pub trait Screen<T> {
+    /// What readers take: the value that is shown.
+    ghost shown: { Self → T };
+
     /// Shows a value from here on, and says whether it does. Where it doesn't, what was shown still is.
-    fn show(&mut self, next: T) -> bool;
+    fn show(&mut self, next: T) -> bool
+        ensures { MatchBool result (shown self.new ≡ next) (shown self.new ≡ shown self.old) };
 }
 
 /// Why a reader isn't given: `left_right` has no place for it. Only a screen that was asked for a reader makes one.
@@ -42,9 +46,9 @@ impl<T: Absorb<T> + Drop, R: Wait + Drop> Model for LeftRight<T, R> {
 }
 
 impl<J: BookName, R: Wait + Drop> Screen<Shown<J>> for LeftRight<Shown<J>, R> {
-    fn show(&mut self, next: Shown<J>) -> bool
-        ensures { MatchBool result (self.new ≡ next) (self.new ≡ self.old) }
-    {
+    ghost shown = { λ s. s };
+
+    fn show(&mut self, next: Shown<J>) -> bool {
         self.writer.append(next).is_ok() && self.writer.publish().is_ok()
     }
 }

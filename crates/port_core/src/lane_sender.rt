@@ -1,6 +1,6 @@
 //! The sender's end of a lane, and a sender that submits its packets there.
 
-ghost use Rattle.std.specs.Prelude.{◌≡◌, ◌⊎◌, ◌≤◌, ◌<◌, ◌++◌, ◌∷◌, [], ℕ, IfSome, MatchResult, length, take};
+ghost use Rattle.std.specs.Prelude.{◌≡◌, ◌⊎◌, ◌≤◌, ◌<◌, ◌+◌, ◌++◌, ◌∷◌, [], ℕ, IfSome, MatchResult, length, take};
 ghost use Rattle.port_core.specs.declared.gate.Stop.TheVariants as stop;
 
 use crate::gate::{Gate, Stop, passes};
@@ -126,6 +126,7 @@ pub fn send_lane<G: Gate>(sender: LaneSender, packets: &[Packet], gate: &G) -> L
     ensures all { result.submitted ≡ length packets.now → result.stop ≡ stop.Done }
     ensures stop { (result.stop ≡ stop.Done) ⊎ (result.stop ≡ stop.Stalled) ⊎ (result.stop ≡ stop.Full) }
     ensures gate { (call : ℕ) → 0 < call → call ≤ result.submitted → G.LetThrough gate.now call }
+    ensures stalled { result.stop ≡ stop.Stalled → G.HeldUp gate.now (result.submitted + 1) }
     ensures end { IfSome result.end (λ end. end ≡ record sender {
       submitted = sender.submitted ++ take result.submitted packets.now;
     }) }

@@ -1,6 +1,6 @@
 //! A sender: it calls a locked port for each of its packets.
 
-ghost use Rattle.std.specs.Prelude.{◌≡◌, ◌≤◌, ◌<◌, ℕ, length, map};
+ghost use Rattle.std.specs.Prelude.{◌≡◌, ◌≤◌, ◌<◌, ◌+◌, ℕ, length, map};
 ghost use Rattle.port_core.specs.Senders.{SendsAt, SendsSome, StopsAs, calls_answered};
 ghost use Rattle.port_core.specs.declared.gate.Stop.TheVariants as stop;
 
@@ -39,6 +39,7 @@ pub fn send_locked<A: Ledger, S: Ledger, R: Wait, G: Gate>(
     ensures moments { SendsAt seat packets.now (calls_answered result.stop result.calls) result.seat }
     ensures stop { StopsAs packets.now result.calls result.stop }
     ensures gate { (call : ℕ) → 0 < call → call ≤ result.calls → G.LetThrough gate.now call }
+    ensures stalled { result.stop ≡ stop.Stalled → G.HeldUp gate.now (result.calls + 1) }
 {
     let mut seat = seat;
     let mut calls = 0u64;

@@ -34,7 +34,8 @@ returns-in_default g c = record {
     refused_row c.args.packets.now c.loop-now.now-index c.loop-now.calls c.loop-now-item.result c.in-Err.refusal c.loop-now.invariant.calls c.loop-now-test.true c.loop-now-item.is
         (c.in-Err.ensures {u = tt}).refused,
   );
-  gate = through_more (g.G.Gate.LetThrough c.args.gate.now) c.loop-now.calls c.loop-now.invariant.gate (c.if-not-passes.ensures refl);
+  gate = through_more (g.G.Gate.LetThrough c.args.gate.now) c.loop-now.calls c.loop-now.invariant.gate (c.if-not-passes.ensures.through refl);
+  stalled = λ e. absurd cc;
 }
 
 -- a call that was accepted or passed over
@@ -52,5 +53,5 @@ loop-now-preserved g c = record {
   told = called g (goal.at.loop-now-preserved g c).After-enqueue;
   moments = answered g c;
   calls = ap (λ n. n + 1) c.loop-now.invariant.calls;
-  gate = through_more (g.G.Gate.LetThrough c.args.gate.now) c.loop-now.calls c.loop-now.invariant.gate (c.if-not-passes.ensures refl);
+  gate = through_more (g.G.Gate.LetThrough c.args.gate.now) c.loop-now.calls c.loop-now.invariant.gate (c.if-not-passes.ensures.through refl);
 }
