@@ -16,5 +16,5 @@ pub use monitor::{Monitor, Seen};
 pub use opening::{OpenFault, open_publisher};
 pub use publisher::{PublishFault, Publisher};
 pub use receipt::Receipt;
-pub use screen::{LeftRight, NoReader, Screen};
+pub use screen::{LeftRight, NoReader, OnScreen, Screen};
 pub use shown::Shown;

@@ -55,15 +55,16 @@ pub fn open_publisher<J: BookName, R: Wait + Drop>(
     ensures monitors { IfOk result (λ r. r.1.items ≡ replicate monitors []) }
     ensures unread { OnErr result (0 < monitors) }
 {
-    if monitors == 0 {
-        return Ok((Publisher::unread(blank), Vec::new(alloc)));
-    }
     let (book, front) = blank.named::<J>();
-    let shown = nothing_shown(&front);
+    let first = nothing_shown(&front);
+    if monitors == 0 {
+        let (screen, shown) = LeftRight::unread(first);
+        return Ok((Publisher::new(screen, book, front, shown), Vec::new(alloc)));
+    }
     let mut all = Vec::with_capacity(alloc, monitors as usize)?;
-    let screen = LeftRight::new(alloc, rt, shown.again(), shown.again(), monitors)?;
-    add_monitors(&mut all, &screen, &shown, monitors)?;
-    Ok((Publisher::new(Some(screen), book, front, shown), all))
+    let (screen, shown) = LeftRight::new(alloc, rt, first, monitors)?;
+    add_monitors(&mut all, &screen, shown.value(), monitors)?;
+    Ok((Publisher::new(screen, book, front, shown), all))
 }
 
 /// Adds so many monitors that have seen nothing. It takes no memory, so a place alone may be wanting.

@@ -1,17 +1,15 @@
 //! The publisher: the part of a journal's owner that shows its statistics to monitors.
 
-ghost use Rattle.std.specs.Prelude.{◌≡◌, ◌⊎◌, ◌+◌, ◌<◌, ◌≤◌, [], length, IfOk, MatchBool, OnErr, OnOk};
-ghost use Rattle.std.specs.Option.{option_map_or};
+ghost use Rattle.std.specs.Prelude.{◌≡◌, ◌⊎◌, [], length, IfOk, MatchBool, OnErr, OnOk};
 ghost use mathlib.Core.List.{IsPrefix};
 ghost use Rattle.monitor_core.specs.Batches.{joined};
-ghost use Rattle.monitor_core.specs.Publishing.{nothing_published};
 
-use crate::book::{Book, BookBlank, BookName, Front};
+use crate::book::{Book, BookName, Front};
 use crate::journaled::Journaled;
 use crate::receipt::Receipt;
-use crate::screen::Screen;
+use crate::screen::{OnScreen, Screen};
 use crate::shown::Shown;
-use journal_core::{GhostList, Totals};
+use journal_core::Totals;
 use std::marker::Model;
 
 /// Why nothing was published.
@@ -21,23 +19,19 @@ pub enum PublishFault {
     Memory,
 }
 
-/// What publishes a journal, over a screen, or over none where nobody reads. Contracts see the events that are shown,
-/// which are the screen's where there is one. They see those that stand in the book, which after a publish that was
-/// refused may be more, and how often the screen was asked to show some.
+/// What publishes a journal, over a screen. Contracts see the events that the screen shows and those that stand in the
+/// book. After a publish that was refused these may be more.
 #[derive(Drop)]
 pub struct Publisher<J: BookName, X: Screen<Shown<J>> + Drop> {
-    screen: Option<X>,
+    screen: X,
     book: Book<J>,
     front: Front<J>,
     reached: u64,
-    shown: Shown<J>,
-    // No bytes: it stands in proofs alone.
-    asked: GhostList<()>,
+    shown: OnScreen<Shown<J>>,
 }
 
 impl<J: BookName, X: Screen<Shown<J>> + Drop> Model for Publisher<J, X> {
     ghost use Rattle.std.specs.Prelude.{◌≡◌, length};
-    ghost use Rattle.std.specs.Option.{option_map_or};
     ghost use Rattle.monitor_core.specs.Batches.{joined};
     ghost use Rattle.monitor_core.specs.Publishing.{Published};
 
@@ -45,26 +39,22 @@ impl<J: BookName, X: Screen<Shown<J>> + Drop> Model for Publisher<J, X> {
 
     ghost view = { λ p. record {
       reached = joined p.front;
-      shown = option_map_or X.shown p.screen p.shown;
-      asked = length p.asked.items;
+      shown = p.shown;
     } };
 
-    // What readers take is what receipts stand for.
-    ghost invariant = { λ p. (p.reached ≡ length (joined p.front))
-        × (option_map_or X.shown p.screen p.shown ≡ p.shown) };
+    ghost invariant = { λ p. p.reached ≡ length (joined p.front) };
 }
 
 impl<J: BookName, X: Screen<Shown<J>> + Drop> Publisher<J, X> {
-    /// One that has published nothing.
+    /// One that has published nothing, over a screen and what it shows.
     pub(crate) fn new(
-        screen: Option<X>,
+        screen: X,
         book: Book<J>,
         front: Front<J>,
-        shown: Shown<J>,
+        shown: OnScreen<Shown<J>>,
     ) -> Publisher<J, X>
-        requires none { joined front ≡ [] }
-        requires shown { option_map_or X.shown screen shown ≡ shown }
-        ensures { result ≡ record { reached = []; shown = shown; asked = 0 } }
+        requires { joined front ≡ [] }
+        ensures { result ≡ record { reached = []; shown = shown } }
     {
         Publisher {
             screen,
@@ -72,7 +62,6 @@ impl<J: BookName, X: Screen<Shown<J>> + Drop> Publisher<J, X> {
             front,
             reached: 0,
             shown,
-            asked: GhostList::new(),
         }
     }
 
@@ -85,13 +74,12 @@ impl<J: BookName, X: Screen<Shown<J>> + Drop> Publisher<J, X> {
         ensures receipt { IfOk result (λ r. r ≡ Q.events journal.now) }
         ensures refused { OnErr result (self.new.shown ≡ self.old.shown) }
         ensures reached { (self.new.reached ≡ self.old.reached) ⊎ (self.new.reached ≡ Q.events journal.now) }
-        ensures asked { self.new.asked ≤ self.old.asked + 1 }
     {
         if !self.reach(journal) {
             return Err(PublishFault::Memory);
         }
         let next = Shown::new(self.front.again(), journal.totals(), self.reached);
-        if !self.show(next) {
+        if !self.screen.show(&mut self.shown, next) {
             return Err(PublishFault::Memory);
         }
         Ok(self.receipt())
@@ -122,37 +110,11 @@ impl<J: BookName, X: Screen<Shown<J>> + Drop> Publisher<J, X> {
         self.reached = events;
     }
 
-    /// Shows it, and says whether it does.
-    fn show(&mut self, next: Shown<J>) -> bool
-        ensures shown { MatchBool result (self.new.shown ≡ next) (self.new.shown ≡ self.old.shown) }
-        ensures reached { self.new.reached ≡ self.old.reached }
-        ensures asked { self.new.asked ≤ self.old.asked + 1 }
-    {
-        if let Some(screen) = &mut self.screen {
-            self.asked = self.asked.and(&());
-            if !screen.show(next.again()) {
-                return false;
-            }
-        }
-        self.shown = next;
-        true
-    }
-
     /// The receipt of the last publish that wasn't refused. It stands for no event before the first.
     pub fn receipt(&self) -> Receipt<J>
         ensures { result ≡ self.now.shown }
     {
-        Receipt::new(self.shown.again())
-    }
-
-    /// One that has published nothing, and that nobody reads.
-    pub(crate) fn unread(blank: BookBlank) -> Publisher<J, X>
-        requires { blank ≡ J.book }
-        ensures { result ≡ nothing_published }
-    {
-        let (book, front) = blank.named::<J>();
-        let shown = nothing_shown(&front);
-        Publisher::new(None, book, front, shown)
+        Receipt::new(self.shown.value().again())
     }
 }
 

@@ -1,6 +1,6 @@
 //! What shows values to readers.
 
-ghost use Rattle.std.specs.Prelude.{◌≡◌, ◌<◌, IfOk, MatchBool};
+ghost use Rattle.std.specs.Prelude.{◌≡◌, ◌<◌, IfOk, IfSome, MatchBool, None, Some};
 
 use crate::book::BookName;
 use crate::shown::Shown;
@@ -9,15 +9,36 @@ use std::alloc::{AllocError, Global};
 use std::marker::Model;
 use std::sync::Wait;
 
+/// What a screen shows. There is one for each screen, from its start on, and nothing but its screen changes it. So what
+/// has a screen can't say of it what readers don't take. Contracts see the value.
+#[derive(Drop)]
+pub struct OnScreen<T: Drop> {
+    value: T,
+}
+
+impl<T: Drop> Model for OnScreen<T> {
+    ghost Value = { T };
+
+    ghost view = { λ s. s.value };
+}
+
+impl<T: Drop> OnScreen<T> {
+    ghost use Rattle.std.specs.Prelude.{◌≡◌};
+
+    /// The value that is shown.
+    pub(crate) fn value(&self) -> &T
+        ensures { result.now ≡ self.now }
+    {
+        &self.value
+    }
+}
+
 /// What shows a value to readers until the next one. Only `show` waits, for readers that are just reading: so what owns
 /// a screen waits nowhere else, and its type needs no `Wait`.
-pub trait Screen<T> {
-    /// What readers take: the value that is shown.
-    ghost shown: { Self → T };
-
+pub trait Screen<T: Drop> {
     /// Shows a value from here on, and says whether it does. Where it doesn't, what was shown still is.
-    fn show(&mut self, next: T) -> bool
-        ensures { MatchBool result (shown self.new ≡ next) (shown self.new ≡ shown self.old) };
+    fn show(&mut self, shown: &mut OnScreen<T>, next: T) -> bool
+        ensures shown { MatchBool result (shown.new ≡ next) (shown.new ≡ shown.old) };
 }
 
 /// Why a reader isn't given: `left_right` has no place for it. Only a screen that was asked for a reader makes one.
@@ -26,54 +47,71 @@ pub struct NoReader {
     by_left_right: (),
 }
 
-/// Shows values by two copies: readers read one with no lock while the other is written. Contracts see what readers
-/// take.
+/// Shows values by two copies: readers read one with no lock while the other is written. Where nobody reads it has no
+/// copy. Contracts see what readers take.
 #[derive(Drop)]
 pub struct LeftRight<T: Absorb<T> + Drop, R: Wait + Drop> {
-    writer: WriteHandle<T, T, R>,
+    writer: Option<WriteHandle<T, T, R>>,
 }
 
 impl<T: Absorb<T> + Drop, R: Wait + Drop> Model for LeftRight<T, R> {
-    ghost use Rattle.std.specs.Prelude.{◌≡◌, []};
+    ghost use Rattle.std.specs.Prelude.{◌≡◌, [], IfSome, Option, option_map};
     ghost use Rattle.left_right.specs.Handles.{pending, published};
 
-    ghost Value = { T };
+    ghost Value = { Option T };
 
-    ghost view = { λ s. published s.writer };
+    ghost view = { λ s. option_map published s.writer };
 
     // Readers see each value that it took in.
-    ghost invariant = { λ s. pending s.writer ≡ [] };
+    ghost invariant = { λ s. IfSome s.writer (λ w. pending w ≡ []) };
 }
 
 impl<J: BookName, R: Wait + Drop> Screen<Shown<J>> for LeftRight<Shown<J>, R> {
-    ghost shown = { λ s. s };
-
-    fn show(&mut self, next: Shown<J>) -> bool {
-        self.writer.append(next).is_ok() && self.writer.publish().is_ok()
+    fn show(&mut self, shown: &mut OnScreen<Shown<J>>, next: Shown<J>) -> bool
+        ensures shown { MatchBool result (shown.new ≡ next) (shown.new ≡ shown.old) }
+        ensures readers { MatchBool result (IfSome self.new (λ taken. taken ≡ next)) (self.new ≡ self.old) }
+    {
+        if let Some(writer) = &mut self.writer {
+            if !(writer.append(next.again()).is_ok() && writer.publish().is_ok()) {
+                return false;
+            }
+        }
+        shown.value = next;
+        true
     }
 }
 
-impl<T: Absorb<T> + Drop, R: Wait + Drop> LeftRight<T, R> {
-    /// One for so many readers, which shows two copies of one value at first.
+impl<J: BookName, R: Wait + Drop> LeftRight<Shown<J>, R> {
+    /// One that nobody reads, and what it shows.
+    pub(crate) fn unread(first: Shown<J>) -> (LeftRight<Shown<J>, R>, OnScreen<Shown<J>>)
+        ensures { (result.0 ≡ None) × (result.1 ≡ first) }
+    {
+        (LeftRight { writer: None }, OnScreen { value: first })
+    }
+
+    /// One for so many readers, and what it shows at first.
     pub(crate) fn new(
         alloc: Global,
         rt: R,
-        first: T,
-        second: T,
+        first: Shown<J>,
         readers: u32,
-    ) -> Result<LeftRight<T, R>, AllocError>
-        requires { (0 < readers) × (T.state first ≡ T.state second) }
-        ensures { IfOk result (λ s. s ≡ first) }
+    ) -> Result<(LeftRight<Shown<J>, R>, OnScreen<Shown<J>>), AllocError>
+        requires { 0 < readers }
+        ensures { IfOk result (λ r. (r.0 ≡ Some first) × (r.1 ≡ first)) }
     {
-        Ok(LeftRight {
-            writer: WriteHandle::new(alloc, rt, first, second, readers as usize)?,
-        })
+        let writer = WriteHandle::new(alloc, rt, first.again(), first.again(), readers as usize)?;
+        let screen = LeftRight {
+            writer: Some(writer),
+        };
+        Ok((screen, OnScreen { value: first }))
     }
 
     /// A reader of it, where there is a place.
-    pub(crate) fn reader(&self) -> Result<ReadHandle<T>, NoReader> {
-        self.writer
-            .handle()
-            .map_err(|_| NoReader { by_left_right: () })
+    pub(crate) fn reader(&self) -> Result<ReadHandle<Shown<J>>, NoReader> {
+        let no_reader = NoReader { by_left_right: () };
+        let Some(writer) = &self.writer else {
+            return Err(no_reader);
+        };
+        writer.handle().map_err(|_| no_reader)
     }
 }

@@ -19,7 +19,7 @@ pub const MAX_BURST: u64 = 1024;
 /// that came out of a lane are those that the engine accepted from it, and what is shown is a beginning of its journal.
 /// The engine tells its events and its steps to keepers, which store all of them unless others are chosen. Contracts
 /// see the engine, the lanes and what was published. Only `publish` and the device's end wait, for monitors that are
-/// just reading: the other calls stand on a part of it that has no screen, or say that it was asked to show nothing.
+/// just reading: the other calls stand on a part of it that has no screen.
 #[derive(Drop)]
 pub struct Device<
     J: BookName,
@@ -156,7 +156,6 @@ impl<J: BookName, X: Screen<Shown<J>> + Drop, K: Keeps<Event>, S: Keeps<Step>> D
         ensures receipt { IfOk result (λ receipt. receipt ≡ self.old.engine.sched.standing.events) }
         ensures refused { OnErr result (self.new.published.shown ≡ self.old.published.shown) }
         ensures rest { (self.new.engine ≡ self.old.engine) × (self.new.lanes ≡ self.old.lanes) }
-        ensures waits_once { self.new.published.asked ≤ self.old.published.asked + 1 }
     {
         self.publisher
             .publish(&EngineJournal::new(self.fed.engine()))
