@@ -1,13 +1,18 @@
 //! The parameters, the seed and the packets of the tests, and what every one of them does with lanes. Where a step
 //! fails the test ends there: each `?` would be one more way out of a function, and its proof takes each of them.
 
-ghost use Rattle.std.specs.Prelude.{◌≡◌, ◌≤◌, ◌<◌};
-ghost use Rattle.port_core.specs.Devices.{rings_of};
+ghost use Rattle.std.specs.Prelude.{◌≡◌, ◌≤◌, ◌<◌, Some, slice_get};
+ghost use Rattle.port_core.specs.Devices.{AreNewLanes, rings_of};
 
 use packet_core::{Classify, Ecn, FiveTuple, Ip, Packet, ParamFields, Params, Seed};
-use port_core::{BookName, Device, LaneFull, LaneSender, MAX_BURST, Screen, Shown};
+use port_core::{
+    BookBlank, BookName, Device, LaneFull, LaneSender, Layout, LeftRight, MAX_BURST, MAX_CAPACITY,
+    MAX_LANES, Opened, Screen, Shown, lanes,
+};
 use sched_core::{Event, Keeps, Refusal, Step, Totals};
+use std::alloc::Global;
 use std::process::Abort;
+use std::sync::Wait;
 
 /// The seed of every device.
 pub(crate) const SEED: Seed = Seed([1, 2, 3, 4, 5, 6, 7, 8, 9, 10, 11, 12, 13, 14, 15, 16]);
@@ -22,6 +27,11 @@ pub(crate) fn one_flow<R: Abort>(rt: &R) -> Params {
 
 /// A packet of 100 bytes to that destination port.
 pub(crate) fn packet<R: Abort>(rt: &R, dport: u16) -> Packet {
+    packet_of(rt, dport, 100)
+}
+
+/// A packet of so many bytes to that destination port.
+pub(crate) fn packet_of<R: Abort>(rt: &R, dport: u16, len: u32) -> Packet {
     let tuple = FiveTuple {
         proto: 17,
         src: Ip::V4([10, 0, 0, 1]),
@@ -29,12 +39,51 @@ pub(crate) fn packet<R: Abort>(rt: &R, dport: u16) -> Packet {
         sport: 5000,
         dport,
     };
-    Packet::try_new(tuple, 100, Ecn::NotEct).expect(rt, "a packet")
+    Packet::try_new(tuple, len, Ecn::NotEct).expect(rt, "a packet")
 }
 
 /// How many packets were accepted, and how many were sent.
 pub(crate) fn counted(totals: &Totals) -> (u64, u64) {
     (totals.accepted, totals.sent)
+}
+
+/// Lanes with room for so many packets each, to a device without monitors.
+pub(crate) fn open<'a, J: BookName, R: Wait + Abort>(
+    rt: &'a R,
+    alloc: Global,
+    blank: BookBlank,
+    number: u32,
+    capacity: u32,
+) -> Opened<J, LeftRight<Shown<J>, &'a R>>
+    requires book { blank ≡ J.book }
+    requires number { (0 < number) × (number ≤ MAX_LANES) }
+    requires capacity { (0 < capacity) × (capacity ≤ MAX_CAPACITY) }
+    ensures { AreNewLanes result.senders.items result.device.lanes number }
+{
+    let layout = Layout {
+        lanes: number,
+        capacity,
+        monitors: 0,
+    };
+    lanes(rt, alloc, blank, one_flow(rt), SEED, layout).expect(rt, "lanes")
+}
+
+/// The two ends of the only lane.
+#[tactic(auto, using(crate::proofs::LaneEndLemmas::end_of_one))]
+pub(crate) fn ends<J: BookName, X: Screen<Shown<J>> + Drop, R: Abort>(
+    rt: &R,
+    opened: Opened<J, X>,
+) -> (LaneSender, Device<J, X>)
+    requires { AreNewLanes opened.senders.items opened.device.lanes 1 }
+    ensures { slice_get (rings_of result.1.lanes) 0 ≡ Some result.0.ring }
+{
+    let Opened {
+        mut senders,
+        device,
+        monitors: _monitors,
+    } = opened;
+    let sender = senders.pop().expect(rt, "a sender");
+    (sender, device)
 }
 
 /// The sender submits a packet to that destination port, and gets it back exactly where the lane is full.

@@ -4,10 +4,10 @@
 ghost use Rattle.std.specs.Prelude.{◌≡◌, ◌≤◌, ◌<◌, Some, slice_get};
 ghost use Rattle.port_core.specs.Devices.{AreNewLanes, rings_of};
 
-use crate::fixtures::{SEED, are_accepted, counted, one_flow, packet, pumps, submits};
+use crate::fixtures::{SEED, are_accepted, counted, ends, one_flow, open, packet, pumps, submits};
 use port_core::{
-    BookBlank, BookName, Device, Gate, LaneSender, Layout, LeftRight, MAX_CAPACITY, MAX_LANES,
-    Open, Opened, Screen, Shown, Stop, lanes, lanes_with_keepers, send_lane,
+    BookBlank, BookName, Device, Gate, LaneSender, Layout, MAX_CAPACITY, Open, Opened, Screen,
+    Shown, Stop, lanes_with_keepers, send_lane,
 };
 use sched_core::{MomentFault, Refusal, Step, Unstored};
 use std::alloc::Global;
@@ -15,45 +15,6 @@ use std::marker::Brand;
 use std::process::Abort;
 use std::sync::Wait;
 use std::sync::atomic::{AtomicU64, Ordering};
-
-/// Lanes with room for so many packets each, to a device without monitors.
-fn open<'a, J: BookName, R: Wait + Abort>(
-    rt: &'a R,
-    alloc: Global,
-    blank: BookBlank,
-    number: u32,
-    capacity: u32,
-) -> Opened<J, LeftRight<Shown<J>, &'a R>>
-    requires book { blank ≡ J.book }
-    requires number { (0 < number) × (number ≤ MAX_LANES) }
-    requires capacity { (0 < capacity) × (capacity ≤ MAX_CAPACITY) }
-    ensures { AreNewLanes result.senders.items result.device.lanes number }
-{
-    let layout = Layout {
-        lanes: number,
-        capacity,
-        monitors: 0,
-    };
-    lanes(rt, alloc, blank, one_flow(rt), SEED, layout).expect(rt, "lanes")
-}
-
-/// The two ends of the only lane.
-#[tactic(auto, using(crate::proofs::LaneEndLemmas::end_of_one))]
-fn ends<J: BookName, X: Screen<Shown<J>> + Drop, R: Abort>(
-    rt: &R,
-    opened: Opened<J, X>,
-) -> (LaneSender, Device<J, X>)
-    requires { AreNewLanes opened.senders.items opened.device.lanes 1 }
-    ensures { slice_get (rings_of result.1.lanes) 0 ≡ Some result.0.ring }
-{
-    let Opened {
-        mut senders,
-        device,
-        monitors: _monitors,
-    } = opened;
-    let sender = senders.pop().expect(rt, "a sender");
-    (sender, device)
-}
 
 /// A lane with room for two packets gives back the third, has room again once one was taken, and keeps what is
 /// submitted behind the close. Three of four packets were accepted, so one is left.

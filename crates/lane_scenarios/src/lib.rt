@@ -6,3 +6,5 @@
 mod fixtures;
 #[cfg(test)]
 mod lanes;
+#[cfg(test)]
+mod senders;

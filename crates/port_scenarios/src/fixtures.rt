@@ -2,7 +2,7 @@
 
 use packet_core::{Classify, Ecn, FiveTuple, Ip, Packet, ParamFields, Params, Seed};
 use port_core::{LockedPort, PortSeat};
-use sched_core::{Admitted, Engine, Totals};
+use sched_core::{Admitted, Engine, Event, Totals};
 use std::process::Abort;
 use std::sync::Wait;
 use std::sync::ledger::Ledger;
@@ -29,6 +29,11 @@ pub(crate) fn hashed() -> Result<Params, Fail> {
 
 /// A packet of 100 bytes to that destination port.
 pub(crate) fn packet(dport: u16) -> Result<Packet, Fail> {
+    packet_of(dport, 100)
+}
+
+/// A packet of so many bytes to that destination port.
+pub(crate) fn packet_of(dport: u16, len: u32) -> Result<Packet, Fail> {
     let tuple = FiveTuple {
         proto: 17,
         src: Ip::V4([10, 0, 0, 1]),
@@ -36,7 +41,7 @@ pub(crate) fn packet(dport: u16) -> Result<Packet, Fail> {
         sport: 5000,
         dport,
     };
-    Ok(Packet::try_new(tuple, 100, Ecn::NotEct)?)
+    Ok(Packet::try_new(tuple, len, Ecn::NotEct)?)
 }
 
 /// The seat's call at `now` is answered with that id and that moment.
@@ -65,6 +70,18 @@ pub(crate) fn gives<A: Ledger, S: Ledger, R: Wait + Abort>(
     assert_eq!(rt; (sent.id, sent.moment), (id, moment));
     assert_eq!(rt; sent.packet, packet(dport)?);
     Ok(())
+}
+
+/// The seat was told of those packets, in this order, and of no other.
+pub(crate) fn is_told<A: Ledger, S: Ledger>(
+    seat: &PortSeat<A, S>,
+    packets: &[(u64, Packet)],
+) -> bool {
+    let told = seat.told();
+    told.len() == packets.len()
+        && told.iter().zip(packets).all(|(event, wanted)| {
+            matches!(event, Event::Accepted { packet, .. } if *packet == wanted.1)
+        })
 }
 
 /// How many packets were accepted, and how many were sent.

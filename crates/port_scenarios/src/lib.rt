@@ -1,5 +1,5 @@
-//! Tests of locked ports: by one thread, what each call answers and what a settling gives; by several, that senders run
-//! at once. What is expected was worked out by hand from the rules.
+//! Tests of locked ports: by one thread, what each call answers, what a sender asks for and does, and what a settling
+//! gives; by several, that senders run at once. What is expected was worked out by hand from the rules.
 #![tactic(auto)]
 
 #[cfg(test)]
@@ -8,5 +8,9 @@ mod alone;
 mod fixtures;
 #[cfg(test)]
 mod journals;
+#[cfg(test)]
+mod lengths;
+#[cfg(test)]
+mod senders;
 #[cfg(test)]
 mod together;

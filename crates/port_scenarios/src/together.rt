@@ -3,10 +3,9 @@
 ghost use Rattle.std.specs.Prelude.{◌≡◌};
 ghost use denote.Param.Send.{IsSend, IsSync};
 
-use crate::fixtures::{SEED, counted, one_flow, packet, settled};
+use crate::fixtures::{SEED, counted, is_told, one_flow, packet, settled};
 use packet_core::Packet;
 use port_core::{Gate, LockedDone, LockedPort, Open, PortSeat, Stop, send_locked};
-use sched_core::Event;
 use std::alloc::{AllocError, Global};
 use std::marker::Brand;
 use std::process::Abort;
@@ -280,13 +279,4 @@ fn seats_told<A: Ledger, S: Ledger, R: Abort>(
     }
     seats.push(device)?;
     Ok(seats)
-}
-
-/// The seat was told of those packets, in this order.
-fn is_told<A: Ledger, S: Ledger>(seat: &PortSeat<A, S>, packets: &[(u64, Packet)]) -> bool {
-    let told = seat.told();
-    told.len() == packets.len()
-        && told.iter().zip(packets).all(|(event, wanted)| {
-            matches!(event, Event::Accepted { packet, .. } if *packet == wanted.1)
-        })
 }
