@@ -1,6 +1,6 @@
 //! What shows values to readers.
 
-ghost use Rattle.std.specs.Prelude.{◌≡◌, ◌<◌, IfOk, IfSome, MatchBool, None, Some};
+ghost use Rattle.std.specs.Prelude.{◌≡◌, ◌<◌, IfOk, MatchBool, None, Some, option_map};
 
 use crate::book::BookName;
 use crate::shown::Shown;
@@ -69,7 +69,7 @@ impl<T: Absorb<T> + Drop, R: Wait + Drop> Model for LeftRight<T, R> {
 impl<J: BookName, R: Wait + Drop> Screen<Shown<J>> for LeftRight<Shown<J>, R> {
     fn show(&mut self, shown: &mut OnScreen<Shown<J>>, next: Shown<J>) -> bool
         ensures shown { MatchBool result (shown.new ≡ next) (shown.new ≡ shown.old) }
-        ensures readers { MatchBool result (IfSome self.new (λ taken. taken ≡ next)) (self.new ≡ self.old) }
+        ensures readers { MatchBool result (self.new ≡ option_map (λ _. next) self.old) (self.new ≡ self.old) }
     {
         if let Some(writer) = &mut self.writer {
             if !(writer.append(next.again()).is_ok() && writer.publish().is_ok()) {
