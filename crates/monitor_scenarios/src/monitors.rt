@@ -1,4 +1,4 @@
-//! Monitors: what they see of a device's journal, behind which publish, and that what they see never shrinks.
+//! Monitors: what they see of a device's journal, after which publish, and that what they see never shrinks.
 //! Where a step fails the test ends there: each `?` would be one more way out of a function that owns a device, and its
 //! proof takes each of them.
 
@@ -128,6 +128,70 @@ fn sees_two_of_three<J: BookName, X: Screen<Shown<J>> + Drop, R: Abort>(
     other.learn(&second);
     sees(rt, &mut other, 2);
     assert_eq!(rt; device.engine().events().len(), 3);
+}
+
+/// A journal without events, the same one again, and one that was closed are each published, and a monitor sees the
+/// close.
+#[test]
+fn any_journal_is_published(rt: HostRuntime) {
+    publishes_any::<Brand, _>(&rt, rt.alloc(), BookBlank::new(), 1);
+}
+
+/// So they are where nobody reads.
+#[test]
+fn unread_journals_are_published(rt: HostRuntime) {
+    publishes_any::<Brand, _>(&rt, rt.alloc(), BookBlank::new(), 0);
+}
+
+fn publishes_any<J: BookName, R: Wait + Abort>(
+    rt: &R,
+    alloc: Global,
+    blank: BookBlank,
+    monitors: u32,
+)
+    requires book { blank ≡ J.book }
+    requires monitors { monitors ≤ MAX_MONITORS }
+{
+    let mut opened = open::<J, R>(rt, alloc, blank, monitors);
+    publishes_each(rt, &mut opened);
+}
+
+fn publishes_each<J: BookName, X: Screen<Shown<J>> + Drop, R: Abort>(
+    rt: &R,
+    opened: &mut Opened<J, X>,
+) {
+    let mut sender = opened.senders.pop().expect(rt, "a sender");
+    let device = &mut opened.device;
+    shows(rt, device, 0);
+    shows(rt, device, 0);
+    admits(rt, &mut sender, device);
+    shows(rt, device, 1);
+    shows(rt, device, 1);
+    assert_eq!(rt; device.close(7), Ok(()));
+    shows(rt, device, 2);
+    if let Some(mut monitor) = opened.monitors.pop() {
+        sees_the_close(rt, &mut monitor);
+    }
+}
+
+/// A publish shows so many events.
+fn shows<J: BookName, X: Screen<Shown<J>> + Drop, R: Abort>(
+    rt: &R,
+    device: &mut Device<J, X>,
+    events: u64,
+) {
+    let receipt = device.publish().expect(rt, "a receipt");
+    assert_eq!(rt; receipt.events(), events);
+}
+
+/// The monitor sees an acceptance and the close.
+fn sees_the_close<J: BookName, R: Abort>(rt: &R, monitor: &mut Monitor<J>) {
+    assert!(rt; is_seen(monitor, 2));
+    let seen = monitor.totals();
+    assert_eq!(rt;
+        (seen.events, seen.totals.accepted, seen.totals.closed),
+        (2, 1, true)
+    );
 }
 
 /// Whether the monitor sees one event or two, and then so many once it has read often enough.
