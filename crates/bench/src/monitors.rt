@@ -19,7 +19,7 @@ use std::thread::{self, Threads};
 /// How many publishes a repetition has.
 pub const PUBLISHES: u32 = 1_000;
 
-/// What the publishes took, each behind so many new events. A look at the clock is part of each.
+/// What the publishes took, each after so many new events. A look at the clock is part of each.
 pub fn times_of_publishes<R: AllocGlobal + Clock + Wait>(
     rt: &R,
     events: u32,
@@ -133,7 +133,7 @@ fn reading_of<
         took
     };
     let publish = move || publish_on(rt, device, over);
-    // Where no thread can be made, `join` calls its first closure last: the reads have ended before the device publishes.
+    // Where no thread can be made, `join` calls its first closure last: the reads end before the device publishes.
     let (_device, took) = thread::join(rt, publish, read);
     took
 }

@@ -14,7 +14,7 @@ use logbook::{Gain, Offer, Plain, Play, Rule, Seen, Start, Word};
 use std::collections::LinkedList;
 use std::marker::{Brand, Model, PhantomData};
 
-/// A book has at most so many entries. A publish behind so many is refused; at one each nanosecond that is in 146
+/// A book has at most so many entries. A publish after so many is refused; at one each nanosecond that is in 146
 /// years.
 const MAX_BATCHES: u64 = 1 << 62;
 

@@ -48,7 +48,7 @@ calls_answered Stalled calls = calls
 calls_answered Full calls = calls
 calls_answered (Refused why) calls = calls - 1
 
--- What the stop of a sender says after so many calls, one for each of the first packets: it is done exactly behind the
+-- What the stop of a sender says after so many calls, one for each of the first packets: it is done exactly after the
 -- last packet, unless that one was refused. A refused call is the last one, and isn't refused for the close.
 abbrev pub StopsAs : List (ℕ × PacketParts) → ℕ → Stop → Type 0
 StopsAs packets calls Done = calls ≡ length packets

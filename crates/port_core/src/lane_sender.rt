@@ -118,7 +118,7 @@ pub struct LaneDone {
 }
 
 /// Submits packets in order, and asks the gate before each, at most 1,000,000 times; then it ends the lane. It stops as
-/// `Stop::Done` behind the last packet, as `Stop::Stalled` where the gate stays closed, and as `Stop::Full` where the
+/// `Stop::Done` after the last packet, as `Stop::Stalled` where the gate stays closed, and as `Stop::Full` where the
 /// lane is full.
 pub fn send_lane<G: Gate>(sender: LaneSender, packets: &[Packet], gate: &G) -> LaneDone
     ensures submitted { result.submitted ≤ length packets.now }

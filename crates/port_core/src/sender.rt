@@ -24,7 +24,7 @@ pub struct LockedDone<A: Ledger, S: Ledger> {
 }
 
 /// Enqueues packets through a port, each at its moment, in order, and asks the gate before each call, at most
-/// 1,000,000 times. It stops as `Stop::Done` behind the last packet, as `Stop::Stalled` where the gate stays closed,
+/// 1,000,000 times. It stops as `Stop::Done` after the last packet, as `Stop::Stalled` where the gate stays closed,
 /// and as `Stop::Refused` where a call is refused; packets that come after the close are passed over.
 pub fn send_locked<A: Ledger, S: Ledger, R: Wait, G: Gate>(
     rt: &R,

@@ -230,7 +230,7 @@ fn device_part<J: BookName, X: Screen<Shown<J>> + Drop>(
 }
 
 /// Makes the dequeues and closes of the steps, in their order. Before each dequeue it takes packets from the lanes, and
-/// publishes behind it. The device's moment never falls, and a close behind another one is passed over.
+/// publishes after it. The device's moment never falls, and a close after another one is passed over.
 #[tactic(auto, using(crate::proofs::LaneRunLemmas::device_goes_on))]
 fn serve<J: BookName, X: Screen<Shown<J>> + Drop>(
     device: &mut Device<J, X>,

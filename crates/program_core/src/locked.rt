@@ -132,7 +132,7 @@ fn is_whole(engine: &Engine, lists: &[Vec<(u64, Packet)>], steps: &[Step]) -> bo
     engine.is_closed() && engine.queued() == 0 && is_interleaving(lists, steps, engine.steps())
 }
 
-/// The device's part: the dequeues and closes of the steps, in their order. A close behind another one is passed over.
+/// The device's part: the dequeues and closes of the steps, in their order. A close after another one is passed over.
 fn device_part<A: Ledger, S: Ledger, H: Wait>(
     rt: &H,
     port: &LockedPort<A, S>,

@@ -34,7 +34,7 @@ fn read_on<J: BookName, H: Wait>(rt: &H, monitor: Monitor<J>, ended: &AtomicBool
 {
     let mut monitor = monitor;
     for _ in rt.forever() {
-        // What is read behind the end is what was published at the end.
+        // What is read after the end is what was published at the end.
         let last = ended.load(Ordering::SeqCst);
         let seen = monitor.totals();
         if last {
