@@ -8,8 +8,11 @@ use Rattle.journal_core.specs.Happened.{acceptance_of, acceptances}
 use Rattle.journal_core.specs.declared.step.Admitted.{Admitted}
 use Rattle.journal_core.specs.declared.step.Refusal.{Refusal}
 use Rattle.journal_core.specs.declared.event.Event.{Event}
+use Rattle.journal_core.specs.declared.step.Step.{Step}
 use Rattle.journal_core.specs.declared.step.MomentFault.TheVariants.{TooLarge}
 use Rattle.journal_core.specs.declared.step.Refusal.TheVariants.{ClosedAlready, Moment}
+use Rattle.journal_core.specs.declared.step.Step.TheVariants.{Enqueue}
+use Rattle.port_core.specs.LockedCalls.{IsRefusedBy}
 use Rattle.port_core.specs.Ports.{Refuses, Seat, told_also, told_event}
 use Rattle.port_core.specs.Senders.{IsSubsequence, Answers, SendsAt, SendsSome, accepts, ends, no_calls, passes, takes, leaves, packets_told}
 
@@ -79,12 +82,16 @@ at_accepted s old new packets i n p a e within stands told later soon h =
 -- a call that is passed over
 pub at_passed : (s old new : Seat) (packets : List (ℕ × PacketParts)) (i n : ℕ) (p : ℕ × PacketParts)
     → n ≡ i → i < length packets → p ≡ get_or packets i p
-    → new ≡ old → p.0 < 2 ^ 60 → SendsAt s packets n old → SendsAt s packets (n + 1) new
-at_passed s old new packets i n p e within stands same soon h = record {
-  news = h.news;
-  told = same ∙ h.told;
-  answers = subst (Answers s.lane h.news) (sym (next_call packets i n p e within stands)) (passes p soon h.answers);
-}
+    → new ≡ old → p.0 < 2 ^ 60 → IsRefusedBy (λ moment. Enqueue moment old.lane p.1) p.0 ClosedAlready
+    → SendsAt s packets n old → SendsAt s packets (n + 1) new
+at_passed s old new packets i n p e within stands same soon closed h =
+    let lane_is : old.lane ≡ s.lane = ap (λ (t : Seat). t.lane) h.told in
+    let closed_there = subst (λ (lane : ℕ). IsRefusedBy (λ moment. Enqueue moment lane p.1) p.0 ClosedAlready) lane_is closed in
+    record {
+      news = h.news;
+      told = same ∙ h.told;
+      answers = subst (Answers s.lane h.news) (sym (next_call packets i n p e within stands)) (passes p soon closed_there h.answers);
+    }
 
 -- a refused call leaves the seat
 pub at_refused : (s old new : Seat) (packets : List (ℕ × PacketParts)) (n m : ℕ) → new ≡ old → m ≡ n → SendsAt s packets n old → SendsAt s packets m new
@@ -93,6 +100,10 @@ at_refused s old new packets n m same counted h = record {
   told = same ∙ h.told;
   answers = subst (λ k. Answers s.lane h.news (take k packets)) (sym counted) h.answers;
 }
+
+-- a call that is passed over was refused for the close
+pub closed_by : (step : ℕ → Step) (now : ℕ) (why : Refusal) → why ≡ ClosedAlready → IsRefusedBy step now why → IsRefusedBy step now ClosedAlready
+closed_by step now why closed refused = subst (IsRefusedBy step now) closed refused
 
 -- a call that was passed over for the close wasn't too late
 pub closed_soon : (now : ℕ) (why : Refusal) → why ≡ ClosedAlready → Refuses {X = Admitted} now (Err why) → now < 2 ^ 60

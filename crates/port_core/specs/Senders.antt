@@ -5,6 +5,8 @@ use Rattle.journal_core.specs.declared.event.Event.TheVariants.{Accepted}
 use Rattle.journal_core.specs.declared.step.Admitted.{Admitted}
 use Rattle.journal_core.specs.declared.step.Refusal.TheVariants.{ClosedAlready}
 use Rattle.journal_core.specs.Happened.{acceptances}
+use Rattle.journal_core.specs.declared.step.Step.TheVariants.{Enqueue}
+use Rattle.port_core.specs.LockedCalls.{IsRefusedBy}
 use Rattle.port_core.specs.Ports.{Refuses, Seat}
 use Rattle.port_core.specs.declared.gate.Stop.{Stop}
 use Rattle.port_core.specs.declared.gate.Stop.TheVariants.{Done, Stalled, Full, Refused}
@@ -26,14 +28,15 @@ pub record SendsSome (old : Seat) (packets : List PacketParts) (calls : ℕ) (ne
   pub some : IsSubsequence (packets_told news) (take calls packets)
 
 -- These events answer those calls of a lane, in their order. Each is the acceptance of its call's packet, at the call's
--- moment or later. The other calls were refused, though not for their moments.
+-- moment or later. The other calls were refused for the close.
 pub data Answers (lane : ℕ) : List Event → List (ℕ × PacketParts) → Type 0 where
   no_calls : Answers lane [] []
   accepts : {events : List Event} {calls : List (ℕ × PacketParts)} → (call : ℕ × PacketParts) (id moment flow : ℕ)
       → call.0 < 2 ^ 60 → call.0 ≤ moment → Answers lane events calls
       → Answers lane (events ++ Accepted lane id moment flow call.1 ∷ []) (calls ++ call ∷ [])
   passes : {events : List Event} {calls : List (ℕ × PacketParts)} → (call : ℕ × PacketParts)
-      → call.0 < 2 ^ 60 → Answers lane events calls → Answers lane events (calls ++ call ∷ [])
+      → call.0 < 2 ^ 60 → IsRefusedBy (λ moment. Enqueue moment lane call.1) call.0 ClosedAlready
+      → Answers lane events calls → Answers lane events (calls ++ call ∷ [])
 
 -- So many first calls were accepted or passed over, and of the accepted ones the seat was told.
 pub record SendsAt (old : Seat) (packets : List (ℕ × PacketParts)) (calls : ℕ) (new : Seat) : Type 0 where

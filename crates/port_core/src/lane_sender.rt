@@ -127,6 +127,7 @@ pub fn send_lane<G: Gate>(sender: LaneSender, packets: &[Packet], gate: &G) -> L
     ensures stop { (result.stop ≡ stop.Done) ⊎ (result.stop ≡ stop.Stalled) ⊎ (result.stop ≡ stop.Full) }
     ensures gate { (call : ℕ) → 0 < call → call ≤ result.submitted → G.LetThrough gate.now call }
     ensures stalled { result.stop ≡ stop.Stalled → G.HeldUp gate.now (result.submitted + 1) }
+    ensures full { result.stop ≡ stop.Full → G.LetThrough gate.now (result.submitted + 1) }
     ensures end { IfSome result.end (λ end. end ≡ record sender {
       submitted = sender.submitted ++ take result.submitted packets.now;
     }) }

@@ -3,6 +3,8 @@
 ghost use Rattle.std.specs.Prelude.{◌≡◌, ◌≤◌, ◌<◌, ◌+◌, ◌^◌, ◌⊎◌, All, IfOk, IfErr, IfSome, IfNone, OnErr, OnOk, IsTrue, length, sum_by};
 ghost use Rattle.journal_core.specs.Statistics.{statistics};
 ghost use Rattle.journal_core.specs.declared.step.Refusal.TheVariants as refusal;
+ghost use Rattle.journal_core.specs.declared.step.Step.TheVariants.{Close, Dequeue, Enqueue};
+ghost use Rattle.port_core.specs.LockedCalls.{IsAcceptedBy, IsClosedBy, IsRefusedBy, IsServedBy};
 ghost use Rattle.port_core.specs.Ports.{AreTotalsOfARun, Refuses, new_seats, of_lane, sent_also, told_also};
 ghost use Rattle.port_core.specs.Settling.{AreAllTold};
 ghost use Rattle.port_core.specs.declared.seat.TheConstants.{MAX_SEATS};
@@ -108,6 +110,8 @@ impl<A: Ledger, S: Ledger> LockedPort<A, S> {
         ensures later { IfOk result (λ a. now ≤ a.moment) }
         ensures refused { Refuses now result }
         ensures unchanged { OnErr result (seat.new ≡ seat.old) }
+        ensures made { IfOk result (IsAcceptedBy seat.old.lane now packet) }
+        ensures order { IfErr result (IsRefusedBy (λ moment. Enqueue moment seat.old.lane packet) now) }
     {
         self.front.lock(rt).enqueue(seat, now, packet)
     }
@@ -127,6 +131,8 @@ impl<A: Ledger, S: Ledger> LockedPort<A, S> {
         ensures refused { Refuses now result }
         ensures memory { now < 2 ^ 60 → IfErr result (λ why. why ≡ refusal.Memory) }
         ensures unchanged { OnErr result (seat.new ≡ seat.old) }
+        ensures made { IfOk result (IsServedBy now) }
+        ensures order { IfErr result (IsRefusedBy Dequeue now) }
     {
         self.front.lock(rt).dequeue(seat, now)
     }
@@ -139,6 +145,8 @@ impl<A: Ledger, S: Ledger> LockedPort<A, S> {
         ensures refused { Refuses now result }
         ensures closed { now < 2 ^ 60
             → IfErr result (λ why. (why ≡ refusal.ClosedAlready) ⊎ (why ≡ refusal.Memory)) }
+        ensures made { IfOk result (IsClosedBy now) }
+        ensures order { IfErr result (IsRefusedBy Close now) }
     {
         self.front.lock(rt).close(now)
     }

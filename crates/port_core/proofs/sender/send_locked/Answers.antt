@@ -1,6 +1,7 @@
 use Rattle.std.proofs.Common.{arith, refl, map, ap, ◌+◌, ◌-◌}
 use Rattle.port_core.proofs.GateLemmas.{through_more}
-use Rattle.port_core.proofs.SenderLemmas.{at_accepted, at_none, at_passed, at_refused, closed_soon, refused_row, sends_call, sends_none}
+use Rattle.port_core.proofs.SenderLemmas.{at_accepted, at_none, at_passed, at_refused, closed_by, closed_soon, refused_row, sends_call, sends_none}
+use Rattle.journal_core.specs.declared.step.Step.TheVariants.{Enqueue}
 use Rattle.port_core.specs.Senders.{SendsAt, SendsSome}
 use Rattle.port_core.proofs.sender.send_locked.Goals as goal
 use Rattle.port_core.proofs.sender.send_locked.Goals.{After-enqueue, Joined-enqueue, in-Ok, in-Err+in-ClosedAlready}
@@ -45,7 +46,9 @@ answered g c = elim c.match-enqueue.branch [
       c.loop-now.invariant.calls c.loop-now-test.true c.loop-now-item.is (w.in-Ok.ensures {u = tt}).told (w.in-Ok.ensures {u = tt}).later (w.in-Ok.ensures {u = tt}).refused c.loop-now.invariant.moments
   | in-Err+in-ClosedAlready w ↦ at_passed c.args.seat c.loop-now.seat c.enqueue.new.seat c.args.packets.now c.loop-now.now-index c.loop-now.calls c.loop-now-item.result
       c.loop-now.invariant.calls c.loop-now-test.true c.loop-now-item.is (w.in-Err.ensures {u = tt}).unchanged
-      (closed_soon c.loop-now-item.result.0 w.in-Err.refusal w.in-ClosedAlready.is (w.in-Err.ensures {u = tt}).refused) c.loop-now.invariant.moments
+      (closed_soon c.loop-now-item.result.0 w.in-Err.refusal w.in-ClosedAlready.is (w.in-Err.ensures {u = tt}).refused)
+      (closed_by (λ moment. Enqueue moment c.loop-now.seat.lane c.loop-now-item.result.1) c.loop-now-item.result.0 w.in-Err.refusal w.in-ClosedAlready.is (w.in-Err.ensures {u = tt}).order)
+      c.loop-now.invariant.moments
 ]
 
 pub loop-now-preserved : goal.loop-now-preserved
