@@ -80,8 +80,7 @@ fn nothing_waits<A: Ledger, S: Ledger, R: Wait + Abort>(
     }
 }
 
-/// A packet to that destination port, of that length, is accepted at `now` with that id and in that flow, after as many
-/// others of the seat.
+/// A packet to that destination port, of that length, is accepted at `now` with that id and in that flow.
 fn comes<A: Ledger, S: Ledger, R: Wait + Abort>(
     rt: &R,
     port: &LockedPort<A, S>,
@@ -90,10 +89,12 @@ fn comes<A: Ledger, S: Ledger, R: Wait + Abort>(
     wanted: (u64, u16, u32),
 ) -> Result<(), Fail> {
     let (id, dport, len) = wanted;
-    assert_eq!(rt; seat.accepted(), id);
     let admitted = port.enqueue(rt, seat, now, packet_of(dport, len)?)?;
     assert_eq!(rt; (admitted.id, admitted.moment), (id, now));
-    assert_eq!(rt; admitted.flow, u32::from(dport));
+    assert_eq!(rt;
+        (admitted.flow, seat.accepted()),
+        (u32::from(dport), id + 1)
+    );
     Ok(())
 }
 
