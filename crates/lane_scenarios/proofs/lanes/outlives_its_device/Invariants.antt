@@ -1,4 +1,0 @@
-use Rattle.lane_scenarios.proofs.lanes.outlives_its_device.Given as goal
-
-abbrev pub ghosts-outlives : goal.ghosts-outlives
-ghosts-outlives g a = record { book = a.blank }

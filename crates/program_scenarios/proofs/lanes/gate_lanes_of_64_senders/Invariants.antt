@@ -1,4 +1,0 @@
-use Rattle.program_scenarios.proofs.lanes.gate_lanes_of_64_senders.Given as goal
-
-abbrev pub ghosts-by_gates : goal.ghosts-by_gates
-ghosts-by_gates g a = record { book = a.blank }

@@ -1,7 +1,0 @@
-use Rattle.program_scenarios.proofs.locked.gate_locked_of_64_senders.Given as goal
-
-abbrev pub ghosts-at_gates-A-Ledger : goal.ghosts-at_gates-A-Ledger
-ghosts-at_gates-A-Ledger g a = record { name = a.accepted.name; parts = a.accepted.parts }
-
-abbrev pub ghosts-at_gates-S-Ledger : goal.ghosts-at_gates-S-Ledger
-ghosts-at_gates-S-Ledger g a = record { name = a.sent.name; parts = a.sent.parts }

@@ -1,0 +1,147 @@
+//! Refused allocations: sequences of calls that are made while one allocation of the process is refused.
+//!
+//! The first line of standard input names a sequence and the allocation of it that is refused, from 1; a trace may
+//! follow. `rt try --fail-alloc 1000` refuses the 1,000th allocation of the process, so that as many are made before
+//! the sequence as make that one the one asked for. Without that flag none is refused. `.ci/refused-allocations` runs each
+//! sequence for each of its allocations.
+#![tactic(auto)]
+
+mod calls;
+mod devices;
+mod engines;
+mod flow_lists;
+mod pictures;
+mod ports;
+mod programs;
+mod quiet;
+mod schedulers;
+mod traces;
+mod values;
+
+use crate::calls::{Calls, Wrong};
+use std::alloc::Global;
+use std::io::Read;
+use std::marker::Sync;
+use std::process::ExitCode;
+use std::str;
+use std::sync::Wait;
+use std::thread::Threads;
+
+/// The allocation of the process that `rt try` refuses.
+const REFUSED: u32 = 1_000;
+
+/// The name for all sequences, one after the other.
+const ALL: &str = "all";
+
+/// The names of the sequences.
+const SEQUENCES: [&str; 15] = [
+    "flows",
+    "sched",
+    "engine",
+    "run_steps",
+    "locked",
+    "lanes",
+    "publish",
+    "quiet_sched",
+    "quiet_engine",
+    "quiet_device",
+    "trace",
+    "journal",
+    "program_locked",
+    "program_lanes",
+    "program",
+];
+
+/// The most bytes of standard input.
+const MAX_INPUT: usize = 8_192;
+
+fn main(rt: HostRuntime) -> ExitCode {
+    let mut bytes = [0u8; MAX_INPUT];
+    let Some(input) = read_input(&mut rt.stdin(), &mut bytes) else {
+        return ExitCode::FAILURE;
+    };
+    match run(&rt, rt.alloc(), input) {
+        Ok(()) => ExitCode::SUCCESS,
+        Err(wrong) => {
+            let _ = println!(rt; "wrong: {wrong}");
+            ExitCode::FAILURE
+        }
+    }
+}
+
+/// The text of standard input, where it is no longer than there is room.
+fn read_input<'a, R: Read>(reader: &mut R, bytes: &'a mut [u8]) -> Option<&'a str> {
+    let mut count = 0_usize;
+    for _ in 0..bytes.len() {
+        let more = reader.read(bytes.get_mut(count..)?).ok()?;
+        if more == 0 {
+            break;
+        }
+        count = count.saturating_add(more);
+    }
+    str::from_utf8(bytes.get(..count)?).ok()
+}
+
+/// Makes the calls that the input asks for, and tells what became of them.
+fn run<H: Print + Threads + Wait + Sync>(rt: &H, alloc: Global, input: &str) -> Result<(), Wrong> {
+    let (line, rest) = input.split_once('\n').ok_or(Wrong::ALine)?;
+    let (name, number) = line.split_once(' ').ok_or(Wrong::ANameAndANumber)?;
+    let refused: u32 = number.parse().ok().ok_or(Wrong::ANumber)?;
+    make_before(alloc, refused);
+    if name != ALL {
+        return tell(rt, alloc, name, rest);
+    }
+    for name in SEQUENCES {
+        tell(rt, alloc, name, rest)?;
+    }
+    Ok(())
+}
+
+/// Makes the calls of a sequence, and tells how many were refused.
+fn tell<H: Print + Threads + Wait + Sync>(
+    rt: &H,
+    alloc: Global,
+    name: &str,
+    trace: &str,
+) -> Result<(), Wrong> {
+    let mut calls = Calls::new();
+    make(rt, alloc, name, trace, &mut calls)?;
+    let _ = println!(rt; "{name}: refused {}", calls.refused());
+    Ok(())
+}
+
+/// Makes so many allocations that the one to be refused is the 1,000th of the process.
+fn make_before(alloc: Global, refused: u32) {
+    for _ in refused..REFUSED {
+        let mut one: Vec<u8> = Vec::new(alloc);
+        let _ = one.push(0);
+    }
+}
+
+/// Makes the calls of the sequence of that name.
+fn make<H: Print + Threads + Wait + Sync>(
+    rt: &H,
+    alloc: Global,
+    name: &str,
+    trace: &str,
+    calls: &mut Calls,
+) -> Result<(), Wrong> {
+    match name {
+        "flows" => flow_lists::flows(alloc, calls),
+        "sched" => schedulers::sched(alloc, calls),
+        "engine" => engines::engine(alloc, calls),
+        "run_steps" => engines::steps_run(alloc, calls),
+        "locked" => ports::locked(rt, alloc, calls),
+        "lanes" => devices::lane(rt, alloc, calls),
+        "publish" => devices::second_publish(rt, alloc, calls),
+        "quiet_sched" => quiet::sched(alloc, calls),
+        "quiet_engine" => quiet::engine(alloc, calls),
+        "quiet_device" => quiet::device(rt, alloc, calls),
+        "trace" => traces::trace(alloc, calls),
+        "journal" => traces::journal(alloc, calls),
+        "program_locked" => programs::locked(rt, alloc, calls),
+        "program_lanes" => programs::lanes(rt, alloc, calls),
+        "program" => programs::whole(rt, alloc, trace, calls),
+        _ => Err(Wrong::ASequenceOfThatName),
+    }
+}

@@ -1,0 +1,21 @@
+//! Tests of the program where a run of it from outside shows nothing: readers and writers that fail, faults that no
+//! trace brings about, seeds as bytes, the texts of help, and senders that are
+//! held up. `.ci/cli-table` and `examples/` have the other runs.
+#![tactic(auto)]
+
+#[cfg(test)]
+mod faults;
+#[cfg(test)]
+mod gates;
+#[cfg(test)]
+mod help;
+#[cfg(test)]
+mod lanes;
+#[cfg(test)]
+mod locked;
+#[cfg(test)]
+mod packets;
+#[cfg(test)]
+mod seeds;
+#[cfg(test)]
+mod streams;
