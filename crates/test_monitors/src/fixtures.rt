@@ -14,8 +14,24 @@ pub(crate) fn one_flow<R: Abort>(rt: &R) -> Params {
     Params::try_new(fields).expect(rt, "parameters")
 }
 
+/// One flow with room for ten packets, which loses one packet at an overflow, and with a threshold of 200 ms.
+pub(crate) fn room_for_ten<R: Abort>(rt: &R) -> Params {
+    let mut fields = ParamFields::standard();
+    fields.flows = 1;
+    fields.classify = Classify::Dport;
+    fields.limit = 10;
+    fields.drop_batch = 1;
+    fields.ce_threshold = Some(200_000);
+    Params::try_new(fields).expect(rt, "parameters")
+}
+
 /// A packet of 100 bytes.
 pub(crate) fn packet<R: Abort>(rt: &R) -> Packet {
+    packet_of(rt, 100, Ecn::NotEct)
+}
+
+/// A packet of so many bytes with that field.
+pub(crate) fn packet_of<R: Abort>(rt: &R, len: u32, ecn: Ecn) -> Packet {
     let tuple = FiveTuple {
         proto: 17,
         src: Ip::V4([10, 0, 0, 1]),
@@ -23,5 +39,5 @@ pub(crate) fn packet<R: Abort>(rt: &R) -> Packet {
         sport: 5000,
         dport: 1,
     };
-    Packet::try_new(tuple, 100, Ecn::NotEct).expect(rt, "a packet")
+    Packet::try_new(tuple, len, ecn).expect(rt, "a packet")
 }

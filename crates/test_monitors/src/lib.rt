@@ -5,4 +5,6 @@
 #[cfg(test)]
 mod fixtures;
 #[cfg(test)]
+mod kinds;
+#[cfg(test)]
 mod monitors;

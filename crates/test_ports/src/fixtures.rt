@@ -1,39 +1,38 @@
-//! The parameters, the seed and the packets of the tests, and what every one of them does with a port.
+//! The parameters, the seed and the packets of the tests, and how each of them ends. Where a step fails the test ends
+//! there: each `?` would be one more way out of a function, and its proof takes each of them.
 
 use packet_core::{Classify, Ecn, FiveTuple, Ip, Packet, ParamFields, Params, Seed};
 use port_core::{LockedPort, PortSeat};
-use sched_core::{Admitted, Engine, Event, Totals};
+use sched_core::{Engine, Event, Totals};
 use std::process::Abort;
-use std::sync::Wait;
 use std::sync::ledger::Ledger;
-use std::test::Fail;
 
 /// The seed of every port.
 pub(crate) const SEED: Seed = Seed([1, 2, 3, 4, 5, 6, 7, 8, 9, 10, 11, 12, 13, 14, 15, 16]);
 
-/// One flow, chosen by the destination port.
-pub(crate) fn one_flow() -> Result<Params, Fail> {
+/// So many flows, chosen by the destination port.
+pub(crate) fn flows<R: Abort>(rt: &R, flows: u32) -> Params {
     let mut fields = ParamFields::standard();
-    fields.flows = 1;
+    fields.flows = flows;
     fields.classify = Classify::Dport;
-    Ok(Params::try_new(fields)?)
+    Params::try_new(fields).expect(rt, "parameters")
 }
 
 /// 65,536 flows, chosen by a hash of the five-tuple and the seed.
-pub(crate) fn hashed() -> Result<Params, Fail> {
+pub(crate) fn hashed<R: Abort>(rt: &R) -> Params {
     let mut fields = ParamFields::standard();
     fields.flows = 65_536;
     fields.classify = Classify::Hash;
-    Ok(Params::try_new(fields)?)
+    Params::try_new(fields).expect(rt, "parameters")
 }
 
 /// A packet of 100 bytes to that destination port.
-pub(crate) fn packet(dport: u16) -> Result<Packet, Fail> {
-    packet_of(dport, 100)
+pub(crate) fn packet<R: Abort>(rt: &R, dport: u16) -> Packet {
+    packet_of(rt, dport, 100)
 }
 
 /// A packet of so many bytes to that destination port.
-pub(crate) fn packet_of(dport: u16, len: u32) -> Result<Packet, Fail> {
+pub(crate) fn packet_of<R: Abort>(rt: &R, dport: u16, len: u32) -> Packet {
     let tuple = FiveTuple {
         proto: 17,
         src: Ip::V4([10, 0, 0, 1]),
@@ -41,35 +40,19 @@ pub(crate) fn packet_of(dport: u16, len: u32) -> Result<Packet, Fail> {
         sport: 5000,
         dport,
     };
-    Ok(Packet::try_new(tuple, len, Ecn::NotEct)?)
+    Packet::try_new(tuple, len, Ecn::NotEct).expect(rt, "a packet")
 }
 
-/// The seat's call at `now` is answered with that id and that moment.
-pub(crate) fn accepts<A: Ledger, S: Ledger, R: Wait + Abort>(
-    rt: &R,
-    port: &LockedPort<A, S>,
-    seat: &mut PortSeat<A, S>,
-    now: u64,
-    wanted: (u64, u64),
-) -> Result<(), Fail> {
-    let Admitted { id, moment, .. } = port.enqueue(rt, seat, now, packet(53)?)?;
-    assert_eq!(rt; (id, moment), wanted);
-    Ok(())
-}
-
-/// The seat's dequeue at `now` gives the packet to that destination port, with that id and that moment.
-pub(crate) fn gives<A: Ledger, S: Ledger, R: Wait + Abort>(
-    rt: &R,
-    port: &LockedPort<A, S>,
-    seat: &mut PortSeat<A, S>,
-    now: u64,
-    wanted: (u64, u64, u16),
-) -> Result<(), Fail> {
-    let (id, moment, dport) = wanted;
-    let sent = port.dequeue(rt, seat, now)?.ok_or("a packet")?;
-    assert_eq!(rt; (sent.id, sent.moment), (id, moment));
-    assert_eq!(rt; sent.packet, packet(dport)?);
-    Ok(())
+/// A packet of IPv6.
+pub(crate) fn ipv6<R: Abort>(rt: &R, len: u32, ecn: Ecn) -> Packet {
+    let tuple = FiveTuple {
+        proto: 17,
+        src: Ip::V6([1; 16]),
+        dst: Ip::V6([2; 16]),
+        sport: 5000,
+        dport: 53,
+    };
+    Packet::try_new(tuple, len, ecn).expect(rt, "a packet")
 }
 
 /// The seat was told of those packets, in this order, and of no other.
@@ -90,9 +73,10 @@ pub(crate) fn counted(totals: &Totals) -> (u64, u64) {
 }
 
 /// The port with all its seats is settled.
-pub(crate) fn settled<A: Ledger, S: Ledger>(
+pub(crate) fn settled<A: Ledger, S: Ledger, R: Abort>(
+    rt: &R,
     port: LockedPort<A, S>,
     seats: Vec<PortSeat<A, S>>,
-) -> Result<Engine, Fail> {
-    Ok(port.settle(seats).ok().ok_or("an engine")?)
+) -> Engine {
+    port.settle(seats).ok().expect(rt, "an engine")
 }

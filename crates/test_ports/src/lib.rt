@@ -3,14 +3,16 @@
 #![tactic(auto)]
 
 #[cfg(test)]
-mod alone;
+mod calls;
 #[cfg(test)]
 mod fixtures;
 #[cfg(test)]
-mod journals;
+mod gates;
 #[cfg(test)]
-mod lengths;
+mod one_seat;
 #[cfg(test)]
 mod senders;
 #[cfg(test)]
 mod together;
+#[cfg(test)]
+mod two_seats;

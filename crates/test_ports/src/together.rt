@@ -3,7 +3,7 @@
 ghost use Rattle.std.specs.Prelude.{◌≡◌};
 ghost use denote.Param.Send.{IsSend, IsSync};
 
-use crate::fixtures::{SEED, counted, is_told, one_flow, packet, settled};
+use crate::fixtures::{SEED, counted, flows, is_told, packet, settled};
 use packet_core::Packet;
 use port_core::{Gate, LockedDone, LockedPort, Open, PortSeat, Stop, send_locked};
 use std::alloc::{AllocError, Global};
@@ -12,7 +12,6 @@ use std::process::Abort;
 use std::sync::Wait;
 use std::sync::atomic::{AtomicU64, Ordering};
 use std::sync::ledger::{Blank, Ledger};
-use std::test::Fail;
 use std::thread::{self, Threads};
 
 /// A sender's gate: from one call on it waits for the other sender's first answer.
@@ -95,117 +94,121 @@ fn seat_of<A: Ledger, S: Ledger, R: Abort>(
 
 /// Two senders that wait for one another's answers both come to their end.
 #[test]
-fn gate_locked(rt: HostRuntime) -> Result<(), Fail> {
-    at_a_gate::<Brand, Brand, _>(&rt, rt.alloc(), Blank::new(2), Blank::new(2))
-}
-
-fn at_a_gate<A: Ledger + Send + Sync, S: Ledger + Send + Sync, R: Threads + Wait + Abort + Sync>(
-    rt: &R,
-    alloc: Global,
-    accepted: Blank,
-    sent: Blank,
-) -> Result<(), Fail>
-    requires accepted { (accepted.name ≡ A.name) × (accepted.parts ≡ A.parts) × (A.parts ≡ 2) }
-    requires sent { (sent.name ≡ S.name) × (sent.parts ≡ S.parts) × (S.parts ≡ 2) }
-{
-    let (port, mut seats) = LockedPort::<A, S>::start(alloc, one_flow()?, SEED, 2, accepted, sent)?;
-    let one = seats.pop().ok_or("seat 1")?;
-    let zero = seats.pop().ok_or("seat 0")?;
-    let (zero, one) = at_once(rt, &port, (zero, one))?;
-    seats.push(seat_of(rt, zero, (2, Stop::Done)))?;
-    seats.push(seat_of(rt, one, (2, Stop::Done)))?;
-    assert_eq!(rt; counted(&settled(port, seats)?.totals()), (4, 0));
-    Ok(())
-}
-
-/// Each of the two senders has a thread of its own.
-fn at_once<A: Ledger + Send + Sync, S: Ledger + Send + Sync, R: Threads + Wait + Sync>(
-    rt: &R,
-    port: &LockedPort<A, S>,
-    seats: (PortSeat<A, S>, PortSeat<A, S>),
-) -> Result<(LockedDone<A, S>, LockedDone<A, S>), Fail> {
-    let packets = [(0, packet(53)?), (1, packet(54)?)];
-    let answered = (AtomicU64::new(0), AtomicU64::new(0));
-    let (zero, one) = jobs(seats, &packets, &answered);
-    Ok(thread::join(
-        rt,
-        move || send(rt, port, zero),
-        move || send(rt, port, one),
-    ))
+fn gate_locked(rt: HostRuntime) {
+    at_gates(&rt, rt.alloc(), true, [(2, Stop::Done), (2, Stop::Done)]);
 }
 
 /// The same senders one after the other: each would wait for the other's answer, and stops as stalled.
 #[test]
-fn senders_in_turn_stall(rt: HostRuntime) -> Result<(), Fail> {
-    at_a_closed_gate::<Brand, Brand, _>(&rt, rt.alloc(), Blank::new(2), Blank::new(2))
+fn senders_in_turn_stall(rt: HostRuntime) {
+    at_gates(
+        &rt,
+        rt.alloc(),
+        false,
+        [(0, Stop::Stalled), (1, Stop::Stalled)],
+    );
 }
 
-fn at_a_closed_gate<A: Ledger, S: Ledger, R: Wait + Abort>(
+/// The two senders, at once or in turn, make so many calls each and stop so.
+fn at_gates<R: Threads + Wait + Abort + Sync>(
     rt: &R,
     alloc: Global,
+    at_once: bool,
+    wanted: [(u64, Stop); 2],
+) {
+    at_two_seats::<Brand, Brand, _>(rt, alloc, at_once, wanted, Blank::new(2), Blank::new(2));
+}
+
+fn at_two_seats<A: Ledger + Send + Sync, S: Ledger + Send + Sync, R: Threads + Wait + Abort + Sync>(
+    rt: &R,
+    alloc: Global,
+    at_once: bool,
+    wanted: [(u64, Stop); 2],
     accepted: Blank,
     sent: Blank,
-) -> Result<(), Fail>
+)
     requires accepted { (accepted.name ≡ A.name) × (accepted.parts ≡ A.parts) × (A.parts ≡ 2) }
     requires sent { (sent.name ≡ S.name) × (sent.parts ≡ S.parts) × (S.parts ≡ 2) }
 {
-    let (port, mut seats) = LockedPort::<A, S>::start(alloc, one_flow()?, SEED, 2, accepted, sent)?;
-    let one = seats.pop().ok_or("seat 1")?;
-    let zero = seats.pop().ok_or("seat 0")?;
-    let (zero, one) = in_turn(rt, &port, (zero, one))?;
-    seats.push(seat_of(rt, zero, (0, Stop::Stalled)))?;
-    seats.push(seat_of(rt, one, (1, Stop::Stalled)))?;
-    assert_eq!(rt; counted(&settled(port, seats)?.totals()), (1, 0));
-    Ok(())
+    let params = flows(rt, 1);
+    let (port, mut seats) = LockedPort::<A, S>::start(
+        alloc, params, SEED, 2, accepted, sent,
+    ).expect(rt, "a port");
+    let one = seats.pop().expect(rt, "seat 1");
+    let zero = seats.pop().expect(rt, "seat 0");
+    let (zero, one) = both(rt, &port, (zero, one), at_once);
+    seats
+        .push(seat_of(rt, zero, wanted[0]))
+        .expect(rt, "memory");
+    seats.push(seat_of(rt, one, wanted[1])).expect(rt, "memory");
+    let calls = (wanted[0].0.min(9) + wanted[1].0.min(9), 0);
+    assert_eq!(rt; counted(&settled(rt, port, seats).totals()), calls);
 }
 
-fn in_turn<A: Ledger, S: Ledger, R: Wait>(
+/// Each of the two senders has a thread of its own, or one comes after the other.
+fn both<A: Ledger + Send + Sync, S: Ledger + Send + Sync, R: Threads + Wait + Abort + Sync>(
     rt: &R,
     port: &LockedPort<A, S>,
     seats: (PortSeat<A, S>, PortSeat<A, S>),
-) -> Result<(LockedDone<A, S>, LockedDone<A, S>), Fail> {
-    let packets = [(0, packet(53)?), (1, packet(54)?)];
+    at_once: bool,
+) -> (LockedDone<A, S>, LockedDone<A, S>) {
+    let packets = [(0, packet(rt, 53)), (1, packet(rt, 54))];
     let answered = (AtomicU64::new(0), AtomicU64::new(0));
     let (zero, one) = jobs(seats, &packets, &answered);
-    Ok((send(rt, port, zero), send(rt, port, one)))
+    if at_once {
+        thread::join(
+            rt,
+            move || send(rt, port, zero),
+            move || send(rt, port, one),
+        )
+    } else {
+        (send(rt, port, zero), send(rt, port, one))
+    }
 }
 
 /// Eight senders with a thousand packets each and a device that takes packets and reads the statistics meanwhile, each
 /// in a thread, ten times: whatever the schedule, each sender is told of its packets in their order, and the engine has
 /// all of them.
 #[test]
-fn eight_senders_lose_nothing(rt: HostRuntime) -> Result<(), Fail> {
+fn eight_senders_lose_nothing(rt: HostRuntime) {
     for _time in 0..10 {
-        at_nine_seats::<Brand, Brand, _>(&rt, rt.alloc(), Blank::new(9), Blank::new(9))?;
+        at_eight_senders(&rt, rt.alloc());
     }
-    Ok(())
 }
 
-/// A thousand packets, each to a port of its own.
-fn thousand(alloc: Global) -> Result<Vec<(u64, Packet)>, Fail> {
-    let mut packets = Vec::new(alloc);
-    for dport in 0..1_000u16 {
-        packets.push((u64::from(dport), packet(dport)?))?;
-    }
-    Ok(packets)
+fn at_eight_senders<R: Threads + Wait + Abort + Sync>(rt: &R, alloc: Global) {
+    at_nine_seats::<Brand, Brand, _>(rt, alloc, Blank::new(9), Blank::new(9));
 }
 
 fn at_nine_seats<
     A: Ledger + Send + Sync,
     S: Ledger + Send + Sync,
     R: Threads + Wait + Abort + Sync,
->(rt: &R, alloc: Global, accepted: Blank, sent: Blank) -> Result<(), Fail>
+>(rt: &R, alloc: Global, accepted: Blank, sent: Blank)
     requires accepted { (accepted.name ≡ A.name) × (accepted.parts ≡ A.parts) × (A.parts ≡ 9) }
     requires sent { (sent.name ≡ S.name) × (sent.parts ≡ S.parts) × (S.parts ≡ 9) }
 {
-    let (port, mut seats) = LockedPort::<A, S>::start(alloc, one_flow()?, SEED, 9, accepted, sent)?;
-    let device = seats.pop().ok_or("the device's seat")?;
-    let packets = thousand(alloc)?;
+    let params = flows(rt, 1);
+    let (port, mut seats) = LockedPort::<A, S>::start(
+        alloc, params, SEED, 9, accepted, sent,
+    ).expect(rt, "a port");
+    let device = seats.pop().expect(rt, "the device's seat");
+    let packets = thousand(rt, alloc);
     let (done, device) = senders_and_device(rt, &port, seats, &packets, device);
     let given = device.sent();
-    let seats = seats_told(rt, alloc, done?, &packets, device)?;
-    assert_eq!(rt; counted(&settled(port, seats)?.totals()), (8_000, given));
-    Ok(())
+    let seats = seats_told(rt, alloc, done.expect(rt, "memory"), &packets, device);
+    assert_eq!(rt; counted(&settled(rt, port, seats).totals()), (8_000, given));
+}
+
+/// A thousand packets, each to a port of its own.
+fn thousand<R: Abort>(rt: &R, alloc: Global) -> Vec<(u64, Packet)> {
+    let mut packets = Vec::new(alloc);
+    for dport in 0..1_000u16 {
+        packets
+            .push((u64::from(dport), packet(rt, dport)))
+            .expect(rt, "memory");
+    }
+    packets
 }
 
 /// The device dequeues while the senders send.
@@ -270,13 +273,13 @@ fn seats_told<A: Ledger, S: Ledger, R: Abort>(
     done: Vec<LockedDone<A, S>>,
     packets: &[(u64, Packet)],
     device: PortSeat<A, S>,
-) -> Result<Vec<PortSeat<A, S>>, Fail> {
+) -> Vec<PortSeat<A, S>> {
     let mut seats = Vec::new(alloc);
     for one in done {
         assert_eq!(rt; one.stop, Stop::Done);
         assert!(rt; is_told(&one.seat, packets));
-        seats.push(one.seat)?;
+        seats.push(one.seat).expect(rt, "memory");
     }
-    seats.push(device)?;
-    Ok(seats)
+    seats.push(device).expect(rt, "memory");
+    seats
 }

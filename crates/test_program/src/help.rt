@@ -1,10 +1,9 @@
 //! The texts of help.
 
-use program_core::program;
+use crate::runs::ends;
 use std::process::Abort;
 use std::str;
 use std::sync::Wait;
-use std::test::Fail;
 use std::thread::Threads;
 
 /// Runs the program with words that ask for help, on a trace that is wrong, and looks for these texts in what it
@@ -13,25 +12,20 @@ fn expect_help(
     rt: &(impl Abort + AllocGlobal + Threads + Wait + Sync),
     words: &[&str],
     texts: &[&str],
-) -> Result<(), Fail> {
+) {
     let mut written = Vec::new(rt.alloc());
-    let mut told = Vec::new(rt.alloc());
-    let mut trace = "foo\n".as_bytes();
-    let ended = program(rt, rt.alloc(), words, &mut trace, &mut written, &mut told);
-    let help = str::from_utf8(&written)?;
-    assert_eq!(rt; ended, 0);
-    assert_eq!(rt; told.len(), 0);
+    ends(rt, words, &mut "foo\n".as_bytes(), &mut written, 0, "");
+    let help = str::from_utf8(&written).expect(rt, "a text");
     for text in texts {
         assert!(rt; help.contains(text), "{text} isn't in {help}");
     }
     for line in help.lines() {
         assert!(rt; line.chars().count() <= 80, "{line}");
     }
-    Ok(())
 }
 
 #[test]
-fn help_on_the_program(rt: HostRuntime) -> Result<(), Fail> {
+fn help_on_the_program(rt: HostRuntime) {
     let texts = [
         "RFC 8290",
         "Usage: fqsim <COMMAND>\n",
@@ -45,13 +39,13 @@ fn help_on_the_program(rt: HostRuntime) -> Result<(), Fail> {
         "\n  1  ",
         "\n  2  ",
     ];
-    expect_help(&rt, &["--help"], &texts)?;
-    expect_help(&rt, &["help"], &texts)?;
-    expect_help(&rt, &["-h"], &texts[1..])
+    expect_help(&rt, &["--help"], &texts);
+    expect_help(&rt, &["help"], &texts);
+    expect_help(&rt, &["-h"], &texts[1..]);
 }
 
 #[test]
-fn help_on_the_parameters(rt: HostRuntime) -> Result<(), Fail> {
+fn help_on_the_parameters(rt: HostRuntime) {
     let texts = [
         "Usage: fqsim trace [OPTIONS] [PARAM]...\n",
         "--seed <HEX32>",
@@ -68,14 +62,14 @@ fn help_on_the_parameters(rt: HostRuntime) -> Result<(), Fail> {
         "  classify hash|dport                          hash\n",
         " us, usec, usecs, ms, msec, msecs, s, sec\nor secs",
     ];
-    expect_help(&rt, &["trace", "--help"], &texts)?;
-    expect_help(&rt, &["help", "trace"], &texts)?;
-    expect_help(&rt, &["trace", "flows", "0", "--help"], &texts)?;
-    expect_help(&rt, &["trace", "-h"], &texts[..2])
+    expect_help(&rt, &["trace", "--help"], &texts);
+    expect_help(&rt, &["help", "trace"], &texts);
+    expect_help(&rt, &["trace", "flows", "0", "--help"], &texts);
+    expect_help(&rt, &["trace", "-h"], &texts[..2]);
 }
 
 #[test]
-fn help_on_the_senders(rt: HostRuntime) -> Result<(), Fail> {
+fn help_on_the_senders(rt: HostRuntime) {
     let texts = [
         "Usage: fqsim locked [OPTIONS] [PARAM]...\n",
         "--seed <HEX32>",
@@ -87,13 +81,13 @@ fn help_on_the_senders(rt: HostRuntime) -> Result<(), Fail> {
         "\n  sender,I,SUBMITTED,ACCEPTED,LEFT\n",
         "'fqsim: settle'",
     ];
-    expect_help(&rt, &["locked", "--help"], &texts)?;
-    expect_help(&rt, &["help", "locked"], &texts)?;
-    expect_help(&rt, &["locked", "--senders", "3", "--help"], &texts)
+    expect_help(&rt, &["locked", "--help"], &texts);
+    expect_help(&rt, &["help", "locked"], &texts);
+    expect_help(&rt, &["locked", "--senders", "3", "--help"], &texts);
 }
 
 #[test]
-fn help_on_the_lanes(rt: HostRuntime) -> Result<(), Fail> {
+fn help_on_the_lanes(rt: HostRuntime) {
     let texts = [
         "Usage: fqsim lanes [OPTIONS] [PARAM]...\n",
         "--seed <HEX32>",
@@ -110,13 +104,13 @@ fn help_on_the_lanes(rt: HostRuntime) -> Result<(), Fail> {
         "\n  monitor I EVENTS ACCEPTED SENT DROPPED QUEUED\n",
         "'fqsim: lane LANE'",
     ];
-    expect_help(&rt, &["lanes", "--help"], &texts)?;
-    expect_help(&rt, &["help", "lanes"], &texts)?;
-    expect_help(&rt, &["lanes", "--monitors", "3", "--help"], &texts)
+    expect_help(&rt, &["lanes", "--help"], &texts);
+    expect_help(&rt, &["help", "lanes"], &texts);
+    expect_help(&rt, &["lanes", "--monitors", "3", "--help"], &texts);
 }
 
 #[test]
-fn help_on_the_formats(rt: HostRuntime) -> Result<(), Fail> {
+fn help_on_the_formats(rt: HostRuntime) {
     let texts = [
         "\n  version,2 ",
         "\n  enq,MOMENT,PROTO,SRC,DST,SPORT,DPORT,LEN,ECN ",
@@ -140,11 +134,11 @@ fn help_on_the_formats(rt: HostRuntime) -> Result<(), Fail> {
         "'fqsim: parameter word PLACE: NAME'",
         "'fqsim: row ROW: NAME'",
     ];
-    expect_help(&rt, &["trace", "--help"], &texts)
+    expect_help(&rt, &["trace", "--help"], &texts);
 }
 
 #[test]
-fn help_on_the_faults(rt: HostRuntime) -> Result<(), Fail> {
+fn help_on_the_faults(rt: HostRuntime) {
     let texts = [
         "\nFaults of a parameter word, ",
         "\n  UnknownWord   ",
@@ -162,25 +156,20 @@ fn help_on_the_faults(rt: HostRuntime) -> Result<(), Fail> {
         "\n  Read   ",
         "\n  Memory   ",
     ];
-    expect_help(&rt, &["trace", "--help"], &texts)
+    expect_help(&rt, &["trace", "--help"], &texts);
 }
 
 #[test]
-fn failed_writes_of_help_refused(rt: HostRuntime) -> Result<(), Fail> {
+fn failed_writes_of_help_refused(rt: HostRuntime) {
     let mut taken = [0; 5];
-    let mut told = Vec::new(rt.alloc());
-    let mut trace = "deq,0\n".as_bytes();
     let mut room = &mut taken[..];
-    let ended = program(
+    ends(
         &rt,
-        rt.alloc(),
         &["--help"],
-        &mut trace,
+        &mut "deq,0\n".as_bytes(),
         &mut room,
-        &mut told,
+        1,
+        "fqsim: write\n",
     );
-    assert_eq!(rt; str::from_utf8(&told)?, "fqsim: write\n");
-    assert_eq!(rt; str::from_utf8(&taken)?, "Run a");
-    assert_eq!(rt; ended, 1);
-    Ok(())
+    assert_eq!(rt; &taken, b"Run a");
 }

@@ -13,21 +13,20 @@ use std::marker::Brand;
 use std::process::Abort;
 use std::sync::Wait;
 use std::sync::atomic::{AtomicU64, Ordering};
-use std::test::Fail;
 use std::thread::{self, Threads};
 
 /// Sender 1's second call waits for the answer of sender 0's first, and every other call for that of sender 1's first.
 /// All of them wait for the device, which looks for sender 1's first packet. So no list can be sent after another one,
 /// nor before or after the device's part: on one thread a gate would stay closed.
 #[test]
-fn gate_lanes(rt: HostRuntime) -> Result<(), Fail> {
-    by_gates::<Brand, _>(&rt, rt.alloc(), BookBlank::new(), 2)
+fn gate_lanes(rt: HostRuntime) {
+    by_gates::<Brand, _>(&rt, rt.alloc(), BookBlank::new(), 2);
 }
 
 /// The same with 62 other senders, which are held as sender 0 is.
 #[test]
-fn gate_lanes_of_64_senders(rt: HostRuntime) -> Result<(), Fail> {
-    by_gates::<Brand, _>(&rt, rt.alloc(), BookBlank::new(), 64)
+fn gate_lanes_of_64_senders(rt: HostRuntime) {
+    by_gates::<Brand, _>(&rt, rt.alloc(), BookBlank::new(), 64);
 }
 
 fn by_gates<J: BookName, R: Threads + Wait + Abort + Sync>(
@@ -35,38 +34,40 @@ fn by_gates<J: BookName, R: Threads + Wait + Abort + Sync>(
     alloc: Global,
     blank: BookBlank,
     senders: u32,
-) -> Result<(), Fail>
+)
     requires book { blank ≡ J.book }
     requires senders { (0 < senders) × (senders ≤ 64) }
 {
-    let params = read_params(&["classify", "dport", "flows", "4"])?;
+    let params = read_params(&["classify", "dport", "flows", "4"]).expect(rt, "parameters");
     let layout = Layout {
         lanes: senders,
         capacity: 2,
         monitors: 0,
     };
-    let opened = lanes::<J, _>(rt, alloc, blank, params, Seed([0; 16]), layout)?;
-    send_by_gates(rt, alloc, opened)
+    let opened = lanes::<J, _>(rt, alloc, blank, params, Seed([0; 16]), layout).expect(rt, "lanes");
+    send_by_gates(rt, alloc, opened);
 }
 
 /// Two packets for each of so many senders.
-fn lists(alloc: Global, senders: usize) -> Result<Vec<Vec<Packet>>, Fail> {
+fn lists<R: Abort>(rt: &R, alloc: Global, senders: usize) -> Vec<Vec<Packet>> {
     let mut lists = Vec::new(alloc);
     for _ in 0..senders {
-        lists.push(vec![in alloc; packet(1)?, packet(2)?]?)?;
+        let two = vec![in alloc; packet(rt, 1), packet(rt, 2)].expect(rt, "memory");
+        lists.push(two).expect(rt, "memory");
     }
-    Ok(lists)
+    lists
 }
 
 /// The gates of so many senders: the second is held at its second call, and each other at its first.
-fn gates<'a>(
+fn gates<'a, R: Abort>(
+    rt: &R,
     alloc: Global,
     senders: usize,
     zero: &'a AtomicU64,
     one: &'a AtomicU64,
     others: &'a AtomicU64,
     open: &'a AtomicU64,
-) -> Result<Vec<Held<'a>>, Fail> {
+) -> Vec<Held<'a>> {
     let mut gates = Vec::new(alloc);
     for sender in 0..senders {
         let (first_held, asked, asked_there) = match sender {
@@ -74,14 +75,15 @@ fn gates<'a>(
             1 => (2, one, zero),
             _ => (1, others, one),
         };
-        gates.push(Held {
+        let held = Held {
             first_held,
             asked,
             asked_there,
             open,
-        })?;
+        };
+        gates.push(held).expect(rt, "memory");
     }
-    Ok(gates)
+    gates
 }
 
 /// Senders that wait for one another's answers and for the device.
@@ -89,7 +91,7 @@ fn send_by_gates<J: BookName, X: Screen<Shown<J>> + Drop, R: Threads + Abort + S
     rt: &R,
     alloc: Global,
     opened: Opened<J, X>,
-) -> Result<(), Fail> {
+) {
     let Opened {
         senders,
         device,
@@ -98,18 +100,16 @@ fn send_by_gates<J: BookName, X: Screen<Shown<J>> + Drop, R: Threads + Abort + S
     let (zero, one, others) = (AtomicU64::new(0), AtomicU64::new(0), AtomicU64::new(0));
     let open = AtomicU64::new(0);
     let count = senders.len();
-    let lists = lists(alloc, count)?;
-    let gates = gates(alloc, count, &zero, &one, &others, &open)?;
-    if lists.len() != count || gates.len() != count {
-        return Err("as many lists and gates as senders".into());
-    }
-    let (done, took) = send_held(rt, alloc, senders, device, &lists, &gates, (&one, &open))?;
+    let lists = lists(rt, alloc, count);
+    let gates = gates(rt, alloc, count, &zero, &one, &others, &open);
+    assert!(rt; lists.len() == count && gates.len() == count);
+    let (done, took) = send_held(rt, alloc, senders, device, &lists, &gates, (&one, &open));
     assert!(rt; took);
-    are_done(rt, count, done)
+    are_done(rt, count, done);
 }
 
 /// Starts the senders with these gates, and gives what they did and whether the device accepted the one packet.
-fn send_held<J: BookName, X: Screen<Shown<J>> + Drop, R: Threads + Sync>(
+fn send_held<J: BookName, X: Screen<Shown<J>> + Drop, R: Threads + Abort + Sync>(
     rt: &R,
     alloc: Global,
     senders: Vec<LaneSender>,
@@ -117,13 +117,15 @@ fn send_held<J: BookName, X: Screen<Shown<J>> + Drop, R: Threads + Sync>(
     lists: &[Vec<Packet>],
     gates: &[Held<'_>],
     one_and_open: (&AtomicU64, &AtomicU64),
-) -> Result<(Vec<LaneDone>, bool), Fail>
+) -> (Vec<LaneDone>, bool)
     requires { (length lists.now ≡ length senders.items) × (length gates.now ≡ length senders.items) }
 {
     let (one, open) = one_and_open;
     let part = move || takes_one(device, one, open);
-    let (done, (device, took)) = start_lanes(rt, alloc, senders, lists, gates, part)?;
-    Ok((done, took && device.engine().totals().accepted == 1))
+    let (done, (device, took)) = start_lanes(rt, alloc, senders, lists, gates, part).expect(
+        rt, "memory",
+    );
+    (done, took && device.engine().totals().accepted == 1)
 }
 
 /// The device's part: once sender 1 has asked for its second call, it takes that sender's first packet, and sees that
@@ -165,11 +167,10 @@ fn pumps<J: BookName, X: Screen<Shown<J>> + Drop>(
 }
 
 /// Each of so many senders submitted both of its packets, and its lane has an end.
-fn are_done<R: Abort>(rt: &R, senders: usize, done: Vec<LaneDone>) -> Result<(), Fail> {
+fn are_done<R: Abort>(rt: &R, senders: usize, done: Vec<LaneDone>) {
     assert_eq!(rt; done.len(), senders);
     for sender in done {
         assert_eq!(rt; (sender.submitted, sender.stop), (2, Stop::Done));
         assert!(rt; sender.end.is_some());
     }
-    Ok(())
 }

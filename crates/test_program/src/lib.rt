@@ -1,6 +1,6 @@
 //! Tests of the program where a run of it from outside shows nothing: readers and writers that fail, faults that no
-//! trace brings about, seeds as bytes, the texts of help, and senders that are
-//! held up. `.ci/cli-table` and `examples/` have the other runs.
+//! trace brings about, seeds as bytes, the texts of help, and senders that are held up. `.ci/cli-table` and `examples/`
+//! have the other runs. Where a step fails the test ends there: each `?` would be one more way out of a function.
 #![tactic(auto)]
 
 #[cfg(test)]
@@ -15,6 +15,8 @@ mod lanes;
 mod locked;
 #[cfg(test)]
 mod packets;
+#[cfg(test)]
+mod runs;
 #[cfg(test)]
 mod seeds;
 #[cfg(test)]

@@ -11,7 +11,6 @@ use std::process::Abort;
 use std::sync::Wait;
 use std::sync::atomic::{AtomicU64, Ordering};
 use std::sync::ledger::{Blank, Ledger};
-use std::test::Fail;
 use std::thread::Threads;
 
 /// Holds a sender's calls, from the first that it is to hold on, until one of the other sender's was answered.
@@ -31,16 +30,16 @@ impl Gate for Side<'_> {
 }
 
 /// Sender 0's first call waits for the answer of sender 1's first, and sender 1's second for that of sender 0's first.
-/// So neither list can be sent behind the other: on one thread a gate would stay closed.
+/// So neither list can be sent after the other: on one thread a gate would stay closed.
 #[test]
-fn gate_locked(rt: HostRuntime) -> Result<(), Fail> {
-    at_gates::<Brand, Brand, _>(&rt, rt.alloc(), 2, Blank::new(3), Blank::new(3))
+fn gate_locked(rt: HostRuntime) {
+    at_gates::<Brand, Brand, _>(&rt, rt.alloc(), 2, Blank::new(3), Blank::new(3));
 }
 
 /// The same while 62 other senders send as they like.
 #[test]
-fn gate_locked_of_64_senders(rt: HostRuntime) -> Result<(), Fail> {
-    at_gates::<Brand, Brand, _>(&rt, rt.alloc(), 64, Blank::new(65), Blank::new(65))
+fn gate_locked_of_64_senders(rt: HostRuntime) {
+    at_gates::<Brand, Brand, _>(&rt, rt.alloc(), 64, Blank::new(65), Blank::new(65));
 }
 
 /// So many senders and the device, of which the first two wait for one another.
@@ -50,12 +49,12 @@ fn at_gates<A: Ledger + Send + Sync, S: Ledger + Send + Sync, R: Threads + Wait 
     senders: u32,
     accepted: Blank,
     sent: Blank,
-) -> Result<(), Fail>
+)
     requires few { (0 < senders) × (senders ≤ 64) }
     requires accepted { (accepted.name ≡ A.name) × (accepted.parts ≡ A.parts) × (A.parts ≡ senders + 1) }
     requires sent { (sent.name ≡ S.name) × (sent.parts ≡ S.parts) × (S.parts ≡ senders + 1) }
 {
-    let params = read_params(&["classify", "dport", "flows", "4"])?;
+    let params = read_params(&["classify", "dport", "flows", "4"]).expect(rt, "parameters");
     let seed = Seed([0; 16]);
     let (port, mut seats) = LockedPort::<A, S>::start(
         alloc,
@@ -64,31 +63,32 @@ fn at_gates<A: Ledger + Send + Sync, S: Ledger + Send + Sync, R: Threads + Wait 
         senders + 1,
         accepted,
         sent,
-    )?;
-    let device = seats.pop().ok_or("the device's seat")?;
-    let seats = send_by_gates(rt, alloc, &port, seats, device)?;
-    let engine = port.settle(seats).ok().ok_or("it settles")?;
+    ).expect(rt, "a port");
+    let device = seats.pop().expect(rt, "the device's seat");
+    let seats = send_by_gates(rt, alloc, &port, seats, device);
+    let engine = port.settle(seats).ok().expect(rt, "an engine");
     assert_eq!(rt; engine.totals().accepted, 2 * u64::from(senders));
-    Ok(())
 }
 
 /// Two packets for each of so many senders.
-fn lists(alloc: Global, senders: usize) -> Result<Vec<Vec<(u64, Packet)>>, Fail> {
+fn lists<R: Abort>(rt: &R, alloc: Global, senders: usize) -> Vec<Vec<(u64, Packet)>> {
     let mut lists = Vec::new(alloc);
     for _ in 0..senders {
-        lists.push(vec![in alloc; (0u64, packet(1)?), (1, packet(2)?)]?)?;
+        let two = vec![in alloc; (0u64, packet(rt, 1)), (1, packet(rt, 2))].expect(rt, "memory");
+        lists.push(two).expect(rt, "memory");
     }
-    Ok(lists)
+    lists
 }
 
 /// The gates of so many senders: the first two hold one another, and the others are open.
-fn sides<'a>(
+fn sides<'a, R: Abort>(
+    rt: &R,
     alloc: Global,
     senders: usize,
     zero: &'a AtomicU64,
     one: &'a AtomicU64,
     others: &'a AtomicU64,
-) -> Result<Vec<Side<'a>>, Fail> {
+) -> Vec<Side<'a>> {
     let mut sides = Vec::new(alloc);
     for sender in 0..senders {
         let (first_held, answered, answered_there) = match sender {
@@ -96,13 +96,14 @@ fn sides<'a>(
             1 => (2, one, zero),
             _ => (u64::MAX, others, others),
         };
-        sides.push(Side {
+        let side = Side {
             first_held,
             answered,
             answered_there,
-        })?;
+        };
+        sides.push(side).expect(rt, "memory");
     }
-    Ok(sides)
+    sides
 }
 
 /// Senders, two of which wait for one another's answers, while the device asks for a packet. Gives their seats and its
@@ -117,35 +118,35 @@ fn send_by_gates<
     port: &LockedPort<A, S>,
     seats: Vec<PortSeat<A, S>>,
     device: PortSeat<A, S>,
-) -> Result<Vec<PortSeat<A, S>>, Fail> {
-    let lists = lists(alloc, seats.len())?;
+) -> Vec<PortSeat<A, S>> {
+    let lists = lists(rt, alloc, seats.len());
     let (zero, one, others) = (AtomicU64::new(0), AtomicU64::new(0), AtomicU64::new(0));
-    let gates = sides(alloc, seats.len(), &zero, &one, &others)?;
-    if lists.len() != seats.len() || gates.len() != seats.len() {
-        return Err("as many lists and gates as seats".into());
-    }
+    let gates = sides(rt, alloc, seats.len(), &zero, &one, &others);
+    assert!(rt; lists.len() == seats.len() && gates.len() == seats.len());
     let part = move || {
         let mut device = device;
         let _ = port.dequeue(rt, &mut device, 0);
         device
     };
-    let (done, device) = start_locked(rt, alloc, port, seats, &lists, &gates, part)?;
+    let (done, device) = start_locked(rt, alloc, port, seats, &lists, &gates, part).expect(
+        rt, "memory",
+    );
     seats_of(rt, alloc, done, device)
 }
 
-/// The seats of senders that made both their calls, and the device's behind them.
+/// The seats of senders that made both their calls, and the device's after them.
 fn seats_of<A: Ledger, S: Ledger, R: Abort>(
     rt: &R,
     alloc: Global,
     done: Vec<LockedDone<A, S>>,
     device: PortSeat<A, S>,
-) -> Result<Vec<PortSeat<A, S>>, Fail> {
+) -> Vec<PortSeat<A, S>> {
     let mut seats = Vec::new(alloc);
     for sender in done {
         assert_eq!(rt; (sender.calls, sender.stop), (2, Stop::Done));
         assert_eq!(rt; sender.seat.accepted(), 2);
-        seats.push(sender.seat)?;
+        seats.push(sender.seat).expect(rt, "memory");
     }
-    seats.push(device)?;
-    Ok(seats)
+    seats.push(device).expect(rt, "memory");
+    seats
 }

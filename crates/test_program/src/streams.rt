@@ -1,10 +1,10 @@
 //! Readers and writers that are slow, and that fail.
 
+use crate::runs::ends;
 use program_core::program;
 use std::io::{ErrorKind, Read, Write};
 use std::process::Abort;
 use std::sync::Wait;
-use std::test::Fail;
 use std::thread::Threads;
 use std::{io, str};
 
@@ -156,12 +156,12 @@ impl Write for Interrupted<Vec<u8>> {
 fn expect_interrupted(
     rt: &(impl Abort + AllocGlobal + Threads + Wait + Sync),
     trace: &str,
-    reads: u32,
-    writes: u32,
+    interruptions: (u32, u32),
     status: u8,
     report: &str,
     faults: &str,
-) -> Result<(), Fail> {
+) {
+    let (reads, writes) = interruptions;
     let mut reader = Interrupted {
         stream: trace.as_bytes(),
         left: reads,
@@ -170,14 +170,10 @@ fn expect_interrupted(
         stream: Vec::new(rt.alloc()),
         left: writes,
     };
-    let mut told = Vec::new(rt.alloc());
-    let ended = program(rt, rt.alloc(), &WORDS, &mut reader, &mut writer, &mut told);
-    assert_eq!(rt; str::from_utf8(&told)?, faults);
-    assert_eq!(rt; str::from_utf8(&writer.stream)?, report);
-    assert_eq!(rt; ended, status);
+    ends(rt, &WORDS, &mut reader, &mut writer, status, faults);
+    assert_eq!(rt; str::from_utf8(&writer.stream).ok(), Some(report));
     // Each call that was interrupted was made, and none after the last one.
     assert_eq!(rt; reader.left, reads.saturating_sub(1_001));
-    Ok(())
 }
 
 /// Runs the program on a trace that comes from a reader, and compares what it writes and how it ends.
@@ -187,18 +183,14 @@ fn expect_from<R: Read>(
     status: u8,
     report: &str,
     faults: &str,
-) -> Result<(), Fail> {
+) {
     let mut written = Vec::new(rt.alloc());
-    let mut told = Vec::new(rt.alloc());
-    let ended = program(rt, rt.alloc(), &WORDS, reader, &mut written, &mut told);
-    assert_eq!(rt; str::from_utf8(&told)?, faults);
-    assert_eq!(rt; str::from_utf8(&written)?, report);
-    assert_eq!(rt; ended, status);
-    Ok(())
+    ends(rt, &WORDS, reader, &mut written, status, faults);
+    assert_eq!(rt; str::from_utf8(&written).ok(), Some(report));
 }
 
-/// Runs the program on a trace of one dequeue with a writer that takes so many bytes at once, and compares how it
-/// ends and what the writer took.
+/// Runs the program on a trace of one dequeue with a writer that takes so many bytes at once, and has room for so many,
+/// and compares how it ends and what the writer took.
 fn expect_taken(
     rt: &(impl Abort + AllocGlobal + Threads + Wait + Sync),
     at_once: usize,
@@ -206,23 +198,25 @@ fn expect_taken(
     status: u8,
     report: &str,
     faults: &str,
-) -> Result<(), Fail> {
+) {
     let mut writer = NarrowWriter {
         taken: Vec::new(rt.alloc()),
         at_once,
         room,
     };
-    let mut told = Vec::new(rt.alloc());
-    let mut trace = ONE_DEQUEUE.as_bytes();
-    let ended = program(rt, rt.alloc(), &WORDS, &mut trace, &mut writer, &mut told);
-    assert_eq!(rt; str::from_utf8(&told)?, faults);
-    assert_eq!(rt; str::from_utf8(&writer.taken)?, report);
-    assert_eq!(rt; ended, status);
-    Ok(())
+    ends(
+        rt,
+        &WORDS,
+        &mut ONE_DEQUEUE.as_bytes(),
+        &mut writer,
+        status,
+        faults,
+    );
+    assert_eq!(rt; str::from_utf8(&writer.taken).ok(), Some(report));
 }
 
 #[test]
-fn failed_reads_refused(rt: HostRuntime) -> Result<(), Fail> {
+fn failed_reads_refused(rt: HostRuntime) {
     let faults = "fqsim: row 0: Read\n";
     let trace = b"deq,0\nfoo\n";
     for count in 0..=trace.len() {
@@ -230,41 +224,61 @@ fn failed_reads_refused(rt: HostRuntime) -> Result<(), Fail> {
             text: &trace[..count],
             failure: ErrorKind::BrokenPipe,
         };
-        expect_from(&rt, &mut reader, 1, "", faults)?;
+        expect_from(&rt, &mut reader, 1, "", faults);
     }
-    Ok(())
 }
 
 #[test]
-fn interruptions_are_tried_again(rt: HostRuntime) -> Result<(), Fail> {
+fn interruptions_are_tried_again(rt: HostRuntime) {
     for (trace, report) in [(ONE_DEQUEUE, IDLE), (CLOSING, CLOSED)] {
-        expect_interrupted(&rt, trace, 1_000, 1_000, 0, report, "")?;
-        expect_interrupted(&rt, trace, 1_001, 0, 1, "", "fqsim: row 0: Read\n")?;
-        expect_interrupted(&rt, trace, 2_000, 0, 1, "", "fqsim: row 0: Read\n")?;
-        expect_interrupted(&rt, trace, 0, 1_001, 1, "", "fqsim: write\n")?;
+        expect_interrupted(&rt, trace, (1_000, 1_000), 0, report, "");
+        expect_interrupted(&rt, trace, (1_001, 0), 1, "", "fqsim: row 0: Read\n");
+        expect_interrupted(&rt, trace, (2_000, 0), 1, "", "fqsim: row 0: Read\n");
+        expect_interrupted(&rt, trace, (0, 1_001), 1, "", "fqsim: write\n");
     }
-    Ok(())
 }
 
 #[test]
-fn slow_readers_are_read(rt: HostRuntime) -> Result<(), Fail> {
+fn slow_readers_are_read(rt: HostRuntime) {
     let report = "idle\nclosed\ntotals,0,0,0,0,0,0,0,0,0,0,0,closed\n";
     let mut reader = SlowReader(b"deq,0\nclose,1\n");
-    expect_from(&rt, &mut reader, 0, report, "")
+    expect_from(&rt, &mut reader, 0, report, "");
+}
+
+/// Words that are wrong are told before anything is read, by each of the commands.
+#[test]
+fn wrong_words_read_nothing(rt: HostRuntime) {
+    for command in ["trace", "locked", "lanes"] {
+        expect_unread(&rt, &[command, "--seed", "0"], "fqsim: seed\n");
+        let fault = "fqsim: parameter word 2: OutOfRange\n";
+        expect_unread(&rt, &[command, "flows", "0"], fault);
+    }
+}
+
+/// Runs the program with words that are wrong, and sees that it reads nothing.
+fn expect_unread(
+    rt: &(impl Abort + AllocGlobal + Threads + Wait + Sync),
+    words: &[&str],
+    faults: &str,
+) {
+    let mut written = Vec::new(rt.alloc());
+    let mut reader = ONE_DEQUEUE.as_bytes();
+    ends(rt, words, &mut reader, &mut written, 2, faults);
+    assert_eq!(rt; (written.len(), reader.len()), (0, ONE_DEQUEUE.len()));
 }
 
 #[test]
-fn slow_writers_are_written(rt: HostRuntime) -> Result<(), Fail> {
-    expect_taken(&rt, 1, 1_000, 0, IDLE, "")?;
-    expect_taken(&rt, 3, 1_000, 0, IDLE, "")
+fn slow_writers_are_written(rt: HostRuntime) {
+    expect_taken(&rt, 1, 1_000, 0, IDLE, "");
+    expect_taken(&rt, 3, 1_000, 0, IDLE, "");
 }
 
 #[test]
-fn failed_writes_refused(rt: HostRuntime) -> Result<(), Fail> {
+fn failed_writes_refused(rt: HostRuntime) {
     let faults = "fqsim: write\n";
-    expect_taken(&rt, 1_000, 0, 1, "", faults)?;
-    expect_taken(&rt, 1_000, 7, 1, "idle\nto", faults)?;
-    expect_taken(&rt, 1, 7, 1, "idle\nto", faults)?;
+    expect_taken(&rt, 1_000, 0, 1, "", faults);
+    expect_taken(&rt, 1_000, 7, 1, "idle\nto", faults);
+    expect_taken(&rt, 1, 7, 1, "idle\nto", faults);
 
     // The second write fails, then the third, up to the last.
     let fronts = [
@@ -277,50 +291,58 @@ fn failed_writes_refused(rt: HostRuntime) -> Result<(), Fail> {
         "idle\ntotals,0,0,0,0,0,0,0,0,0,0,0,o",
     ];
     for front in fronts {
-        expect_taken(&rt, 5, front.len(), 1, front, faults)?;
+        expect_taken(&rt, 5, front.len(), 1, front, faults);
     }
-    Ok(())
 }
 
 #[test]
-fn writes_that_take_nothing_refused(rt: HostRuntime) -> Result<(), Fail> {
-    expect_taken(&rt, 0, 1_000, 1, "", "fqsim: write\n")?;
+fn writes_that_take_nothing_refused(rt: HostRuntime) {
+    expect_taken(&rt, 0, 1_000, 1, "", "fqsim: write\n");
 
     // A slice takes what it has room for, and then nothing.
     let mut taken = [0; 7];
-    let mut told = Vec::new(rt.alloc());
-    let mut trace = "deq,0\n".as_bytes();
     let mut room = &mut taken[..];
-    let ended = program(&rt, rt.alloc(), &WORDS, &mut trace, &mut room, &mut told);
-    assert_eq!(rt; str::from_utf8(&told)?, "fqsim: write\n");
-    assert_eq!(rt; str::from_utf8(&taken)?, "idle\nto");
-    assert_eq!(rt; ended, 1);
-    Ok(())
+    ends(
+        &rt,
+        &WORDS,
+        &mut ONE_DEQUEUE.as_bytes(),
+        &mut room,
+        1,
+        "fqsim: write\n",
+    );
+    assert_eq!(rt; &taken, b"idle\nto");
 }
 
 #[test]
-fn a_write_that_takes_nothing_is_the_last_one(rt: HostRuntime) -> Result<(), Fail> {
+fn a_write_that_takes_nothing_is_the_last_one(rt: HostRuntime) {
     // It is no interruption, so there is no other write, though that would take all.
     for front in [0, 1, 7, CLOSED.len() - 1] {
-        let mut writer = PausingWriter {
-            taken: Vec::new(rt.alloc()),
-            front,
-            has_paused: false,
-            calls: 0,
-        };
-        let mut told = Vec::new(rt.alloc());
-        let mut trace = CLOSING.as_bytes();
-        let ended = program(&rt, rt.alloc(), &WORDS, &mut trace, &mut writer, &mut told);
-        assert_eq!(rt; str::from_utf8(&told)?, "fqsim: write\n");
-        assert_eq!(rt; str::from_utf8(&writer.taken)?, &CLOSED[..front]);
-        assert_eq!(rt; writer.calls, if front == 0 { 1 } else { 2 });
-        assert_eq!(rt; ended, 1);
+        expect_paused(&rt, front);
     }
-    Ok(())
+}
+
+/// Runs the program with a writer that pauses after so many bytes.
+fn expect_paused(rt: &(impl Abort + AllocGlobal + Threads + Wait + Sync), front: usize) {
+    let mut writer = PausingWriter {
+        taken: Vec::new(rt.alloc()),
+        front,
+        has_paused: false,
+        calls: 0,
+    };
+    ends(
+        rt,
+        &WORDS,
+        &mut CLOSING.as_bytes(),
+        &mut writer,
+        1,
+        "fqsim: write\n",
+    );
+    assert_eq!(rt; str::from_utf8(&writer.taken).ok(), CLOSED.get(..front));
+    assert_eq!(rt; writer.calls, if front == 0 { 1 } else { 2 });
 }
 
 #[test]
-fn a_fault_that_cannot_be_told_keeps_its_status(rt: HostRuntime) -> Result<(), Fail> {
+fn a_fault_that_cannot_be_told_keeps_its_status(rt: HostRuntime) {
     let mut faults = NarrowWriter {
         taken: Vec::new(rt.alloc()),
         at_once: 1_000,
@@ -336,7 +358,5 @@ fn a_fault_that_cannot_be_told_keeps_its_status(rt: HostRuntime) -> Result<(), F
         &mut report,
         &mut faults,
     );
-    assert_eq!(rt; ended, 2);
-    assert_eq!(rt; report.len(), 0);
-    Ok(())
+    assert_eq!(rt; (ended, report.len()), (2, 0));
 }

@@ -1,4 +1,4 @@
-use Rattle.test_ports.proofs.alone.settles_with_all_seats_alone.Given as goal
+use Rattle.test_ports.proofs.together.at_gates.Given as goal
 
 abbrev pub ghosts-at_two_seats-A-Ledger : goal.ghosts-at_two_seats-A-Ledger
 ghosts-at_two_seats-A-Ledger g a = record { name = a.accepted.name; parts = a.accepted.parts }

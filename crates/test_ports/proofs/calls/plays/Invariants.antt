@@ -1,4 +1,4 @@
-use Rattle.test_ports.proofs.alone.locked_moments_rise.Given as goal
+use Rattle.test_ports.proofs.calls.plays.Given as goal
 
 abbrev pub ghosts-at_one_seat-A-Ledger : goal.ghosts-at_one_seat-A-Ledger
 ghosts-at_one_seat-A-Ledger g a = record { name = a.accepted.name; parts = a.accepted.parts }

@@ -1,4 +1,4 @@
-use Rattle.test_ports.proofs.together.eight_senders_lose_nothing.Given as goal
+use Rattle.test_ports.proofs.together.at_eight_senders.Given as goal
 
 abbrev pub ghosts-at_nine_seats-A-Ledger : goal.ghosts-at_nine_seats-A-Ledger
 ghosts-at_nine_seats-A-Ledger g a = record { name = a.accepted.name; parts = a.accepted.parts }
