@@ -118,6 +118,10 @@ pub record IsSent (rings : List RingId) (lane : ℕ) (packets : List PacketParts
   pub fits : FitsLane rings lane done
   pub whole : done.stop ≡ stop.Done → IfSome done.end (λ e. e.submitted ≡ packets)
 
+-- Monitors are shown the whole journal.
+abbrev pub ShowsAll : Holding → Type 0
+ShowsAll h = h.published.shown ≡ h.engine.sched.standing.events
+
 -- The device is the one that it was: the rings of its lanes stay, and what its engine was made with.
 pub record IsSameDevice (old new : Holding) : Type 0 where
   pub rings : rings_of new.lanes ≡ rings_of old.lanes

@@ -3,13 +3,14 @@ ghost use Rattle.std.specs.Prelude.{◌≡◌, ◌≢◌, ◌≤◌, ◌<◌, �
 ghost use Rattle.std.specs.Io.KnownBytes.{Appends, Keeps};
 ghost use denote.Param.Send.{IsSync};
 ghost use Rattle.command_core.specs.declared.command_line.TheConstants.{MAX_MONITORS, MAX_SENDERS};
+ghost use Rattle.journal_core.specs.declared.step.Step.TheVariants.{Dequeue};
 ghost use Rattle.port_core.specs.Devices.{AreNewLanes, rings_of};
 ghost use Rattle.port_core.specs.Lanes.{LaneView, accepted};
 ghost use Rattle.port_core.specs.declared.gate.Stop.TheVariants as stop;
 ghost use Rattle.port_core.specs.declared.opening.TheConstants.{MAX_CAPACITY};
 ghost use Rattle.program_core.specs.DeviceRuns.{Dequeues, EmptiesLane, EndsRun, Finishes, HasServed, IsAny, IsBurst, IsDeviceRun, IsIdle, PumpsAll, ServesRow, closed_at, has_close, last_moment};
 ghost use Rattle.program_core.specs.Faults.{IsLanesFault, IsLanesRunFault};
-ghost use Rattle.program_core.specs.Journals.{AreLaneRows, AreLanesJournal, FitsLane, IsLaneRow, IsLanesRunOf, IsSameDevice, submitted_of};
+ghost use Rattle.program_core.specs.Journals.{AreLaneRows, AreLanesJournal, FitsLane, IsLaneRow, IsLanesRunOf, IsSameDevice, ShowsAll, submitted_of};
 ghost use Rattle.program_core.specs.Runs.{IsSendersRunFor};
 ghost use Rattle.program_core.specs.Watched.{IsSeen, TellsSeen};
 ghost use Rattle.program_core.specs.declared.program_run.ProgramFault.TheVariants as program_fault;
@@ -37,7 +38,8 @@ use trace_core::{SenderRow, read_trace, write_journal};
 const BURST: u64 = 64;
 
 /// Reads a trace, makes its run through lanes, with the seed and the parameters that were asked for, and writes the
-/// journal; on `told` it reports what each monitor saw, in lines that may be cut where memory or a write is refused. The seed is read first, then the parameters, then the trace.
+/// journal; on `told` it reports what each monitor saw, in lines that may be cut where memory or a write is refused. The
+/// seed is read first, then the parameters, then the trace.
 pub fn simulate_lanes<H: Threads + Wait + Sync, R: Read, W: Write, F: Write>(
     rt: &H,
     alloc: Global,
@@ -198,6 +200,7 @@ fn run_device<J: BookName, X: Screen<Shown<J>> + Drop, H: Threads + Sync>(
     requires lanes { AreNewLanes senders.items device.lanes (length lists.now) }
     requires number { length lists.now ≤ MAX_SENDERS }
     ensures made { IfOk result (λ r. IsLanesRunOf device steps.now lists.now r.0.engine r.1.items) }
+    ensures shown { 0 < readers → IfOk result (λ r. ShowsAll r.0) }
     ensures fault { IfErr result (IsLanesRunFault (length lists.now)) }
 {
     let gates = vec![in alloc; Open; lists.len()]?;
@@ -260,6 +263,7 @@ fn serve_row<J: BookName, X: Screen<Shown<J>> + Drop>(
     ensures same { IsSameDevice device.old device.new }
     ensures row { IfOk result (λ later. ServesRow (length device.old.lanes) now device.old.engine.steps row.now
         later device.new.engine.steps) }
+    ensures shown { 0 < readers → (moment : ℕ) → row.now ≡ Dequeue moment → OnOk result (ShowsAll device.new) }
     ensures fault { IfErr result (λ why. why ≡ program_fault.Memory) }
 {
     match *row {
@@ -306,6 +310,7 @@ fn publish<J: BookName, X: Screen<Shown<J>> + Drop>(
     ensures same { IsSameDevice device.old device.new }
     ensures engine { device.new.engine ≡ device.old.engine }
     ensures lanes { device.new.lanes ≡ device.old.lanes }
+    ensures shown { 0 < readers → OnOk result (ShowsAll device.new) }
 {
     if readers > 0 {
         device.publish()?;

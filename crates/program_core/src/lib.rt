@@ -13,5 +13,6 @@ mod senders;
 pub use lane_senders::start_lanes;
 pub use lanes::simulate_lanes;
 pub use locked::simulate_locked;
+pub use monitors::{Ending, read_on};
 pub use program_run::{ProgramFault, program, tell};
 pub use senders::{lists_of, start_locked};

@@ -12,6 +12,18 @@ use std::sync::Wait;
 use std::sync::atomic::{AtomicBool, Ordering};
 use std::thread::{self, Threads};
 
+/// What knows whether a run has ended.
+pub trait Ending {
+    /// Whether it has.
+    fn has_ended(&self) -> bool;
+}
+
+impl Ending for AtomicBool {
+    fn has_ended(&self) -> bool {
+        self.load(Ordering::SeqCst)
+    }
+}
+
 /// Has each monitor read, in a thread of its own where one can be made, until the run has ended, and gives what each
 /// saw last, in their order.
 pub(crate) fn read_all<J: BookName + Send + Sync, H: Threads + Wait + Sync>(
@@ -28,14 +40,14 @@ pub(crate) fn read_all<J: BookName + Send + Sync, H: Threads + Wait + Sync>(
     thread::map_vec(rt, monitors, &read)
 }
 
-/// Reads until the run has ended, and gives what was seen last.
-fn read_on<J: BookName, H: Wait>(rt: &H, monitor: Monitor<J>, ended: &AtomicBool) -> Seen
+/// Reads until the run has ended, and gives what was seen last: no less than what was published before the end.
+pub fn read_on<J: BookName, H: Wait, E: Ending>(rt: &H, monitor: Monitor<J>, ended: &E) -> Seen
     ensures { IsSeen result }
 {
     let mut monitor = monitor;
     for _ in rt.forever() {
         // What is read after the end is what was published at the end.
-        let last = ended.load(Ordering::SeqCst);
+        let last = ended.has_ended();
         let seen = monitor.totals();
         if last {
             return seen;

@@ -73,7 +73,7 @@ fn sees<J: BookName, R: Abort>(rt: &R, monitor: &mut Monitor<J>, accepted: u64) 
     assert_eq!(rt; (seen.events, seen.totals.accepted), (accepted, accepted));
 }
 
-/// A monitor has seen no event at first. Behind an acceptance, a publish and its receipt it sees one.
+/// A monitor has seen no event at first. After an acceptance, a publish and its receipt it sees one.
 #[test]
 fn monitor_learns(rt: HostRuntime) {
     learns::<Brand, _>(&rt, rt.alloc(), BookBlank::new());
@@ -130,8 +130,8 @@ fn sees_two_of_three<J: BookName, X: Screen<Shown<J>> + Drop, R: Abort>(
     assert_eq!(rt; device.engine().events().len(), 3);
 }
 
-/// A journal without events, the same one again, and one that was closed are each published, and a monitor sees the
-/// close.
+/// A journal without events, the same one again, one that was closed, and one whose packets are sent then are each
+/// published, and a monitor sees the close.
 #[test]
 fn any_journal_is_published(rt: HostRuntime) {
     publishes_any::<Brand, _>(&rt, rt.alloc(), BookBlank::new(), 1);
@@ -169,6 +169,8 @@ fn publishes_each<J: BookName, X: Screen<Shown<J>> + Drop, R: Abort>(
     shows(rt, device, 1);
     assert_eq!(rt; device.close(7), Ok(()));
     shows(rt, device, 2);
+    assert!(rt; matches!(device.dequeue(8), Ok(Some(_))));
+    shows(rt, device, 3);
     if let Some(mut monitor) = opened.monitors.pop() {
         sees_the_close(rt, &mut monitor);
     }
@@ -184,17 +186,16 @@ fn shows<J: BookName, X: Screen<Shown<J>> + Drop, R: Abort>(
     assert_eq!(rt; receipt.events(), events);
 }
 
-/// The monitor sees an acceptance and the close.
+/// The monitor sees an acceptance, the close and a departure.
 fn sees_the_close<J: BookName, R: Abort>(rt: &R, monitor: &mut Monitor<J>) {
-    assert!(rt; is_seen(monitor, 2));
+    assert!(rt; is_seen(monitor, 3));
     let seen = monitor.totals();
-    assert_eq!(rt;
-        (seen.events, seen.totals.accepted, seen.totals.closed),
-        (2, 1, true)
-    );
+    let totals = seen.totals;
+    assert_eq!(rt; (seen.events, totals.accepted, totals.sent), (3, 1, 1));
+    assert!(rt; totals.closed);
 }
 
-/// Whether the monitor sees one event or two, and then so many once it has read often enough.
+/// Whether the monitor sees one event or more, and then so many once it has read often enough.
 fn is_seen<J: BookName>(monitor: &mut Monitor<J>, wanted: u64) -> bool {
     let first = monitor.totals().events;
     if first < 1 || first > wanted {
@@ -209,7 +210,7 @@ fn is_seen<J: BookName>(monitor: &mut Monitor<J>, wanted: u64) -> bool {
     false
 }
 
-/// While the device publishes 1,000 times, what a monitor in a thread of its own sees never shrinks, and behind the
+/// While the device publishes 1,000 times, what a monitor in a thread of its own sees never shrinks, and after the
 /// last of them it sees all.
 #[test]
 fn reads_never_shrink(rt: HostRuntime) {

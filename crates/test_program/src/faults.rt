@@ -14,6 +14,18 @@ fn expect_line(rt: &(impl Abort + AllocGlobal), fault: ProgramFault, status: u8,
     assert_eq!(rt; ended, status);
 }
 
+/// A mistake of the words is told as it is, in its own lines.
+#[test]
+fn mistakes_are_told_as_they_are(rt: HostRuntime) {
+    for text in [
+        "error: one line\n",
+        "error: a mistake\n\nUsage: fqsim <COMMAND>\n",
+    ] {
+        let mistake = format!(in rt.alloc(); "{text}").expect(&rt, "memory");
+        expect_line(&rt, ProgramFault::CommandLine(mistake), 2, text);
+    }
+}
+
 #[test]
 fn want_of_memory_is_told(rt: HostRuntime) {
     expect_line(&rt, ProgramFault::Memory, 1, "fqsim: memory\n");

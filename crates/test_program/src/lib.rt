@@ -1,6 +1,7 @@
 //! Tests of the program where a run of it from outside shows nothing: readers and writers that fail, faults that no
-//! trace brings about, seeds as bytes, the texts of help, and senders that are held up. `.ci/cli-table` and `examples/`
-//! have the other runs. Where a step fails the test ends there: each `?` would be one more way out of a function.
+//! trace brings about, seeds as bytes, the texts of help, senders that are held up, and a monitor at the end of a run.
+//! `.ci/cli-table` and `examples/` have the other runs. Where a step fails the test ends there: each `?` would be one
+//! more way out of a function.
 #![tactic(auto)]
 
 #[cfg(test)]
@@ -13,6 +14,8 @@ mod help;
 mod lanes;
 #[cfg(test)]
 mod locked;
+#[cfg(test)]
+mod monitors;
 #[cfg(test)]
 mod packets;
 #[cfg(test)]
