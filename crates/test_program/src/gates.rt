@@ -28,7 +28,7 @@ impl Gate for Held<'_> {
     }
 }
 
-/// Whether a sender has asked for that call. It is looked for some time.
+/// Whether a sender has asked for that call, or has that many answers. It is looked for some time.
 pub(crate) fn has_asked(asked: &AtomicU64, call: u64) -> bool {
     for _look in 0..MAX_LOOKS {
         if asked.load(Ordering::SeqCst) >= call {

@@ -1,6 +1,7 @@
 //! Senders in threads of their own.
 ghost use Rattle.std.specs.Prelude.{◌≡◌, ◌+◌, ◌<◌, ◌≤◌};
 
+use crate::gates::has_asked;
 use crate::packets::packet;
 use packet_core::{Packet, Seed, read_params};
 use port_core::{Gate, LockedDone, LockedPort, PortSeat, Stop};
@@ -30,7 +31,8 @@ impl Gate for Side<'_> {
 }
 
 /// Sender 0's first call waits for the answer of sender 1's first, and sender 1's second for that of sender 0's first.
-/// So neither list can be sent after the other: on one thread a gate would stay closed.
+/// So neither list can be sent after the other: on one thread a gate would stay closed. The device waits for the answer
+/// of sender 0's first call, so its part isn't made before them.
 #[test]
 fn gate_locked(rt: HostRuntime) {
     at_gates::<Brand, Brand, _>(&rt, rt.alloc(), 2, Blank::new(3), Blank::new(3));
@@ -106,8 +108,8 @@ fn sides<'a, R: Abort>(
     sides
 }
 
-/// Senders, two of which wait for one another's answers, while the device asks for a packet. Gives their seats and its
-/// own.
+/// Senders, two of which wait for one another's answers, while the device waits for one of these answers too, and then
+/// asks for a packet. Gives their seats and its own.
 fn send_by_gates<
     A: Ledger + Send + Sync,
     S: Ledger + Send + Sync,
@@ -123,14 +125,16 @@ fn send_by_gates<
     let (zero, one, others) = (AtomicU64::new(0), AtomicU64::new(0), AtomicU64::new(0));
     let gates = sides(rt, alloc, seats.len(), &zero, &one, &others);
     assert!(rt; lists.len() == seats.len() && gates.len() == seats.len());
+    let answered = &zero;
     let part = move || {
         let mut device = device;
+        let saw = has_asked(answered, 1);
         let _ = port.dequeue(rt, &mut device, 0);
-        device
+        (device, saw)
     };
-    let (done, device) = start_locked(rt, alloc, port, seats, &lists, &gates, part).expect(
-        rt, "memory",
-    );
+    let (done, (device, saw)) =
+        start_locked(rt, alloc, port, seats, &lists, &gates, part).expect(rt, "memory");
+    assert!(rt; saw);
     seats_of(rt, alloc, done, device)
 }
 

@@ -273,6 +273,36 @@ fn slow_writers_are_written(rt: HostRuntime) {
     expect_taken(&rt, 3, 1_000, 0, IDLE, "");
 }
 
+/// Help is written whole, also where each write takes one byte or three.
+#[test]
+fn slow_writers_of_help_are_written(rt: HostRuntime) {
+    let mut whole = Vec::new(rt.alloc());
+    ends(
+        &rt,
+        &["--help"],
+        &mut ONE_DEQUEUE.as_bytes(),
+        &mut whole,
+        0,
+        "",
+    );
+    for at_once in [1, 3] {
+        let mut writer = NarrowWriter {
+            taken: Vec::new(rt.alloc()),
+            at_once,
+            room: 100_000,
+        };
+        ends(
+            &rt,
+            &["--help"],
+            &mut ONE_DEQUEUE.as_bytes(),
+            &mut writer,
+            0,
+            "",
+        );
+        assert!(rt; writer.taken == whole);
+    }
+}
+
 #[test]
 fn failed_writes_refused(rt: HostRuntime) {
     let faults = "fqsim: write\n";
