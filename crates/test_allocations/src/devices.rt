@@ -252,7 +252,28 @@ fn publishes<J: BookName, X: Screen<Shown<J>> + Drop>(
         wanted(monitor.totals().events == shown, Wrong::MonitorTotals)?;
         wanted(device.receipt().events() == shown, Wrong::DeviceReceipt)?;
     }
-    wanted(shown == 3, Wrong::DevicePublish)
+    wanted(shown == 3, Wrong::DevicePublish)?;
+    let close = |device: &mut Device<J, X>| unless_memory(device.close(9));
+    let answer = calls.answered(Wrong::DeviceClose, device, picture, close)?;
+    wanted(answer == Ok(()), Wrong::DeviceClose)?;
+    goes_on(device, monitor, calls)
+}
+
+/// After the close all is published, and after each of the three departures. A publish that is refused is made again.
+fn goes_on<J: BookName, X: Screen<Shown<J>> + Drop>(
+    device: &mut Device<J, X>,
+    monitor: &mut Monitor<J>,
+    calls: &mut Calls,
+) -> Result<(), Wrong> {
+    for events in 4..8 {
+        let published = shows(device, monitor, calls)? || shows(device, monitor, calls)?;
+        wanted(published, Wrong::DevicePublish)?;
+        wanted(monitor.totals().events == events, Wrong::MonitorTotals)?;
+        let give = |device: &mut Device<J, X>| unless_memory(device.dequeue(9));
+        let answer = calls.answered(Wrong::DeviceDequeue, device, picture, give)?;
+        wanted(answer.is_ok(), Wrong::DeviceDequeue)?;
+    }
+    Ok(())
 }
 
 /// Publishes once, and says whether that wasn't refused. What was published the monitor shows from then on.

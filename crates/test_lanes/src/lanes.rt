@@ -1,229 +1,176 @@
-//! Lanes by one thread: what goes through them, in what order, when they are full, and what a device refuses. What owns
-//! a lane's ends makes one call, which borrows them: so the proof drops them once.
+//! Lanes by one thread: what goes through them, in what order, when they are full, and what a device refuses.
 
-ghost use Rattle.std.specs.Prelude.{◌≡◌, ◌≤◌, ◌<◌, Some, slice_get};
-ghost use Rattle.port_core.specs.Devices.{AreNewLanes, rings_of};
+ghost use Rattle.std.specs.Prelude.{◌≡◌};
 
-use crate::fixtures::{SEED, are_accepted, counted, ends, one_flow, open, packet, pumps, submits};
+use crate::calls::{Call, Sending, full, plays, plays_unstored, put, submits, takes};
+use crate::fixtures::{accepted, open, packet, packets};
+use crate::gates::{Asked, new_gate, was_asked};
+use packet_core::{Ecn, Packet};
 use port_core::{
-    BookBlank, BookName, Device, Gate, LaneSender, Layout, MAX_CAPACITY, Open, Opened, Screen,
-    Shown, Stop, lanes_with_keepers, send_lane,
+    BookBlank, BookName, LaneFull, LaneSender, Open, Opened, Screen, Shown, Stop, send_lane,
 };
-use sched_core::{MomentFault, Refusal, Step, Unstored};
+use sched_core::{Event, Mark, MomentFault, Refusal, Sent};
 use std::alloc::Global;
 use std::marker::Brand;
 use std::process::Abort;
 use std::sync::Wait;
-use std::sync::atomic::{AtomicU64, Ordering};
+
+/// Why a moment of 2^60 microseconds is refused.
+const TOO_LARGE: Refusal = Refusal::Moment(MomentFault::TooLarge);
+
+/// Why a moment before 7 is refused after a pump at 7.
+const TOO_EARLY: Refusal = Refusal::Moment(MomentFault::Backwards { last: 7 });
+
+/// The close at 7.
+const CLOSED: Event = Event::Closed { moment: 7 };
 
 /// A lane with room for two packets gives back the third, has room again once one was taken, and keeps what is
-/// submitted behind the close. Three of four packets were accepted, so one is left.
+/// submitted after the close. Three of four packets were accepted, so one is left.
 #[test]
 fn lane_of_two(rt: HostRuntime) {
-    through_two::<Brand, _>(&rt, rt.alloc(), BookBlank::new());
-}
-
-fn through_two<J: BookName, R: Wait + Abort>(rt: &R, alloc: Global, blank: BookBlank)
-    requires { blank ≡ J.book }
-{
-    through_two_of(rt, open::<J, R>(rt, alloc, blank, 1, 2));
-}
-
-fn through_two_of<J: BookName, X: Screen<Shown<J>> + Drop, R: Abort>(rt: &R, opened: Opened<J, X>)
-    requires { AreNewLanes opened.senders.items opened.device.lanes 1 }
-{
-    let (mut sender, mut device) = ends(rt, opened);
-    goes_through(rt, &mut sender, &mut device);
-    settles(rt, sender, &mut device);
-}
-
-fn goes_through<J: BookName, X: Screen<Shown<J>> + Drop, R: Abort>(
-    rt: &R,
-    sender: &mut LaneSender,
-    device: &mut Device<J, X>,
-)
-    ensures sender { sender.new.ring ≡ sender.old.ring }
-    ensures device { rings_of device.new.lanes ≡ rings_of device.old.lanes }
-{
-    submits(rt, sender, 1, false);
-    submits(rt, sender, 2, false);
-    submits(rt, sender, 3, true);
-    pumps(rt, device, 0, 7, 1, Ok(1));
-    submits(rt, sender, 3, false);
-    pumps(rt, device, 0, 7, 8, Ok(2));
-    assert_eq!(rt; device.close(7), Ok(()));
-    submits(rt, sender, 4, false);
-    pumps(rt, device, 0, 7, 1, Err(Refusal::ClosedAlready));
-    are_accepted(rt, device, &[(0, 1), (0, 2), (0, 3)]);
-}
-
-/// One packet is left in the lane.
-fn settles<J: BookName, X: Screen<Shown<J>> + Drop, R: Abort>(
-    rt: &R,
-    sender: LaneSender,
-    device: &mut Device<J, X>,
-)
-    requires { slice_get (rings_of device.old.lanes) 0 ≡ Some sender.ring }
-{
-    let end = sender.finish().expect(rt, "an end");
-    assert_eq!(rt; device.settle_lane(0, end), 1);
+    let p = packets(&rt, 0);
+    let calls = [
+        put(0, p[1]),
+        put(0, p[2]),
+        full(0, p[3]),
+        takes(0, 1, 1),
+        put(0, p[3]),
+        takes(0, 8, 2),
+        Call::Close(7, Ok(())),
+        put(0, p[4]),
+        Call::Pump(0, 7, 1, Err(Refusal::ClosedAlready)),
+        Call::Finish(1),
+    ];
+    let events = [
+        accepted(0, 0, p[1]),
+        accepted(0, 1, p[2]),
+        accepted(0, 2, p[3]),
+        CLOSED,
+    ];
+    plays(&rt, rt.alloc(), (1, 2), &calls, &events);
 }
 
 /// A lane with room for one packet gives each second one back, five times, and the others come out in order.
 #[test]
 fn full_again_and_again(rt: HostRuntime) {
-    through_one::<Brand, _>(&rt, rt.alloc(), BookBlank::new());
+    let (p, q) = (packets(&rt, 0), packets(&rt, 1000));
+    let calls = [
+        put(0, p[1]),
+        full(0, q[1]),
+        takes(0, 1, 1),
+        put(0, p[2]),
+        full(0, q[2]),
+        takes(0, 1, 1),
+        put(0, p[3]),
+        full(0, q[3]),
+        takes(0, 1, 1),
+        put(0, p[4]),
+        full(0, q[4]),
+        takes(0, 1, 1),
+        put(0, p[5]),
+        full(0, q[5]),
+        takes(0, 1, 1),
+    ];
+    let events = [
+        accepted(0, 0, p[1]),
+        accepted(0, 1, p[2]),
+        accepted(0, 2, p[3]),
+        accepted(0, 3, p[4]),
+        accepted(0, 4, p[5]),
+    ];
+    plays(&rt, rt.alloc(), (1, 1), &calls, &events);
 }
 
-fn through_one<J: BookName, R: Wait + Abort>(rt: &R, alloc: Global, blank: BookBlank)
-    requires { blank ≡ J.book }
-{
-    let (mut sender, mut device) = ends(rt, open::<J, R>(rt, alloc, blank, 1, 1));
-    gives_back(rt, &mut sender, &mut device);
-}
-
-fn gives_back<J: BookName, X: Screen<Shown<J>> + Drop, R: Abort>(
-    rt: &R,
-    sender: &mut LaneSender,
-    device: &mut Device<J, X>,
-) {
-    for round in 1..6 {
-        submits(rt, sender, round, false);
-        submits(rt, sender, 1000 + round, true);
-        pumps(rt, device, 0, 7, 1, Ok(1));
-    }
-    are_accepted(rt, device, &[(0, 1), (0, 2), (0, 3), (0, 4), (0, 5)]);
-}
-
-/// The refusals of a pump are tested in the order of their rules, also behind the close, and a refused pump leaves the
+/// The refusals of a pump are tested in the order of their rules, also after the close, and a refused pump leaves the
 /// packet in its lane.
 #[test]
 fn refused_pumps_take_nothing(rt: HostRuntime) {
-    refused_pumps::<Brand, _>(&rt, rt.alloc(), BookBlank::new());
-}
-
-fn refused_pumps<J: BookName, R: Wait + Abort>(rt: &R, alloc: Global, blank: BookBlank)
-    requires { blank ≡ J.book }
-{
-    let (mut sender, mut device) = ends(rt, open::<J, R>(rt, alloc, blank, 1, 4));
-    are_refused(rt, &mut sender, &mut device);
-}
-
-fn are_refused<J: BookName, X: Screen<Shown<J>> + Drop, R: Abort>(
-    rt: &R,
-    sender: &mut LaneSender,
-    device: &mut Device<J, X>,
-) {
-    submits(rt, sender, 1, false);
-    submits(rt, sender, 2, false);
-    let late = Err(Refusal::Moment(MomentFault::TooLarge));
-    let early = Err(Refusal::Moment(MomentFault::Backwards { last: 7 }));
-    pumps(rt, device, 0, 7, 1, Ok(1));
-    pumps(rt, device, 0, 1 << 60, 1, late);
-    pumps(rt, device, 0, 6, 1, early);
-    pumps(rt, device, 0, 7, 1, Ok(1));
-    assert_eq!(rt; device.close(7), Ok(()));
-    pumps(rt, device, 0, 1 << 60, 1, late);
-    pumps(rt, device, 0, 6, 1, early);
-    pumps(rt, device, 0, 7, 1, Err(Refusal::ClosedAlready));
-    are_accepted(rt, device, &[(0, 1), (0, 2)]);
+    let p = packets(&rt, 0);
+    let calls = [
+        put(0, p[1]),
+        put(0, p[2]),
+        takes(0, 1, 1),
+        Call::Pump(0, 1 << 60, 1, Err(TOO_LARGE)),
+        Call::Pump(0, 6, 1, Err(TOO_EARLY)),
+        takes(0, 1, 1),
+        Call::Close(7, Ok(())),
+        Call::Pump(0, 1 << 60, 1, Err(TOO_LARGE)),
+        Call::Pump(0, 6, 1, Err(TOO_EARLY)),
+        Call::Pump(0, 7, 1, Err(Refusal::ClosedAlready)),
+    ];
+    let events = [accepted(0, 0, p[1]), accepted(0, 1, p[2]), CLOSED];
+    plays(&rt, rt.alloc(), (1, 4), &calls, &events);
 }
 
 /// A pump of one lane leaves the other's packet.
 #[test]
 fn lanes_stand_apart(rt: HostRuntime) {
-    apart::<Brand, _>(&rt, rt.alloc(), BookBlank::new());
+    let p = packets(&rt, 0);
+    let calls = [
+        put(0, p[1]),
+        put(1, p[2]),
+        takes(1, 8, 1),
+        takes(1, 8, 0),
+        takes(0, 8, 1),
+    ];
+    let events = [accepted(1, 0, p[2]), accepted(0, 1, p[1])];
+    plays(&rt, rt.alloc(), (2, 4), &calls, &events);
 }
 
-fn apart<J: BookName, R: Wait + Abort>(rt: &R, alloc: Global, blank: BookBlank)
-    requires { blank ≡ J.book }
-{
-    let mut opened = open::<J, R>(rt, alloc, blank, 2, 4);
-    two_apart(rt, &mut opened);
-}
-
-fn two_apart<J: BookName, X: Screen<Shown<J>> + Drop, R: Abort>(rt: &R, opened: &mut Opened<J, X>) {
-    let mut other = opened.senders.pop().expect(rt, "sender 1");
-    let mut sender = opened.senders.pop().expect(rt, "sender 0");
-    let device = &mut opened.device;
-    assert_eq!(rt; (sender.lane(), other.lane(), device.lanes()), (0, 1, 2));
-    submits(rt, &mut sender, 1, false);
-    submits(rt, &mut other, 2, false);
-    pumps(rt, device, 1, 7, 8, Ok(1));
-    pumps(rt, device, 1, 7, 8, Ok(0));
-    pumps(rt, device, 0, 7, 8, Ok(1));
-    are_accepted(rt, device, &[(1, 2), (0, 1)]);
+/// A dequeue at 8 that gives the first packet, unmarked.
+fn gives<'a>(packet: Packet) -> Call<'a> {
+    Call::Dequeue(
+        8,
+        Ok(Some(Sent {
+            id: 0,
+            moment: 8,
+            packet,
+            mark: Mark::NoMark,
+        })),
+    )
 }
 
 /// Memory for two steps is taken first; then a pump takes one packet, and a dequeue gives it.
 #[test]
 fn gives_what_it_took(rt: HostRuntime) {
-    gives_one::<Brand, _>(&rt, rt.alloc(), BookBlank::new());
-}
-
-fn gives_one<J: BookName, R: Wait + Abort>(rt: &R, alloc: Global, blank: BookBlank)
-    requires { blank ≡ J.book }
-{
-    let (mut sender, mut device) = ends(rt, open::<J, R>(rt, alloc, blank, 1, 4));
-    gives_one_of(rt, &mut sender, &mut device);
-}
-
-fn gives_one_of<J: BookName, X: Screen<Shown<J>> + Drop, R: Abort>(
-    rt: &R,
-    sender: &mut LaneSender,
-    device: &mut Device<J, X>,
-) {
-    assert_eq!(rt; device.reserve(2), Ok(()));
-    submits(rt, sender, 1, false);
-    pumps(rt, device, 0, 7, 2, Ok(1));
-    let sent = device
-        .dequeue(8)
-        .expect(rt, "a dequeue")
-        .expect(rt, "a packet");
-    assert_eq!(rt; (sent.id, sent.moment, sent.packet), (0, 8, packet(rt, 1)));
-    assert_eq!(rt; device.dequeue(8), Ok(None));
+    let packet = packet(&rt, 1);
+    let calls = [
+        Call::Reserve(2, Ok(())),
+        put(0, packet),
+        takes(0, 2, 1),
+        gives(packet),
+        Call::Dequeue(8, Ok(None)),
+    ];
+    let sent = Event::Sent {
+        id: 0,
+        moment: 8,
+        ecn: Ecn::NotEct,
+        mark: Mark::NoMark,
+    };
+    plays(
+        &rt,
+        rt.alloc(),
+        (1, 4),
+        &calls,
+        &[accepted(0, 0, packet), sent],
+    );
 }
 
 /// A device that keeps neither events nor steps has the totals of what went through its lanes.
 #[test]
 fn counts_without_a_journal(rt: HostRuntime) {
-    counts::<Brand, _>(&rt, rt.alloc(), BookBlank::new());
-}
-
-fn counts<J: BookName, R: Wait + Abort>(rt: &R, alloc: Global, blank: BookBlank)
-    requires { blank ≡ J.book }
-{
-    let (events, steps) = (Unstored::new(), Unstored::new());
-    let layout = Layout {
-        lanes: 2,
-        capacity: 2,
-        monitors: 0,
-    };
-    let params = one_flow(rt);
-    let opened = lanes_with_keepers::<J, _, _, _>(
-        rt, alloc, blank, params, SEED, layout, events, steps,
-    );
-    counts_three(rt, &mut opened.expect(rt, "lanes"));
-}
-
-fn counts_three<J: BookName, X: Screen<Shown<J>> + Drop, R: Abort>(
-    rt: &R,
-    opened: &mut Opened<J, X, Unstored, Unstored<Step>>,
-) {
-    fills(rt, &mut opened.senders);
-    let device = &mut opened.device;
-    pumps(rt, device, 0, 7, 1, Ok(1));
-    pumps(rt, device, 1, 7, 8, Ok(2));
-    assert!(rt; device.dequeue(8).expect(rt, "a dequeue").is_some());
-    assert_eq!(rt; counted(&device.engine().totals()), (3, 1));
-}
-
-/// Each sender submits two packets.
-fn fills<R: Abort>(rt: &R, senders: &mut Vec<LaneSender>) {
-    for sender in senders {
-        submits(rt, sender, 1, false);
-        submits(rt, sender, 2, false);
-    }
+    let p = packets(&rt, 0);
+    let calls = [
+        put(0, p[1]),
+        put(0, p[2]),
+        put(1, p[1]),
+        put(1, p[2]),
+        takes(0, 1, 1),
+        takes(1, 8, 2),
+        gives(p[1]),
+        Call::Counts(3, 1),
+    ];
+    plays_unstored(&rt, rt.alloc(), &calls);
 }
 
 /// Once its device was dropped, a sender fills its lane as before, and has no end.
@@ -235,106 +182,109 @@ fn outlives_its_device(rt: HostRuntime) {
 fn outlives<J: BookName, R: Wait + Abort>(rt: &R, alloc: Global, blank: BookBlank)
     requires { blank ≡ J.book }
 {
-    let (sender, device) = ends(rt, open::<J, R>(rt, alloc, blank, 1, 1));
-    drop(device);
-    has_no_end(rt, sender);
+    has_no_end(rt, senders_of(open::<J, R>(rt, alloc, blank, 1, 1)));
 }
 
-fn has_no_end<R: Abort>(rt: &R, sender: LaneSender) {
-    let mut sender = sender;
-    submits(rt, &mut sender, 1, false);
-    submits(rt, &mut sender, 2, true);
-    assert!(rt; sender.finish().is_none());
+/// The device is dropped.
+fn senders_of<J: BookName, X: Screen<Shown<J>> + Drop>(opened: Opened<J, X>) -> Vec<LaneSender> {
+    let Opened {
+        senders,
+        device,
+        monitors: _monitors,
+    } = opened;
+    drop(device);
+    senders
+}
+
+fn has_no_end<R: Abort>(rt: &R, senders: Vec<LaneSender>) {
+    let mut senders = senders;
+    let full = packet(rt, 2);
+    submits(rt, &mut senders, 0, packet(rt, 1), Ok(()));
+    submits(rt, &mut senders, 0, full, Err(LaneFull(full)));
+    assert!(rt; senders.pop().expect(rt, "a sender").finish().is_none());
+}
+
+/// A sender whose device was dropped sends its packets all the same, and has no end.
+#[test]
+fn sends_without_its_device(rt: HostRuntime) {
+    sends_alone::<Brand, _>(&rt, rt.alloc(), BookBlank::new());
+}
+
+fn sends_alone<J: BookName, R: Wait + Abort>(rt: &R, alloc: Global, blank: BookBlank)
+    requires { blank ≡ J.book }
+{
+    sends_both(rt, senders_of(open::<J, R>(rt, alloc, blank, 1, 3)));
+}
+
+fn sends_both<R: Abort>(rt: &R, senders: Vec<LaneSender>) {
+    let mut senders = senders;
+    let packets = [packet(rt, 1), packet(rt, 2)];
+    let done = send_lane(senders.pop().expect(rt, "a sender"), &packets, &Open);
+    assert_eq!(rt; (done.submitted, done.stop), (2, Stop::Done));
+    assert!(rt; done.end.is_none());
 }
 
 /// Of three packets two go into a lane with room for two, and a device finds them there once the sender is done.
 #[test]
 fn sends_until_it_is_full(rt: HostRuntime) {
-    sends::<Brand, _>(&rt, rt.alloc(), BookBlank::new(), 2, Stop::Full);
+    sends(&rt, rt.alloc(), 2, Stop::Full);
 }
 
 /// Into a lane with room for three all go.
 #[test]
 fn sends_all(rt: HostRuntime) {
-    sends::<Brand, _>(&rt, rt.alloc(), BookBlank::new(), 3, Stop::Done);
+    sends(&rt, rt.alloc(), 3, Stop::Done);
 }
 
-fn sends<J: BookName, R: Wait + Abort>(
-    rt: &R,
-    alloc: Global,
-    blank: BookBlank,
-    capacity: u32,
-    stop: Stop,
-)
-    requires book { blank ≡ J.book }
-    requires capacity { (0 < capacity) × (capacity ≤ MAX_CAPACITY) }
-{
-    let (sender, mut device) = ends(rt, open::<J, R>(rt, alloc, blank, 1, capacity));
-    sends_so_many(rt, sender, &mut device, u64::from(capacity), stop);
-}
-
-fn sends_so_many<J: BookName, X: Screen<Shown<J>> + Drop, R: Abort>(
-    rt: &R,
-    sender: LaneSender,
-    device: &mut Device<J, X>,
-    wanted: u64,
-    stop: Stop,
-)
-    requires { slice_get (rings_of device.old.lanes) 0 ≡ Some sender.ring }
-{
-    let packets = [packet(rt, 1), packet(rt, 2), packet(rt, 3)];
-    let done = send_lane(sender, &packets, &Open);
-    assert_eq!(rt; (done.submitted, done.stop), (wanted, stop));
-    let end = done.end.expect(rt, "an end");
-    assert_eq!(rt; device.settle_lane(0, end), wanted);
-    pumps(rt, device, 0, 7, 1, Ok(1));
-    are_accepted(rt, device, &[(0, 1)]);
-}
-
-/// Lets so many calls pass and no other, and counts how often it was asked.
-#[derive(Drop)]
-struct Counting {
-    free: u64,
-    askings: AtomicU64,
-}
-
-impl Gate for Counting {
-    fn pass(&self, call: u64) -> bool {
-        self.askings.fetch_add(1, Ordering::SeqCst);
-        call <= self.free
-    }
+/// A sender of three packets fills a lane with room for so many, and stops so.
+fn sends<R: Wait + Abort>(rt: &R, alloc: Global, capacity: u32, stop: Stop) {
+    let p = packets(rt, 0);
+    let all: &[Packet] = &p;
+    let sending = Sending {
+        packets: &all[1..4],
+        submitted: u64::from(capacity),
+        stop,
+        left: u64::from(capacity),
+    };
+    let calls = [Call::Send(sending), takes(0, 1, 1)];
+    plays(rt, alloc, (1, capacity), &calls, &[accepted(0, 0, p[1])]);
 }
 
 /// A sender whose gate stays closed asks a million times for that call, the first one too, and submits nothing more.
 #[test]
 fn closed_gates_stall(rt: HostRuntime) {
-    stalls::<Brand, _>(&rt, rt.alloc(), BookBlank::new());
+    let p = packets(&rt, 0);
+    let (zero, one) = (new_gate(0, false), new_gate(1, false));
+    stalls(&rt, rt.alloc(), &zero, &one, &p);
+    was_asked(&rt, &zero, 1_000_000);
+    was_asked(&rt, &one, 1_000_001);
 }
 
-fn stalls<J: BookName, R: Wait + Abort>(rt: &R, alloc: Global, blank: BookBlank)
-    requires { blank ≡ J.book }
-{
-    let mut opened = open::<J, R>(rt, alloc, blank, 2, 3);
-    stall(rt, &mut opened);
-}
-
-fn stall<J: BookName, X: Screen<Shown<J>> + Drop, R: Abort>(rt: &R, opened: &mut Opened<J, X>) {
-    let other = opened.senders.pop().expect(rt, "sender 1");
-    let sender = opened.senders.pop().expect(rt, "sender 0");
-    stalls_at(rt, sender, 0, 1_000_000);
-    stalls_at(rt, other, 1, 1_000_001);
-    pumps(rt, &mut opened.device, 0, 7, 8, Ok(0));
-    pumps(rt, &mut opened.device, 1, 7, 8, Ok(1));
-}
-
-/// The gate lets so many calls pass, and is asked so often in all.
-fn stalls_at<R: Abort>(rt: &R, sender: LaneSender, free: u64, askings: u64) {
-    let packets = [packet(rt, 1), packet(rt, 2), packet(rt, 3)];
-    let gate = Counting {
-        free,
-        askings: AtomicU64::new(0),
+/// The sender of lane 0 submits nothing, and that of lane 1 one packet.
+fn stalls<'a, R: Wait + Abort>(
+    rt: &R,
+    alloc: Global,
+    zero: &'a Asked,
+    one: &'a Asked,
+    p: &'a [Packet; 6],
+) {
+    let all: &'a [Packet] = p;
+    let stalled = Sending {
+        packets: &all[1..4],
+        submitted: 0,
+        stop: Stop::Stalled,
+        left: 0,
     };
-    let done = send_lane(sender, &packets, &gate);
-    assert_eq!(rt; (done.submitted, done.stop), (free, Stop::Stalled));
-    assert_eq!(rt; gate.askings.load(Ordering::SeqCst), askings);
+    let later = Sending {
+        submitted: 1,
+        left: 1,
+        ..stalled
+    };
+    let calls = [
+        Call::Ask(one, later),
+        Call::Ask(zero, stalled),
+        takes(0, 8, 0),
+        takes(1, 8, 1),
+    ];
+    plays(rt, alloc, (2, 3), &calls, &[accepted(1, 0, p[1])]);
 }

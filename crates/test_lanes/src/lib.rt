@@ -3,7 +3,11 @@
 #![tactic(auto)]
 
 #[cfg(test)]
+mod calls;
+#[cfg(test)]
 mod fixtures;
+#[cfg(test)]
+mod gates;
 #[cfg(test)]
 mod lanes;
 #[cfg(test)]
