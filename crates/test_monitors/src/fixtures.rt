@@ -3,6 +3,9 @@
 use packet_core::{Classify, Ecn, FiveTuple, Ip, Packet, ParamFields, Params, Seed};
 use std::process::Abort;
 
+/// So often a monitor looks for what was published.
+pub(crate) const MAX_LOOKS: u32 = 1_000_000;
+
 /// The seed of every device.
 pub(crate) const SEED: Seed = Seed([1, 2, 3, 4, 5, 6, 7, 8, 9, 10, 11, 12, 13, 14, 15, 16]);
 

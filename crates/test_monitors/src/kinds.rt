@@ -3,16 +3,17 @@
 
 ghost use Rattle.std.specs.Prelude.{◌≡◌, ◌≤◌};
 
-use crate::fixtures::{SEED, packet_of, room_for_ten};
+use crate::fixtures::{MAX_LOOKS, SEED, packet_of, room_for_ten};
 use packet_core::Ecn;
 use port_core::{
-    BookBlank, BookName, Device, Layout, MAX_MONITORS, Monitor, Opened, Screen, Shown, lanes,
+    BookBlank, BookName, Device, Layout, MAX_MONITORS, Monitor, Opened, Screen, Seen, Shown, lanes,
 };
 use sched_core::Totals;
 use std::alloc::Global;
 use std::marker::Brand;
 use std::process::Abort;
 use std::sync::Wait;
+use std::thread;
 
 /// What each publish shows is seen.
 #[test]
@@ -45,7 +46,8 @@ fn publishes_kinds<J: BookName, R: Wait + Abort>(
     shows_kinds(rt, &mut opened);
 }
 
-/// Eleven packets come and are published at once, then each departure, and then the close, with three packets left.
+/// Eleven packets come and are published at once, then each departure, then the close, with three packets left, and then
+/// one departure more.
 fn shows_kinds<J: BookName, X: Screen<Shown<J>> + Drop, R: Abort>(
     rt: &R,
     opened: &mut Opened<J, X>,
@@ -66,6 +68,8 @@ fn shows_kinds<J: BookName, X: Screen<Shown<J>> + Drop, R: Abort>(
     }
     assert_eq!(rt; device.close(275_710), Ok(()));
     shows(rt, device, &mut monitor, 20);
+    assert!(rt; matches!(device.dequeue(275_711), Ok(Some(_))));
+    shows(rt, device, &mut monitor, 21);
     assert_eq!(rt; device.engine().totals(), whole());
 }
 
@@ -84,7 +88,7 @@ fn eleven_come<J: BookName, X: Screen<Shown<J>> + Drop, R: Abort>(
     assert_eq!(rt; opened.device.pump(0, 0, 11), Ok(11));
 }
 
-/// A publish shows so many events and the device's statistics, and the monitor that learns of it sees them.
+/// A publish shows so many events and the device's statistics, and the monitor sees them, without the receipt.
 fn shows<J: BookName, X: Screen<Shown<J>> + Drop, R: Abort>(
     rt: &R,
     device: &mut Device<J, X>,
@@ -94,8 +98,7 @@ fn shows<J: BookName, X: Screen<Shown<J>> + Drop, R: Abort>(
     let receipt = device.publish().expect(rt, "a receipt");
     assert_eq!(rt; receipt.events(), events);
     if let Some(monitor) = monitor {
-        monitor.learn(&receipt);
-        let seen = monitor.totals();
+        let seen = comes_to(monitor, events);
         assert_eq!(rt;
             (seen.events, seen.totals),
             (events, device.engine().totals())
@@ -103,20 +106,31 @@ fn shows<J: BookName, X: Screen<Shown<J>> + Drop, R: Abort>(
     }
 }
 
+/// What the monitor sees once it has read often enough to see so many events.
+fn comes_to<J: BookName>(monitor: &mut Monitor<J>, events: u64) -> Seen {
+    for _look in 0..MAX_LOOKS {
+        if monitor.totals().events >= events {
+            break;
+        }
+        thread::yield_now();
+    }
+    monitor.totals()
+}
+
 /// The statistics of the whole run.
 fn whole() -> Totals {
     Totals {
         accepted: 11,
         accepted_bytes: 11_055,
-        sent: 5,
-        sent_bytes: 5_020,
+        sent: 6,
+        sent_bytes: 6_028,
         dropped_codel: 2,
         dropped_overflow: 1,
         dropped_bytes: 3_008,
         marked: 1,
         threshold_marked: 1,
-        queued: 3,
-        queued_bytes: 3_027,
+        queued: 2,
+        queued_bytes: 2_019,
         closed: true,
     }
 }

@@ -4,7 +4,7 @@
 
 ghost use Rattle.std.specs.Prelude.{◌≡◌, ◌≤◌};
 
-use crate::fixtures::{SEED, one_flow, packet};
+use crate::fixtures::{MAX_LOOKS, SEED, one_flow, packet};
 use port_core::{
     BookBlank, BookName, Device, LaneSender, Layout, LeftRight, MAX_MONITORS, Monitor, Opened,
     Receipt, Screen, Shown, lanes,
@@ -15,9 +15,6 @@ use std::process::Abort;
 use std::sync::Wait;
 use std::sync::atomic::{AtomicBool, Ordering};
 use std::thread::{self, Threads};
-
-/// So often a monitor looks for what was published.
-const MAX_LOOKS: u32 = 1_000_000;
 
 /// So many publishes are made while a monitor reads.
 const PUBLISHES: u64 = 1_000;
