@@ -193,13 +193,14 @@ fn pump_at<J: BookName, X: Screen<Shown<J>> + Drop>(
 pub(crate) fn second_publish<R: Wait>(
     rt: &R,
     alloc: Global,
+    is_closed: bool,
     calls: &mut Calls,
 ) -> Result<(), Wrong> {
-    if publish_in::<Brand, R>(rt, alloc, BookBlank::new(), calls)? {
+    if publish_in::<Brand, R>(rt, alloc, BookBlank::new(), is_closed, calls)? {
         return Ok(());
     }
     calls.note();
-    let again = publish_in::<Brand, R>(rt, alloc, BookBlank::new(), calls)?;
+    let again = publish_in::<Brand, R>(rt, alloc, BookBlank::new(), is_closed, calls)?;
     wanted(again, Wrong::Lanes)
 }
 
@@ -208,6 +209,7 @@ fn publish_in<J: BookName, R: Wait>(
     rt: &R,
     alloc: Global,
     blank: BookBlank,
+    is_closed: bool,
     calls: &mut Calls,
 ) -> Result<bool, Wrong>
     requires { blank ≡ J.book }
@@ -215,13 +217,14 @@ fn publish_in<J: BookName, R: Wait>(
     let Some(opened) = opened::<J, R>(rt, alloc, blank)? else {
         return Ok(false);
     };
-    with_monitor(opened, calls)?;
+    with_monitor(opened, is_closed, calls)?;
     Ok(true)
 }
 
-/// Publishes on a device that was opened.
+/// Publishes on a device that was opened, or closes it before the first publish.
 fn with_monitor<J: BookName, X: Screen<Shown<J>> + Drop>(
     opened: Opened<J, X>,
+    is_closed: bool,
     calls: &mut Calls,
 ) -> Result<(), Wrong> {
     let Opened {
@@ -232,7 +235,12 @@ fn with_monitor<J: BookName, X: Screen<Shown<J>> + Drop>(
     let (Some(sender), Some(monitor)) = (senders.first_mut(), monitors.first_mut()) else {
         return Err(Wrong::Lanes);
     };
-    publishes(sender, &mut device, monitor, calls)
+    if is_closed {
+        admits(sender, &mut device, calls)?;
+        goes_on(&mut device, monitor, 2, calls)
+    } else {
+        publishes(sender, &mut device, monitor, calls)
+    }
 }
 
 /// Three packets are accepted, and all is published behind each. A publish that is refused isn't made again: the next
@@ -253,19 +261,21 @@ fn publishes<J: BookName, X: Screen<Shown<J>> + Drop>(
         wanted(device.receipt().events() == shown, Wrong::DeviceReceipt)?;
     }
     wanted(shown == 3, Wrong::DevicePublish)?;
-    let close = |device: &mut Device<J, X>| unless_memory(device.close(9));
-    let answer = calls.answered(Wrong::DeviceClose, device, picture, close)?;
-    wanted(answer == Ok(()), Wrong::DeviceClose)?;
-    goes_on(device, monitor, calls)
+    goes_on(device, monitor, 4, calls)
 }
 
-/// After the close all is published, and after each of the three departures. A publish that is refused is made again.
+/// Closes, which makes so many events. All is published then, and after each of two departures. A publish that is refused
+/// is made again.
 fn goes_on<J: BookName, X: Screen<Shown<J>> + Drop>(
     device: &mut Device<J, X>,
     monitor: &mut Monitor<J>,
+    events: u64,
     calls: &mut Calls,
 ) -> Result<(), Wrong> {
-    for events in 4..8 {
+    let close = |device: &mut Device<J, X>| unless_memory(device.close(9));
+    let answer = calls.answered(Wrong::DeviceClose, device, picture, close)?;
+    wanted(answer == Ok(()), Wrong::DeviceClose)?;
+    for events in events..events.saturating_add(2) {
         let published = shows(device, monitor, calls)? || shows(device, monitor, calls)?;
         wanted(published, Wrong::DevicePublish)?;
         wanted(monitor.totals().events == events, Wrong::MonitorTotals)?;

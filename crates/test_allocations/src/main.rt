@@ -34,7 +34,7 @@ const REFUSED: u32 = 1_000;
 const ALL: &str = "all";
 
 /// The names of the sequences.
-const SEQUENCES: [&str; 15] = [
+const SEQUENCES: [&str; 16] = [
     "flows",
     "sched",
     "engine",
@@ -42,6 +42,7 @@ const SEQUENCES: [&str; 15] = [
     "locked",
     "lanes",
     "publish",
+    "publish_closed",
     "quiet_sched",
     "quiet_engine",
     "quiet_device",
@@ -133,7 +134,8 @@ fn make<H: Print + Threads + Wait + Sync>(
         "run_steps" => engines::steps_run(alloc, calls),
         "locked" => ports::locked(rt, alloc, calls),
         "lanes" => devices::lane(rt, alloc, calls),
-        "publish" => devices::second_publish(rt, alloc, calls),
+        "publish" => devices::second_publish(rt, alloc, false, calls),
+        "publish_closed" => devices::second_publish(rt, alloc, true, calls),
         "quiet_sched" => quiet::sched(alloc, calls),
         "quiet_engine" => quiet::engine(alloc, calls),
         "quiet_device" => quiet::device(rt, alloc, calls),
