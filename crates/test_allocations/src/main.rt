@@ -34,7 +34,7 @@ const REFUSED: u32 = 1_000;
 const ALL: &str = "all";
 
 /// The names of the sequences.
-const SEQUENCES: [&str; 16] = [
+const SEQUENCES: [&str; 17] = [
     "flows",
     "sched",
     "engine",
@@ -49,6 +49,7 @@ const SEQUENCES: [&str; 16] = [
     "trace",
     "journal",
     "program_locked",
+    "program_idle",
     "program_lanes",
     "program",
 ];
@@ -142,6 +143,7 @@ fn make<H: Print + Threads + Wait + Sync>(
         "trace" => traces::trace(alloc, calls),
         "journal" => traces::journal(alloc, calls),
         "program_locked" => programs::locked(rt, alloc, calls),
+        "program_idle" => programs::idle(rt, alloc, calls),
         "program_lanes" => programs::lanes(rt, alloc, calls),
         "program" => programs::whole(rt, alloc, trace, calls),
         _ => Err(Wrong::ASequenceOfThatName),

@@ -75,6 +75,25 @@ const LANES_WORDS: [&str; 11] = [
     "3",
 ];
 
+/// Dequeues alone: no sender has a packet, so no schedule decides anything here either.
+const IDLE_TRACE: &str = "deq,0\ndeq,1\n";
+
+/// Their journal. A dequeue that gives nothing is no event.
+const IDLE_JOURNAL: &str = "closed
+totals,0,0,0,0,0,0,0,0,0,0,0,closed
+sender,0,0,0,0
+sender,1,0,0,0
+";
+
+/// What a run by senders is of, and what it gives: its words, its trace, its journal, and what is told beside it.
+#[derive(Clone, Copy)]
+struct Run<'a> {
+    words: &'a [&'a str],
+    trace: &'a str,
+    journal: &'a str,
+    beside: &'a str,
+}
+
 /// What the monitor saw last: 9 events, 4 packets accepted, 2 sent, 2 dropped and none waiting.
 const SEEN: &str = "monitor 0 9 4 2 2 0\n";
 
@@ -99,7 +118,28 @@ pub(crate) fn locked<H: Threads + Wait + Sync>(
     alloc: Global,
     calls: &mut Calls,
 ) -> Result<(), Wrong> {
-    by_senders(rt, alloc, &LOCKED_WORDS, "", calls)
+    let run = Run {
+        words: &LOCKED_WORDS,
+        trace: SENDERS_TRACE,
+        journal: SENDERS_JOURNAL,
+        beside: "",
+    };
+    by_senders(rt, alloc, run, calls)
+}
+
+/// The same with dequeues alone, which the main thread makes.
+pub(crate) fn idle<H: Threads + Wait + Sync>(
+    rt: &H,
+    alloc: Global,
+    calls: &mut Calls,
+) -> Result<(), Wrong> {
+    let run = Run {
+        words: &LOCKED_WORDS,
+        trace: IDLE_TRACE,
+        journal: IDLE_JOURNAL,
+        beside: "",
+    };
+    by_senders(rt, alloc, run, calls)
 }
 
 /// The same by senders with a lane each, and a monitor.
@@ -108,39 +148,45 @@ pub(crate) fn lanes<H: Threads + Wait + Sync>(
     alloc: Global,
     calls: &mut Calls,
 ) -> Result<(), Wrong> {
-    by_senders(rt, alloc, &LANES_WORDS, SEEN, calls)
+    let run = Run {
+        words: &LANES_WORDS,
+        trace: SENDERS_TRACE,
+        journal: SENDERS_JOURNAL,
+        beside: SEEN,
+    };
+    by_senders(rt, alloc, run, calls)
 }
 
-/// Runs the program by senders with those words. Where memory was refused it says so and nothing else, and once more it
-/// gives the journal, and says that beside it.
+/// Runs the program by senders. Where memory was refused it says so and nothing else, and once more it gives the
+/// journal, and says what has to be told beside it.
 fn by_senders<H: Threads + Wait + Sync>(
     rt: &H,
     alloc: Global,
-    words: &[&str],
-    beside: &str,
+    run: Run<'_>,
     calls: &mut Calls,
 ) -> Result<(), Wrong> {
-    if gives(rt, alloc, words, beside)? {
+    if gives(rt, alloc, run)? {
         return Ok(());
     }
     calls.note();
-    wanted(gives(rt, alloc, words, beside)?, Wrong::Program)
+    wanted(gives(rt, alloc, run)?, Wrong::Program)
 }
 
 /// Runs the program by senders once. It answers whether there was a journal: else memory was refused.
-fn gives<H: Threads + Wait + Sync>(
-    rt: &H,
-    alloc: Global,
-    words: &[&str],
-    beside: &str,
-) -> Result<bool, Wrong> {
+fn gives<H: Threads + Wait + Sync>(rt: &H, alloc: Global, run: Run<'_>) -> Result<bool, Wrong> {
+    let Run {
+        words,
+        trace,
+        journal: wanted_journal,
+        beside,
+    } = run;
     let mut page = [0u8; PAGE];
     let mut line = [0u8; LINE];
-    let ran = run_on(rt, alloc, words, SENDERS_TRACE, &mut page, &mut line);
+    let ran = run_on(rt, alloc, words, trace, &mut page, &mut line);
     let journal = text_of(&page, ran.written)?;
     let told = text_of(&line, ran.told)?;
     if ran.status == 0 {
-        wanted(journal == SENDERS_JOURNAL && told == beside, Wrong::Program)?;
+        wanted(journal == wanted_journal && told == beside, Wrong::Program)?;
         return Ok(true);
     }
     was_memory(&ran, told)?;
