@@ -132,8 +132,9 @@ fn send_by_gates<
         let _ = port.dequeue(rt, &mut device, 0);
         (device, saw)
     };
-    let (done, (device, saw)) =
-        start_locked(rt, alloc, port, seats, &lists, &gates, part).expect(rt, "memory");
+    let (done, (device, saw)) = start_locked(rt, alloc, port, seats, &lists, &gates, part).expect(
+        rt, "memory",
+    );
     assert!(rt; saw);
     seats_of(rt, alloc, done, device)
 }
