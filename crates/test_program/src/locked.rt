@@ -1,5 +1,5 @@
 //! Senders in threads of their own.
-ghost use Rattle.std.specs.Prelude.{◌≡◌, ◌+◌, ◌<◌, ◌≤◌};
+ghost use Rattle.std.specs.Prelude.{◌≡◌, ◌+◌, ◌<◌, ◌≤◌, length};
 
 use crate::gates::has_asked;
 use crate::packets::packet;
@@ -125,18 +125,42 @@ fn send_by_gates<
     let (zero, one, others) = (AtomicU64::new(0), AtomicU64::new(0), AtomicU64::new(0));
     let gates = sides(rt, alloc, seats.len(), &zero, &one, &others);
     assert!(rt; lists.len() == seats.len() && gates.len() == seats.len());
-    let answered = &zero;
-    let part = move || {
-        let mut device = device;
-        let saw = has_asked(answered, 1);
-        let _ = port.dequeue(rt, &mut device, 0);
-        (device, saw)
-    };
-    let (done, (device, saw)) = start_locked(rt, alloc, port, seats, &lists, &gates, part).expect(
+    let (done, device) = send_held(rt, alloc, port, seats, device, &lists, &gates, &zero);
+    seats_of(rt, alloc, done, device)
+}
+
+/// Starts the senders with these gates, and gives what they did and the device's seat.
+fn send_held<A: Ledger + Send + Sync, S: Ledger + Send + Sync, R: Threads + Wait + Abort + Sync>(
+    rt: &R,
+    alloc: Global,
+    port: &LockedPort<A, S>,
+    seats: Vec<PortSeat<A, S>>,
+    device: PortSeat<A, S>,
+    lists: &[Vec<(u64, Packet)>],
+    gates: &[Side<'_>],
+    answered: &AtomicU64,
+) -> (Vec<LockedDone<A, S>>, PortSeat<A, S>)
+    requires { (length lists.now ≡ length seats.items) × (length gates.now ≡ length seats.items) }
+{
+    let part = move || waits(rt, port, device, answered);
+    let (done, (device, saw)) = start_locked(rt, alloc, port, seats, lists, gates, part).expect(
         rt, "memory",
     );
     assert!(rt; saw);
-    seats_of(rt, alloc, done, device)
+    (done, device)
+}
+
+/// The device's part: once a sender has an answer, it asks for a packet. It says whether there was an answer.
+fn waits<A: Ledger, S: Ledger, R: Wait>(
+    rt: &R,
+    port: &LockedPort<A, S>,
+    device: PortSeat<A, S>,
+    answered: &AtomicU64,
+) -> (PortSeat<A, S>, bool) {
+    let mut device = device;
+    let saw = has_asked(answered, 1);
+    let _ = port.dequeue(rt, &mut device, 0);
+    (device, saw)
 }
 
 /// The seats of senders that made both their calls, and the device's after them.
