@@ -2,14 +2,13 @@
 
 ghost use Rattle.std.specs.Prelude.{◌≡◌, ◌<◌, ◌++◌, IfErr, MatchResult, Some, true};
 
-use crate::packets::{SEED, one_flow};
+use crate::packets::{SEED, one_flow, params_of};
 use packet_core::Params;
 use sched_core::Step;
 use std::alloc::Global;
 use std::io::{self, ErrorKind, Read};
 use std::process::Abort;
 use std::str;
-use std::test::Fail;
 use trace_core::{
     RunFault, Sink, Source, TraceFault, TraceFaultKind, read_trace_from, run_between,
 };
@@ -20,7 +19,7 @@ const TRACE: &[u8] = b"deq,0\n";
 /// Its report.
 const REPORT: &str = "idle\ntotals,0,0,0,0,0,0,0,0,0,0,0,open\n";
 
-/// Bytes that a device took in. Where it overran, what came behind them is lost.
+/// Bytes that a device took in. Where it overran, what came after them is lost.
 #[derive(Drop)]
 struct Intake<'a> {
     bytes: &'a [u8],
@@ -109,20 +108,19 @@ fn expect_run_between(
     room: usize,
     report: &str,
     ended: Result<(), RunFault>,
-) -> Result<(), Fail> {
+) {
     let mut intake = Intake::new(bytes);
     let mut page = Page {
         bytes: Vec::new(rt.alloc()),
         room,
         is_full: false,
     };
-    let params = Params::try_new(one_flow())?;
+    let params = params_of(rt, one_flow());
     let answer = run_onto(rt.alloc(), &mut intake, &mut page, params);
-    assert_eq!(rt; str::from_utf8(&page.bytes)?, report);
+    assert_eq!(rt; str::from_utf8(&page.bytes).ok(), Some(report));
     assert_eq!(rt; answer, ended);
     assert_eq!(rt; intake.has_failed, bytes.len() < TRACE.len());
     assert_eq!(rt; page.is_full, ended == Err(RunFault::Write));
-    Ok(())
 }
 
 /// A read that failed before the first row.
@@ -134,31 +132,43 @@ fn failed_read() -> TraceFault {
 }
 
 #[test]
-fn run_between_own_streams(rt: HostRuntime) -> Result<(), Fail> {
-    expect_run_between(&rt, TRACE, 1_000, REPORT, Ok(()))?;
-    expect_run_between(&rt, TRACE, REPORT.len(), REPORT, Ok(()))
+fn run_between_own_streams(rt: HostRuntime) {
+    expect_run_between(&rt, TRACE, 1_000, REPORT, Ok(()));
+    expect_run_between(&rt, TRACE, REPORT.len(), REPORT, Ok(()));
 }
 
 #[test]
-fn failed_intakes_told(rt: HostRuntime) -> Result<(), Fail> {
+fn failed_intakes_told(rt: HostRuntime) {
     let ended = Err(RunFault::Trace(failed_read()));
     for count in 0..TRACE.len() {
-        expect_run_between(&rt, &TRACE[..count], 1_000, "", ended)?;
+        expect_run_between(&rt, &TRACE[..count], 1_000, "", ended);
     }
-    Ok(())
 }
 
 #[test]
-fn full_pages_told(rt: HostRuntime) -> Result<(), Fail> {
-    expect_run_between(&rt, TRACE, 0, "", Err(RunFault::Write))?;
-    expect_run_between(&rt, TRACE, 7, "idle\nto", Err(RunFault::Write))
+fn full_pages_told(rt: HostRuntime) {
+    expect_run_between(&rt, TRACE, 0, "", Err(RunFault::Write));
+    expect_run_between(&rt, TRACE, 7, "idle\nto", Err(RunFault::Write));
 }
 
 #[test]
-fn read_trace_from_an_intake(rt: HostRuntime) -> Result<(), Fail> {
-    let steps = read_trace_from(rt.alloc(), &mut Intake::new(TRACE))?;
-    assert_eq!(rt; steps.as_slice(), [Step::Dequeue { moment: 0 }].as_slice());
-    let cut = read_trace_from(rt.alloc(), &mut Intake::new(&TRACE[..3]));
-    assert_eq!(rt; cut.err(), Some(failed_read()));
-    Ok(())
+fn read_trace_from_an_intake(rt: HostRuntime) {
+    reads_whole(&rt, &[Step::Dequeue { moment: 0 }]);
+    fails_where_cut(&rt);
+}
+
+/// The whole trace gives these steps.
+fn reads_whole(rt: &(impl Abort + AllocGlobal), wanted: &[Step]) {
+    let mut intake = Intake::new(TRACE);
+    let steps = read_trace_from(rt.alloc(), &mut intake)
+        .ok()
+        .expect(rt, "steps");
+    assert!(rt; steps.as_slice() == wanted);
+}
+
+/// The first bytes alone give the fault of a read that failed.
+fn fails_where_cut(rt: &(impl Abort + AllocGlobal)) {
+    let mut intake = Intake::new(&TRACE[..3]);
+    let cut = read_trace_from(rt.alloc(), &mut intake);
+    assert!(rt; cut.err() == Some(failed_read()));
 }

@@ -1,8 +1,9 @@
-//! The parameters and the packets of the tests.
+//! The parameters and the packets of the tests. Where a step fails the test ends there: each `?` would be one more way
+//! out of a function, and its proof takes each of them.
 
-use packet_core::{Classify, Ecn, EcnUse, FiveTuple, Ip, Packet, ParamFields, Seed};
+use packet_core::{Classify, Ecn, EcnUse, FiveTuple, Ip, Packet, ParamFields, Params, Seed};
 use sched_core::Step;
-use std::test::Fail;
+use std::process::Abort;
 
 /// The seed of every run. A flow that is found from the destination port doesn't depend on it.
 pub(crate) const SEED: Seed = Seed([0; 16]);
@@ -34,6 +35,11 @@ pub(crate) fn four_flows() -> ParamFields {
     fields
 }
 
+/// Those parameters.
+pub(crate) fn params_of<R: Abort>(rt: &R, fields: ParamFields) -> Params {
+    Params::try_new(fields).ok().expect(rt, "parameters")
+}
+
 /// A five-tuple with that destination port.
 pub(crate) fn tuple(dport: u16) -> FiveTuple {
     FiveTuple {
@@ -46,15 +52,17 @@ pub(crate) fn tuple(dport: u16) -> FiveTuple {
 }
 
 /// A packet of 1,000 bytes to that destination port.
-pub(crate) fn packet(dport: u16) -> Result<Packet, Fail> {
-    Ok(Packet::try_new(tuple(dport), 1_000, Ecn::NotEct)?)
+pub(crate) fn packet<R: Abort>(rt: &R, dport: u16) -> Packet {
+    Packet::try_new(tuple(dport), 1_000, Ecn::NotEct)
+        .ok()
+        .expect(rt, "a packet")
 }
 
 /// A step that enqueues a packet to that destination port.
-pub(crate) fn enqueue(moment: u64, dport: u16) -> Result<Step, Fail> {
-    Ok(Step::Enqueue {
+pub(crate) fn enqueue<R: Abort>(rt: &R, moment: u64, dport: u16) -> Step {
+    Step::Enqueue {
         moment,
         lane: 0,
-        packet: packet(dport)?,
-    })
+        packet: packet(rt, dport),
+    }
 }

@@ -1,75 +1,101 @@
 //! Runs of lists of steps, and the steps of a trace.
 
-use crate::packets::{SEED, enqueue, greatest, one_flow, packet};
-use packet_core::{Ecn, Params};
+use crate::packets::{SEED, enqueue, greatest, one_flow, packet, params_of};
+use packet_core::{Ecn, ParamFields};
 use sched_core::{Answer, Event, Mark, MomentFault, Outcome, Ran, Refusal, Step, run_steps};
 use std::process::Abort;
-use std::test::Fail;
 use trace_core::{TraceFault, TraceFaultKind, read_trace};
 
-/// Runs a list of steps, and compares what each gave: its answer, the place of its first event, and the place behind
-/// its last one.
-fn expect_outcomes(
+/// What the run of a list of steps gives.
+#[derive(Clone, Copy)]
+struct Wanted<'a> {
+    /// Of each step its answer, the place of its first event, and the place after its last one.
+    outcomes: &'a [(Answer, usize, usize)],
+    events: &'a [Event],
+    /// The steps that are stored.
+    steps: &'a [Step],
+    last_moment: u64,
+}
+
+/// Runs a list of steps, and compares what the run gives.
+fn expect_run(
     rt: &(impl Abort + AllocGlobal),
+    fields: ParamFields,
     steps: &[Step],
-    outcomes: &[(Answer, usize, usize)],
-) -> Result<Ran, Fail> {
-    let params = Params::try_new(one_flow())?;
-    let ran = run_steps(rt.alloc(), params, SEED, steps)?;
-    assert_eq!(rt; ran.outcomes.len(), outcomes.len());
-    for (outcome, &(answer, first_event, end_event)) in ran.outcomes.iter().zip(outcomes) {
+    wanted: Wanted<'_>,
+) {
+    let params = params_of(rt, fields);
+    let ran = run_steps(rt.alloc(), params, SEED, steps).expect(rt, "a run");
+    gives(rt, &ran, wanted);
+}
+
+/// The run gives that.
+fn gives<R: Abort>(rt: &R, ran: &Ran, wanted: Wanted<'_>) {
+    assert!(rt; have_places(&ran.outcomes, wanted.outcomes));
+    assert!(rt; ran.engine.events() == wanted.events);
+    assert!(rt; ran.engine.steps() == wanted.steps);
+    assert!(rt; ran.engine.last_moment() == wanted.last_moment);
+}
+
+/// Whether the outcomes are those answers, and have those places in the journal.
+fn have_places(outcomes: &[Outcome], wanted: &[(Answer, usize, usize)]) -> bool {
+    for (outcome, &(answer, first_event, end_event)) in outcomes.iter().zip(wanted) {
         let expected = Outcome {
             answer,
             first_event,
             end_event,
         };
-        assert_eq!(rt; *outcome, expected);
+        if *outcome != expected {
+            return false;
+        }
     }
-    Ok(ran)
+    outcomes.len() == wanted.len()
 }
 
 #[test]
-fn run_steps_gives_own_events(rt: HostRuntime) -> Result<(), Fail> {
-    let steps = [
-        enqueue(0, 53)?,
-        Step::Close { moment: 1 },
-        enqueue(2, 53)?,
-        Step::Dequeue { moment: 3 },
-        Step::Close { moment: 4 },
-    ];
-    let outcomes = [
-        (Answer::Accepted, 0, 1),
-        (Answer::Closed, 1, 2),
-        (Answer::Refused(Refusal::ClosedAlready), 2, 2),
-        (Answer::Sent, 2, 3),
-        (Answer::Refused(Refusal::ClosedAlready), 3, 3),
-    ];
-    let ran = expect_outcomes(&rt, &steps, &outcomes)?;
-    assert_eq!(rt; ran.engine.events().len(), 3);
-    assert_eq!(rt;
-        ran.engine.steps(),
-        [steps[0], steps[1], steps[3]].as_slice()
-    );
-    Ok(())
+fn run_steps_gives_own_events(rt: HostRuntime) {
+    expect_closed_run(&rt, one_flow(), 0);
 }
 
 /// The same steps over the most flows and with the greatest limit: the packet is in the flow of its port.
 #[test]
-fn runs_over_the_most_flows(rt: HostRuntime) -> Result<(), Fail> {
+fn runs_over_the_most_flows(rt: HostRuntime) {
+    expect_closed_run(&rt, greatest(), 53);
+}
+
+/// A packet comes into that flow, a close, a packet after it, a dequeue and a second close.
+fn expect_closed_run(rt: &(impl Abort + AllocGlobal), fields: ParamFields, flow: u32) {
     let steps = [
-        enqueue(0, 53)?,
+        enqueue(rt, 0, 53),
         Step::Close { moment: 1 },
-        enqueue(2, 53)?,
+        enqueue(rt, 2, 53),
         Step::Dequeue { moment: 3 },
         Step::Close { moment: 4 },
     ];
-    let events = [
+    let wanted = Wanted {
+        outcomes: &[
+            (Answer::Accepted, 0, 1),
+            (Answer::Closed, 1, 2),
+            (Answer::Refused(Refusal::ClosedAlready), 2, 2),
+            (Answer::Sent, 2, 3),
+            (Answer::Refused(Refusal::ClosedAlready), 3, 3),
+        ],
+        events: &closed_events(rt, flow),
+        steps: &[steps[0], steps[1], steps[3]],
+        last_moment: 3,
+    };
+    expect_run(rt, fields, &steps, wanted);
+}
+
+/// The events of that run.
+fn closed_events<R: Abort>(rt: &R, flow: u32) -> [Event; 3] {
+    [
         Event::Accepted {
             id: 0,
             moment: 0,
             lane: 0,
-            flow: 53,
-            packet: packet(53)?,
+            flow,
+            packet: packet(rt, 53),
         },
         Event::Closed { moment: 1 },
         Event::Sent {
@@ -78,14 +104,11 @@ fn runs_over_the_most_flows(rt: HostRuntime) -> Result<(), Fail> {
             ecn: Ecn::NotEct,
             mark: Mark::NoMark,
         },
-    ];
-    let ran = run_steps(rt.alloc(), Params::try_new(greatest())?, SEED, &steps)?;
-    assert_eq!(rt; ran.engine.events(), events.as_slice());
-    Ok(())
+    ]
 }
 
 #[test]
-fn too_large_moment_refused(rt: HostRuntime) -> Result<(), Fail> {
+fn too_large_moment_refused(rt: HostRuntime) {
     // No trace has such a moment, so the steps are made here.
     let greatest = (1 << 60) - 1;
     let steps = [
@@ -93,32 +116,44 @@ fn too_large_moment_refused(rt: HostRuntime) -> Result<(), Fail> {
         Step::Close { moment: greatest },
     ];
     let too_large = Answer::Refused(Refusal::Moment(MomentFault::TooLarge));
-    let outcomes = [(too_large, 0, 0), (Answer::Closed, 0, 1)];
-    let ran = expect_outcomes(&rt, &steps, &outcomes)?;
-    assert_eq!(rt; ran.engine.last_moment(), greatest);
-    Ok(())
+    let wanted = Wanted {
+        outcomes: &[(too_large, 0, 0), (Answer::Closed, 0, 1)],
+        events: &[Event::Closed { moment: greatest }],
+        steps: &[steps[1]],
+        last_moment: greatest,
+    };
+    expect_run(&rt, one_flow(), &steps, wanted);
 }
 
 #[test]
-fn read_trace_gives_steps(rt: HostRuntime) -> Result<(), Fail> {
-    let mut trace = "enq,4,17,10.0.0.1,10.0.0.2,5000,53,1000,0\n\ndeq,5\nclose,6".as_bytes();
-    let steps = read_trace(rt.alloc(), &mut trace)?;
-    let expected = [
-        enqueue(4, 53)?,
+fn read_trace_gives_steps(rt: HostRuntime) {
+    let steps = [
+        enqueue(&rt, 4, 53),
         Step::Dequeue { moment: 5 },
         Step::Close { moment: 6 },
     ];
-    assert_eq!(rt; steps.as_slice(), expected.as_slice());
-    Ok(())
+    let trace = "enq,4,17,10.0.0.1,10.0.0.2,5000,53,1000,0\n\ndeq,5\nclose,6";
+    reads(&rt, trace, &steps);
+}
+
+/// The trace gives these steps.
+fn reads(rt: &(impl Abort + AllocGlobal), trace: &str, wanted: &[Step]) {
+    let mut reader = trace.as_bytes();
+    let steps = read_trace(rt.alloc(), &mut reader).ok().expect(rt, "steps");
+    assert!(rt; steps.as_slice() == wanted);
 }
 
 #[test]
-fn read_trace_tells_the_row(rt: HostRuntime) -> Result<(), Fail> {
-    let mut trace = "deq,5\ndeq,x".as_bytes();
+fn read_trace_tells_the_row(rt: HostRuntime) {
     let fault = TraceFault {
         row: 2,
         what: TraceFaultKind::BadNumber,
     };
-    assert_eq!(rt; read_trace(rt.alloc(), &mut trace).err(), Some(fault));
-    Ok(())
+    refuses(&rt, "deq,5\ndeq,x", fault);
+}
+
+/// The trace is refused for that.
+fn refuses(rt: &(impl Abort + AllocGlobal), trace: &str, wanted: TraceFault) {
+    let mut reader = trace.as_bytes();
+    assert!(rt; read_trace(rt.alloc(), &mut reader).err() == Some(wanted));
 }

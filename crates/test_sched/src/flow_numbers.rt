@@ -2,16 +2,19 @@
 //! are few flows, there are fewer places for numbers than five-tuples, so that many are remembered and forgotten in
 //! turn.
 
-use packet_core::{Classify, Ecn, FiveTuple, Ip, Packet, ParamFields, Params, Seed, flow_of};
+use crate::schedulers::{come, packet_of, params_of, seeded};
+use packet_core::{Classify, Ecn, FiveTuple, Ip, ParamFields, Params, Seed, flow_of};
 use sched_core::{Event, Sched};
 use std::process::Abort;
-use std::test::Fail;
 
 /// How many five-tuples come.
 const TUPLES: u16 = 200;
 
 /// How often each of them comes.
 const TIMES: u16 = 3;
+
+/// How many packets these are.
+const PACKETS: u64 = 600;
 
 /// A seed.
 const SEED: Seed = Seed([1, 2, 3, 4, 5, 6, 7, 8, 9, 10, 11, 12, 13, 14, 15, 16]);
@@ -39,62 +42,64 @@ fn five_tuple(number: u16) -> FiveTuple {
 }
 
 /// Each five-tuple comes once.
-fn arrive_once(sched: &mut Sched) -> Result<(), Fail> {
+fn arrive_once<R: Abort>(rt: &R, sched: &mut Sched) {
     for number in 0..TUPLES {
-        let packet = Packet::try_new(five_tuple(number), 100, Ecn::NotEct)?;
-        sched.enqueue(0, 0, packet)?;
+        let packet = packet_of(rt, five_tuple(number), 100, Ecn::NotEct);
+        come(rt, sched, 1, 0, packet);
     }
-    Ok(())
 }
 
 /// Compares the number of each accepted packet's flow.
-fn expect_numbers(
-    rt: &(impl Abort + AllocGlobal),
-    flows: u32,
-    classify: Classify,
-    seed: Seed,
-) -> Result<(), Fail> {
+fn expect_numbers(rt: &(impl Abort + AllocGlobal), flows: u32, classify: Classify, seed: Seed) {
     let mut fields = ParamFields::standard();
     fields.flows = flows;
     fields.classify = classify;
-    let params = Params::try_new(fields)?;
-    let mut sched = Sched::try_new(rt.alloc(), params, seed)?;
+    let params = params_of(rt, fields);
+    has_numbers(rt, &mut seeded(rt, params, seed), &params, &seed);
+}
+
+/// The five-tuples come, and the number of each packet's flow is that of its five-tuple.
+fn has_numbers<R: Abort>(rt: &R, sched: &mut Sched, params: &Params, seed: &Seed) {
     for _ in 0..TIMES {
-        arrive_once(&mut sched)?;
+        arrive_once(rt, sched);
     }
-    assert_eq!(rt;
-        sched.totals().accepted,
-        u64::from(TUPLES) * u64::from(TIMES)
-    );
-    for event in sched.events() {
+    assert!(rt; sched.totals().accepted == PACKETS);
+    assert!(rt; are_numbered(sched.events(), params, seed));
+}
+
+/// Whether the number of each accepted packet's flow is that of its five-tuple.
+fn are_numbered(events: &[Event], params: &Params, seed: &Seed) -> bool {
+    for event in events {
         if let Event::Accepted { flow, packet, .. } = event {
-            assert_eq!(rt; *flow, flow_of(&params, &seed, &packet.tuple()));
+            if *flow != flow_of(params, seed, &packet.tuple()) {
+                return false;
+            }
         }
     }
-    Ok(())
+    true
 }
 
 #[test]
-fn numbers_of_many_flows(rt: HostRuntime) -> Result<(), Fail> {
-    expect_numbers(&rt, 1024, Classify::Hash, SEED)
+fn numbers_of_many_flows(rt: HostRuntime) {
+    expect_numbers(&rt, 1024, Classify::Hash, SEED);
 }
 
 #[test]
-fn numbers_of_few_flows(rt: HostRuntime) -> Result<(), Fail> {
-    expect_numbers(&rt, 5, Classify::Hash, SEED)
+fn numbers_of_few_flows(rt: HostRuntime) {
+    expect_numbers(&rt, 5, Classify::Hash, SEED);
 }
 
 #[test]
-fn numbers_of_one_flow(rt: HostRuntime) -> Result<(), Fail> {
-    expect_numbers(&rt, 1, Classify::Hash, SEED)
+fn numbers_of_one_flow(rt: HostRuntime) {
+    expect_numbers(&rt, 1, Classify::Hash, SEED);
 }
 
 #[test]
-fn numbers_behind_zeros(rt: HostRuntime) -> Result<(), Fail> {
-    expect_numbers(&rt, 64, Classify::Hash, Seed([0; 16]))
+fn numbers_behind_zeros(rt: HostRuntime) {
+    expect_numbers(&rt, 64, Classify::Hash, Seed([0; 16]));
 }
 
 #[test]
-fn numbers_of_ports(rt: HostRuntime) -> Result<(), Fail> {
-    expect_numbers(&rt, 5, Classify::Dport, SEED)
+fn numbers_of_ports(rt: HostRuntime) {
+    expect_numbers(&rt, 5, Classify::Dport, SEED);
 }

@@ -1,36 +1,10 @@
-//! What is kept of a flow behind drops and marks: its credits and CoDel's state.
+//! What is kept of a flow after drops and marks: its credits and CoDel's state.
 
-use crate::schedulers::{PORT, one_flow, packet, scheduler};
+use crate::calls::{Call, goes, goes_marked, plays};
+use crate::schedulers::{PORT, one_flow, packet, packet_of, tuple};
 use codel_core::CodelState;
-use packet_core::{Ecn, EcnUse, Packet, ParamFields};
-use sched_core::{FlowView, MomentFault, Sched};
-use std::process::Abort;
-use std::test::Fail;
-
-/// What is kept of the only flow, after so many packets came at 0 and then there were dequeues at those moments.
-fn view_behind(
-    rt: &(impl Abort + AllocGlobal),
-    fields: ParamFields,
-    packets: u64,
-    packet: Packet,
-    moments: &[u64],
-) -> Result<FlowView, Fail> {
-    let mut sched = scheduler(rt, fields)?;
-    pass(&mut sched, packets, packet, moments)?;
-    assert!(rt; 0 < sched.params().flows());
-    Ok(sched.flow_view(0))
-}
-
-/// So many packets come at 0, and then there are dequeues at those moments.
-fn pass(sched: &mut Sched, packets: u64, packet: Packet, moments: &[u64]) -> Result<(), Fail> {
-    for _ in 0..packets {
-        sched.enqueue(0, 0, packet)?;
-    }
-    for &moment in moments {
-        sched.dequeue(moment)?;
-    }
-    Ok(())
-}
+use packet_core::{Ecn, EcnUse};
+use sched_core::{FlowView, Mark, MomentFault};
 
 /// What is kept of a flow no packet of which has waited too long.
 fn in_time(len: u64, bytes: u64, credits: i64) -> FlowView {
@@ -48,22 +22,9 @@ fn in_time(len: u64, bytes: u64, credits: i64) -> FlowView {
     }
 }
 
-/// Compares what is kept of the only flow behind ten packets of 1,000 bytes and dequeues at those moments.
-fn expect_behind_ten(
-    rt: &(impl Abort + AllocGlobal),
-    moments: &[u64],
-    view: FlowView,
-) -> Result<(), Fail> {
-    let packet = packet(PORT, 1_000, Ecn::NotEct)?;
-    let kept = view_behind(rt, one_flow(), 10, packet, moments)?;
-    let dequeues = moments.len();
-    assert_eq!(rt; kept, view, "behind {dequeues} dequeues");
-    Ok(())
-}
-
 #[test]
-fn ten_packets_drop_and_send(rt: HostRuntime) -> Result<(), Fail> {
-    let moments = [5_000, 105_000, 205_000, 275_710, 333_445, 333_446, 333_447];
+fn ten_packets_drop_and_send(rt: HostRuntime) {
+    let packet = packet(&rt, PORT, 1_000);
     // The fifth dequeue drops a packet before the last but one, and stops dropping there. So CoDel's state stays.
     let codel = CodelState {
         first_above: None,
@@ -82,16 +43,27 @@ fn ten_packets_drop_and_send(rt: HostRuntime) -> Result<(), Fail> {
         codel,
         ..in_time(0, 0, 56)
     };
-    expect_behind_ten(&rt, &moments[..5], owing)?;
-    expect_behind_ten(&rt, &moments, emptied)
+    let calls = [
+        Call::Come(10, 0, packet),
+        goes(5_000, packet, 0),
+        goes(105_000, packet, 2),
+        goes(205_000, packet, 4),
+        goes(275_710, packet, 6),
+        goes(333_445, packet, 8),
+        Call::View(owing),
+        goes(333_446, packet, 9),
+        Call::Dequeue(333_447, Ok(None)),
+        Call::View(emptied),
+    ];
+    plays(&rt, one_flow(), &calls);
 }
 
 #[test]
-fn marks_in_place_of_drops(rt: HostRuntime) -> Result<(), Fail> {
+fn marks_in_place_of_drops(rt: HostRuntime) {
     let mut fields = one_flow();
     fields.ecn = EcnUse::Mark;
-    let packet = packet(PORT, 1_000, Ecn::Ect0)?;
-    let view = view_behind(&rt, fields, 10, packet, &[5_000, 105_000, 205_000])?;
+    let plain = packet_of(&rt, tuple(5000, PORT), 1_000, Ecn::Ect0);
+    let marked = packet_of(&rt, tuple(5000, PORT), 1_000, Ecn::Ce);
     let codel = CodelState {
         first_above: Some(105_000),
         drop_next: 275_710,
@@ -103,27 +75,37 @@ fn marks_in_place_of_drops(rt: HostRuntime) -> Result<(), Fail> {
         codel,
         ..in_time(7, 7_000, 28)
     };
-    assert_eq!(rt; view, marking);
-    Ok(())
+    let calls = [
+        Call::Come(10, 0, plain),
+        goes(5_000, plain, 0),
+        goes_marked(105_000, marked, 1, Mark::CodelMark),
+        goes_marked(205_000, marked, 2, Mark::CodelMark),
+        Call::View(marking),
+    ];
+    plays(&rt, fields, &calls);
 }
 
 #[test]
-fn little_behind_no_drop(rt: HostRuntime) -> Result<(), Fail> {
+fn little_behind_no_drop(rt: HostRuntime) {
     // With 1,000 bytes behind it, the second packet is in time again.
-    let packet = packet(PORT, 1_000, Ecn::NotEct)?;
-    let view = view_behind(&rt, one_flow(), 3, packet, &[5_000, 105_000, 105_001])?;
-    assert_eq!(rt; view, in_time(0, 0, 28));
-    Ok(())
+    let packet = packet(&rt, PORT, 1_000);
+    let calls = [
+        Call::Come(3, 0, packet),
+        goes(5_000, packet, 0),
+        goes(105_000, packet, 1),
+        goes(105_001, packet, 2),
+        Call::View(in_time(0, 0, 28)),
+    ];
+    plays(&rt, one_flow(), &calls);
 }
 
 #[test]
-fn drop_burst(rt: HostRuntime) -> Result<(), Fail> {
+fn drop_burst(rt: HostRuntime) {
     let mut fields = one_flow();
     fields.target = 0;
     fields.interval = 1;
     fields.mtu = 0;
-    let packet = packet(PORT, 100, Ecn::NotEct)?;
-    let view = view_behind(&rt, fields, 7, packet, &[0, 1, 2])?;
+    let packet = packet(&rt, PORT, 100);
     let codel = CodelState {
         first_above: None,
         drop_next: 2,
@@ -135,35 +117,28 @@ fn drop_burst(rt: HostRuntime) -> Result<(), Fail> {
         codel,
         ..in_time(0, 0, 1_214)
     };
-    assert_eq!(rt; view, left);
-    Ok(())
+    // The second dequeue drops a packet, and the third one drops three.
+    let calls = [
+        Call::Come(7, 0, packet),
+        goes(0, packet, 0),
+        goes(1, packet, 2),
+        goes(2, packet, 6),
+        Call::View(left),
+    ];
+    plays(&rt, fields, &calls);
 }
 
 /// So near to the last moment that there may be the intervals of a second still count on: what CoDel keeps is a second
-/// behind that moment, and no dequeue comes at it.
+/// after that moment, and no dequeue comes at it. Three packets come a second before the last moment, and go then and
+/// at the last moment.
 #[test]
-fn last_moments(rt: HostRuntime) -> Result<(), Fail> {
+fn last_moments(rt: HostRuntime) {
+    let last = (1 << 60) - 1;
     let mut fields = one_flow();
     fields.target = 0;
     fields.interval = 1_000_000_000;
     fields.mtu = 0;
-    expect_at_last_moments(&rt, &mut scheduler(&rt, fields)?)
-}
-
-/// Three packets come a second before the last moment, and go then and at the last moment.
-fn expect_at_last_moments(rt: &impl Abort, sched: &mut Sched) -> Result<(), Fail> {
-    let last = (1 << 60) - 1;
-    let packet = packet(PORT, 100, Ecn::NotEct)?;
-    for _ in 0..3 {
-        sched.enqueue(last - 1_000_000_000, 0, packet)?;
-    }
-    for (moment, given) in [(last - 1_000_000_000, 0), (last, 2)] {
-        let sent = sched.dequeue(moment)?;
-        assert_eq!(rt; sent.map(|sent| sent.id), Some(given));
-    }
-    assert_eq!(rt; sched.totals().dropped_codel, 1);
-    assert_eq!(rt; sched.dequeue(last + 1), Err(MomentFault::TooLarge));
-    assert!(rt; 0 < sched.params().flows());
+    let packet = packet(&rt, PORT, 100);
     let codel = CodelState {
         first_above: None,
         drop_next: last + 1_000_000_000,
@@ -171,6 +146,17 @@ fn expect_at_last_moments(rt: &impl Abort, sched: &mut Sched) -> Result<(), Fail
         lastcount: 1,
         dropping: true,
     };
-    assert_eq!(rt; sched.flow_view(0).codel, codel);
-    Ok(())
+    let emptied = FlowView {
+        codel,
+        ..in_time(0, 0, 1_314)
+    };
+    let calls = [
+        Call::Come(3, last - 1_000_000_000, packet),
+        goes(last - 1_000_000_000, packet, 0),
+        goes(last, packet, 2),
+        Call::DroppedByCodel(1),
+        Call::Dequeue(last + 1, Err(MomentFault::TooLarge)),
+        Call::View(emptied),
+    ];
+    plays(&rt, fields, &calls);
 }

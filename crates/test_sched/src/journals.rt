@@ -1,19 +1,29 @@
 //! What a scheduler's journal tells, its totals, and its rows by five-tuple.
 
-use crate::schedulers::{PORT, arrive, four_flows, one_flow, packet, scheduler, tuple};
+use crate::calls::{Call, comes, goes, plays};
+use crate::schedulers::{PORT, four_flows, one_flow, packet, packet_of, tuple};
 use packet_core::{Ecn, Packet};
-use sched_core::{Cause, Event, Mark, Sched, TupleRow};
-use std::process::Abort;
-use std::test::Fail;
+use sched_core::{Cause, Event, Mark, TupleRow};
 
 /// Two packets come, the first of which overflows, and the second leaves.
-fn expect_events(rt: &impl Abort, sched: &mut Sched) -> Result<(), Fail> {
-    let first = packet(1, 200, Ecn::NotEct)?;
-    let second = packet(2, 100, Ecn::Ect0)?;
-    sched.enqueue(1, 7, first)?;
-    sched.enqueue(2, 8, second)?;
-    sched.dequeue(3)?;
-    let events = [
+#[test]
+fn events_tell_lanes_and_moments(rt: HostRuntime) {
+    let mut fields = four_flows();
+    fields.limit = 1;
+    let first = packet(&rt, 1, 200);
+    let second = packet_of(&rt, tuple(5000, 2), 100, Ecn::Ect0);
+    let calls = [
+        comes(1, 7, first, 0, 1),
+        comes(2, 8, second, 1, 2),
+        goes(3, second, 1),
+        Call::Events(&events_of(first, second)),
+    ];
+    plays(&rt, fields, &calls);
+}
+
+/// The journal of these two packets.
+fn events_of(first: Packet, second: Packet) -> [Event; 4] {
+    [
         Event::Accepted {
             id: 0,
             moment: 1,
@@ -39,55 +49,49 @@ fn expect_events(rt: &impl Abort, sched: &mut Sched) -> Result<(), Fail> {
             ecn: Ecn::Ect0,
             mark: Mark::NoMark,
         },
-    ];
-    assert_eq!(rt; sched.events(), events.as_slice());
-    Ok(())
-}
-
-#[test]
-fn events_tell_lanes_and_moments(rt: HostRuntime) -> Result<(), Fail> {
-    let mut fields = four_flows();
-    fields.limit = 1;
-    expect_events(&rt, &mut scheduler(&rt, fields)?)
+    ]
 }
 
 /// Three packets of two five-tuples come, and one leaves.
-fn expect_rows(rt: &impl Abort, sched: &mut Sched) -> Result<(), Fail> {
-    for sport in [5001, 5000, 5001] {
-        let packet = Packet::try_new(tuple(sport, PORT), 1_000, Ecn::NotEct)?;
-        sched.enqueue(0, 0, packet)?;
-    }
-    sched.dequeue(1)?;
-    let first = TupleRow {
-        tuple: tuple(5001, PORT),
-        flow: 0,
-        accepted: 2,
-        sent: 1,
-        dropped: 0,
-        queued: 1,
-    };
-    let second = TupleRow {
-        tuple: tuple(5000, PORT),
-        flow: 0,
-        accepted: 1,
-        sent: 0,
-        dropped: 0,
-        queued: 1,
-    };
-    assert_eq!(rt; sched.tuple_rows()?.as_slice(), [first, second].as_slice());
-    Ok(())
+#[test]
+fn rows_in_order_of_first_acceptance(rt: HostRuntime) {
+    let (tuple1, tuple0) = (tuple(5001, PORT), tuple(5000, PORT));
+    let packet1 = packet_of(&rt, tuple1, 1_000, Ecn::NotEct);
+    let packet0 = packet_of(&rt, tuple0, 1_000, Ecn::NotEct);
+    let rows = [
+        TupleRow {
+            tuple: tuple1,
+            flow: 0,
+            accepted: 2,
+            sent: 1,
+            dropped: 0,
+            queued: 1,
+        },
+        TupleRow {
+            tuple: tuple0,
+            flow: 0,
+            accepted: 1,
+            sent: 0,
+            dropped: 0,
+            queued: 1,
+        },
+    ];
+    let calls = [
+        Call::Come(1, 0, packet1),
+        Call::Come(1, 0, packet0),
+        Call::Come(1, 0, packet1),
+        goes(1, packet1, 0),
+        Call::Rows(&rows),
+    ];
+    plays(&rt, one_flow(), &calls);
 }
 
 #[test]
-fn rows_in_order_of_first_acceptance(rt: HostRuntime) -> Result<(), Fail> {
-    expect_rows(&rt, &mut scheduler(&rt, one_flow())?)
-}
-
-#[test]
-fn reserve_takes_the_memory(rt: HostRuntime) -> Result<(), Fail> {
-    let mut sched = scheduler(&rt, one_flow())?;
-    assert_eq!(rt; sched.reserve(3), Ok(()));
-    arrive(&mut sched, PORT, 4, 100)?;
-    assert_eq!(rt; sched.queued(), 4);
-    Ok(())
+fn reserve_takes_the_memory(rt: HostRuntime) {
+    let calls = [
+        Call::Reserve(3),
+        Call::Come(4, 0, packet(&rt, PORT, 100)),
+        Call::State(4, 0, false),
+    ];
+    plays(&rt, one_flow(), &calls);
 }

@@ -1,8 +1,9 @@
-//! The schedulers and the packets of the tests.
+//! The schedulers and the packets of the tests. Where a step fails the test ends there: each `?` would be one more way
+//! out of a function, and its proof takes each of them.
 
 use packet_core::{Classify, Ecn, EcnUse, FiveTuple, Ip, Packet, ParamFields, Params, Seed};
-use sched_core::Sched;
-use std::test::Fail;
+use sched_core::{Event, Keeps, Sched};
+use std::process::Abort;
 
 /// The destination port where there is one flow.
 pub(crate) const PORT: u16 = 53;
@@ -26,10 +27,19 @@ pub(crate) fn four_flows() -> ParamFields {
     fields
 }
 
+/// Those parameters.
+pub(crate) fn params_of<R: Abort>(rt: &R, fields: ParamFields) -> Params {
+    Params::try_new(fields).ok().expect(rt, "parameters")
+}
+
 /// A scheduler with those parameters.
-pub(crate) fn scheduler(rt: &impl AllocGlobal, fields: ParamFields) -> Result<Sched, Fail> {
-    let params = Params::try_new(fields)?;
-    Ok(Sched::try_new(rt.alloc(), params, SEED)?)
+pub(crate) fn scheduler(rt: &(impl Abort + AllocGlobal), fields: ParamFields) -> Sched {
+    seeded(rt, params_of(rt, fields), SEED)
+}
+
+/// A scheduler with those parameters and that seed.
+pub(crate) fn seeded(rt: &(impl Abort + AllocGlobal), params: Params, seed: Seed) -> Sched {
+    Sched::try_new(rt.alloc(), params, seed).expect(rt, "a scheduler")
 }
 
 /// A five-tuple with those ports.
@@ -44,15 +54,24 @@ pub(crate) fn tuple(sport: u16, dport: u16) -> FiveTuple {
 }
 
 /// A packet of `len` bytes to that destination port.
-pub(crate) fn packet(dport: u16, len: u32, ecn: Ecn) -> Result<Packet, Fail> {
-    Ok(Packet::try_new(tuple(5000, dport), len, ecn)?)
+pub(crate) fn packet<R: Abort>(rt: &R, dport: u16, len: u32) -> Packet {
+    packet_of(rt, tuple(5000, dport), len, Ecn::NotEct)
 }
 
-/// Enqueues so many packets of `len` bytes at 0 to that destination port.
-pub(crate) fn arrive(sched: &mut Sched, dport: u16, packets: u64, len: u32) -> Result<(), Fail> {
-    let packet = packet(dport, len, Ecn::NotEct)?;
-    for _ in 0..packets {
-        sched.enqueue(0, 0, packet)?;
+/// A packet of `len` bytes with that five-tuple and that ECN field.
+pub(crate) fn packet_of<R: Abort>(rt: &R, tuple: FiveTuple, len: u32, ecn: Ecn) -> Packet {
+    Packet::try_new(tuple, len, ecn).expect(rt, "a packet")
+}
+
+/// The packet comes so many times at that moment.
+pub(crate) fn come<K: Keeps<Event>, R: Abort>(
+    rt: &R,
+    sched: &mut Sched<K>,
+    times: u64,
+    moment: u64,
+    packet: Packet,
+) {
+    for _ in 0..times {
+        assert!(rt; sched.enqueue(moment, 0, packet).is_ok());
     }
-    Ok(())
 }
