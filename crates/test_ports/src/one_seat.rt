@@ -185,11 +185,11 @@ fn room_for_ten<R: Abort>(rt: &R) -> Params {
     Params::try_new(fields).expect(rt, "parameters")
 }
 
-/// The statistics of a port tell of each kind of drop and mark, of what waits, and of the close. Eleven packets of 1,000
-/// to 1,010 bytes come at 0, so the first is dropped. Of those with the ids 4 and 5 the sender takes part in ECN. At 5 ms
-/// the packet 1 is sent. At 105 ms CoDel drops the packet 2, and the packet 3 is sent. At 205 ms CoDel marks the packet 4.
-/// A microsecond later the packet 5 is not due, and is marked for the threshold. At 275.71 ms CoDel drops the packet 6,
-/// and the packet 7 is sent. So the packets 8, 9 and 10 wait.
+/// The statistics of a port have each kind of drop and mark, what waits, and the close. Eleven packets of 1,000 to 1,010
+/// bytes come at 0, so the first is dropped. Of those with the ids 4 and 5 the sender takes part in ECN. At 5 ms the
+/// packet 1 is sent. At 105 ms CoDel drops the packet 2, and the packet 3 is sent. At 205 ms CoDel marks the packet 4. A
+/// microsecond later the packet 5 is not due, and is marked for the threshold. At 275.71 ms CoDel drops the packet 6, and
+/// the packet 7 is sent. So the packets 8, 9 and 10 wait.
 #[test]
 fn totals_of_a_whole_run(rt: HostRuntime) {
     let of = |id: u32, ecn: Ecn| ipv6(&rt, 1_000 + id.min(10), ecn);

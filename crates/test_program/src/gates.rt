@@ -10,8 +10,8 @@ const MAX_LOOKS: u32 = 1_000_000;
 /// So often something is looked for that is not to come.
 pub(crate) const FEW_LOOKS: u32 = 100;
 
-/// A sender's gate. It notes the call that the sender asks for. From one call on it waits until another sender has asked
-/// for its second call, so that its first was answered, and until the main thread has opened the gates.
+/// A sender's gate. It notes the call that the sender asks for. From one call on it waits until another sender has
+/// asked for its second call, so that its first was answered, and until the main thread has opened the gates.
 #[derive(Drop)]
 pub(crate) struct Held<'a> {
     pub(crate) first_held: u64,
