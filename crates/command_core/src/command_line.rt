@@ -1,8 +1,8 @@
 //! The words behind the program's name, read by `clap`.
 ghost use Rattle.std.specs.Prelude.{◌≡◌, ◌≢◌, ◌≤◌, [], IfErr, IfOk, Some, codes, false, map, option_map, string_bytes, true, unwrap_or};
-ghost use Rattle.clap.specs.Words.{all_of, app_of, first_of, found_of, kind_of, one_of, rows_of, rule_of, subcommand_name_of};
+ghost use Rattle.clap.specs.Words.{all_of, app_of, first_of, found_of, kind_of, one_of, rows_of, rule_of, subcommand_name_of, with_subcommand};
 ghost use Rattle.clap.specs.declared.builder.command.Command.TheViews.{out-Command as fields_of};
-ghost use Rattle.command_core.specs.CommandLine.{AsksForHelp, AsksForLanes, AsksForLocked, AsksForTrace, IsCount, IsMistake, IsMonitorCount, IsRunRequest, IsSenderCount, lanes_line, monitors_option, monitors_text, parameter_argument, parameter_words, program_line, rows_behind, seed_option, seed_text, senders_line, senders_option, senders_text, trace_line};
+ghost use Rattle.command_core.specs.CommandLine.{AsksForHelp, AsksForLanes, AsksForLocked, AsksForTrace, IsCount, IsMistake, IsMonitorCount, IsRunRequest, IsSenderCount, asked_of, bare_line, lanes_line, locked_line, monitors_option, monitors_text, parameter_argument, parameter_words, program_line, rows_behind, seed_option, seed_text, senders_line, senders_option, senders_text, trace_line};
 ghost use Rattle.command_core.specs.Shown.{IsShown};
 
 use crate::manual;
@@ -221,11 +221,50 @@ fn count_of(matches: &ArgMatches<'_>, option: &str, least: u32, most: u32, stand
     }
 }
 
-/// The command line: one of the subcommands, which has to be there.
+/// The command line: one of the subcommands, which has to be there. Each function adds one subcommand: a way out of a
+/// function that owns several commands is dear to prove.
 fn program_command<'a>(alloc: Global) -> Result<Command<'a>, AllocError>
     ensures { IfOk result (λ r. app_of r ≡ program_line) }
 {
+    let bare = bare_command(alloc)?;
+    let one = with_trace(alloc, bare)?;
+    let two = with_locked(alloc, one)?;
+    with_lanes(alloc, two)
+}
+
+/// The command line without its subcommands.
+fn bare_command<'a>(alloc: Global) -> Result<Command<'a>, AllocError>
+    ensures { IfOk result (λ r. app_of r ≡ bare_line) }
+{
+    let named = Command::new(alloc, "fqsim").bin_name("fqsim")?;
+    Ok(described(named))
+}
+
+/// The command line without its subcommands, by the name alone.
+fn described<'a>(named: Command<'a>) -> Command<'a>
+    ensures { app_of result ≡ asked_of (app_of named.entry) }
+{
+    named
+        .no_binary_name(true)
+        .subcommand_required(true)
+        .arg_required_else_help(true)
+        .about(manual::PROGRAM_SUMMARY)
+        .long_about(manual::PROGRAM_DESCRIPTION)
+        .after_help(manual::PROGRAM_NOTES)
+}
+
+/// The command with the subcommand that runs a trace.
+fn with_trace<'a>(alloc: Global, command: Command<'a>) -> Result<Command<'a>, AllocError>
+    ensures { IfOk result (λ r. app_of r ≡ with_subcommand (app_of command.entry) trace_line.top) }
+{
     let trace = trace_command(alloc)?;
+    command.subcommand(trace)
+}
+
+/// The command with the subcommand that runs a trace by senders that share the scheduler.
+fn with_locked<'a>(alloc: Global, command: Command<'a>) -> Result<Command<'a>, AllocError>
+    ensures { IfOk result (λ r. app_of r ≡ with_subcommand (app_of command.entry) locked_line.top) }
+{
     let locked = senders_command(
         alloc,
         "locked",
@@ -233,19 +272,15 @@ fn program_command<'a>(alloc: Global) -> Result<Command<'a>, AllocError>
         manual::LOCKED_DESCRIPTION,
         manual::LOCKED_NOTES,
     )?;
+    command.subcommand(locked)
+}
+
+/// The command with the subcommand that runs a trace by senders with a lane each.
+fn with_lanes<'a>(alloc: Global, command: Command<'a>) -> Result<Command<'a>, AllocError>
+    ensures { IfOk result (λ r. app_of r ≡ with_subcommand (app_of command.entry) lanes_line.top) }
+{
     let lanes = lanes_command(alloc)?;
-    let named = Command::new(alloc, "fqsim").bin_name("fqsim")?;
-    let command = named
-        .no_binary_name(true)
-        .subcommand_required(true)
-        .arg_required_else_help(true)
-        .about(manual::PROGRAM_SUMMARY)
-        .long_about(manual::PROGRAM_DESCRIPTION)
-        .after_help(manual::PROGRAM_NOTES);
-    command
-        .subcommand(trace)?
-        .subcommand(locked)?
-        .subcommand(lanes)
+    command.subcommand(lanes)
 }
 
 /// `--seed HEX32`

@@ -14,8 +14,8 @@ use Rattle.trace_core.specs.declared.trace_run.RunFault.{RunFault}
 use Rattle.trace_core.specs.declared.trace_run.RunFault.TheVariants as run_fault
 use Rattle.command_core.specs.CommandLine.{IsSenderCount, parameter_words, seed_text, senders_text}
 use Rattle.program_core.specs.Faults.{IsLanesFault, IsLockedFault, run_fault_told}
-use Rattle.program_core.specs.Journals.{AreLanesJournal, AreLockedJournal, IsJournalOf, Journals}
-use Rattle.program_core.specs.Runs.{AnswersSenders, BeginsJournal, IsSendersRunFor}
+use Rattle.run_core.specs.Journals.{AreLanesJournal, AreLockedJournal, Journals}
+use Rattle.program_core.specs.Runs.{AnswersSenders, BeginsJournal, IsJournalOf, IsSendersRunFor}
 use Rattle.command_core.specs.Seeds.{seed_given}
 
 -- a journal was made and written so

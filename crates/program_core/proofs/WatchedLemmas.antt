@@ -8,7 +8,8 @@ use Rattle.journal_core.specs.declared.event.Event.TheVariants.{Accepted, Sent, 
 use Rattle.journal_core.specs.declared.event.Cause.TheVariants.{Codel, Overflow}
 use Rattle.journal_core.specs.declared.totals.Totals.{Totals}
 use Rattle.monitor_core.specs.declared.monitor.Seen.{Seen}
-use Rattle.program_core.specs.Watched.{AreFronts, IsSeen, dropped_of, seen_line}
+use Rattle.run_core.specs.Seeing.{IsSeen}
+use Rattle.program_core.specs.Watched.{AreFronts, dropped_of, seen_line}
 
 -- an event drops by one cause at most
 drops_few : (events : List Event) → count_by is_codel_drop events + count_by is_overflow_drop events ≤ length events

@@ -8,9 +8,11 @@ use Rattle.row_core.specs.declared.faults.TraceFaultKind.TheVariants as trace_fa
 use Rattle.trace_core.specs.declared.trace_run.RunFault.{RunFault}
 use Rattle.trace_core.specs.declared.trace_run.RunFault.TheVariants as run_fault
 use Rattle.command_core.specs.CommandLine.{AsksForLanes, AsksForLocked, AsksForRun, IsMistake, parameter_words, seed_text}
-use Rattle.program_core.specs.Journals.{AreLanesJournal, AreLockedJournal}
+use Rattle.run_core.specs.Journals.{AreLanesJournal, AreLockedJournal}
 use Rattle.program_core.specs.Runs.{Begins, BeginsJournal, BeginsReport}
 use Rattle.command_core.specs.Seeds.{seed_given}
+use Rattle.run_core.specs.declared.senders_fault.SendersFault.{SendersFault}
+use Rattle.run_core.specs.declared.senders_fault.SendersFault.TheVariants as senders_fault
 use Rattle.command_core.specs.declared.command_line.CommandFault.{CommandFault}
 use Rattle.command_core.specs.declared.command_line.CommandFault.TheVariants as command_fault
 use Rattle.program_core.specs.declared.program_run.ProgramFault.{ProgramFault}
@@ -52,15 +54,6 @@ IsRunFault seed words input old new (program_fault.CommandLine text) = ⊥
 IsRunFault seed words input old new program_fault.NotUtf8 = ⊥
 IsRunFault seed words input old new program_fault.Settle = ⊥
 IsRunFault seed words input old new (program_fault.Lane lane) = ⊥
-
--- A run through a locked port, of a trace that was read, fails so: memory was wanting, or the port didn't settle.
-abbrev pub IsLockedRunFault : ProgramFault → Type 0
-IsLockedRunFault fault = (fault ≡ program_fault.Memory) ⊎ (fault ≡ program_fault.Settle)
-
--- And one through the lanes of so many senders: memory was wanting, or one of them didn't submit all of its packets.
-abbrev pub IsLanesRunFault : ℕ → ProgramFault → Type 0
-IsLanesRunFault senders fault =
-    (fault ≡ program_fault.Memory) ⊎ ((lane : ℕ) × (lane < senders) × (fault ≡ program_fault.Lane lane))
 
 -- The fault is one of a run by so many senders, with a front of its journal where a write failed. What the engine has
 -- may differ from what the seats were told.
@@ -105,3 +98,9 @@ abbrev pub run_fault_told : RunFault → ProgramFault
 run_fault_told (run_fault.Trace fault) = program_fault.Trace fault
 run_fault_told run_fault.Memory = program_fault.Memory
 run_fault_told run_fault.Write = program_fault.Write
+
+-- the fault of the program for one of a run by senders
+abbrev pub senders_fault_told : SendersFault → ProgramFault
+senders_fault_told senders_fault.Memory = program_fault.Memory
+senders_fault_told senders_fault.Settle = program_fault.Settle
+senders_fault_told (senders_fault.Lane lane) = program_fault.Lane lane

@@ -4,9 +4,13 @@ use Rattle.std.specs.Io.KnownBytes.{Appends}
 use Rattle.packet_core.specs.Words.{params_of_words}
 use Rattle.packet_core.specs.declared.flow.Seed.{Seed}
 use Rattle.packet_core.specs.declared.params.ParamFields.{ParamFields}
-use Rattle.trace_core.specs.Report.{IsReportOf}
+use Rattle.trace_core.specs.Report.{IsReportOf, journal_text}
 use Rattle.command_core.specs.CommandLine.{AsksForHelp, AsksForLanes, AsksForLocked, AsksForTrace, IsMonitorCount, IsSenderCount, monitors_text, parameter_words, seed_text, senders_text}
-use Rattle.program_core.specs.Journals.{AreLanesJournal, AreLockedJournal, IsJournalOf, Journals}
+use Rattle.run_core.specs.Journals.{AreLanesJournal, AreLockedJournal, Journals}
+use Rattle.row_core.specs.Traces.{trace_of}
+use Rattle.journal_core.specs.declared.event.Event.{Event}
+use Rattle.journal_core.specs.declared.step.Step.{Step}
+use Rattle.trace_core.specs.declared.journal_report.SenderRow.{SenderRow}
 use Rattle.command_core.specs.Seeds.{seed_given}
 
 -- The text of the seed and the parameter words are good, and of the report of the input with that seed and those
@@ -23,6 +27,16 @@ pub record IsRunFor (seed_text : Option (List ℕ)) (parameter_words : List (Lis
 abbrev pub BeginsReport : Option (List ℕ) → List (List ℕ) → Option (List ℕ) → Option (List ℕ) → Option (List ℕ) → Type 0
 BeginsReport seed_text parameter_words input old new =
     IsRunFor seed_text parameter_words input (λ text. (count : ℕ) × Appends old new (take count text))
+
+-- The text is the journal of such a run of a trace with these bytes by so many senders.
+pub record IsJournalOf (Are : Journals) (p : ParamFields) (seed : Seed) (senders : ℕ)
+    (bytes text : List ℕ) : Type 0 where
+  pub steps : List Step
+  pub events : List Event
+  pub rows : List SenderRow
+  pub read : trace_of bytes ≡ Ok steps
+  pub made : Are p seed senders steps events rows
+  pub told : text ≡ journal_text events rows
 
 -- The text of the seed and the parameter words are good, and of a journal of the input by so many senders, with that
 -- seed and those parameters, this holds. Which journals these are depends on how the senders reach the scheduler.

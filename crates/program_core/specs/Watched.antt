@@ -3,15 +3,8 @@ use Rattle.std.specs.Prelude.{◌≡◌, ℕ, ◌+◌, List, [], ◌∷◌, ◌+
 use Rattle.std.specs.Fmt.{decimal}
 use Rattle.std.specs.Io.KnownBytes.{Appends}
 use Rattle.std.specs.List.{join_with_byte}
-use Rattle.journal_core.specs.Statistics.{statistics}
-use Rattle.journal_core.specs.declared.event.Event.{Event}
 use Rattle.monitor_core.specs.declared.monitor.Seen.{Seen}
-
--- What a monitor saw: the statistics of as many events as it says.
-pub record IsSeen (seen : Seen) : Type 0 where
-  pub events : List Event
-  pub totals : seen.totals ≡ statistics events
-  pub count : seen.events ≡ length events
+use Rattle.run_core.specs.Seeing.{IsSeen}
 
 -- how many packets were dropped
 abbrev pub dropped_of : Seen → ℕ

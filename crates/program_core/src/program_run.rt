@@ -4,7 +4,7 @@ ghost use Rattle.std.specs.Result.{IsOkUnless};
 ghost use Rattle.std.specs.IoError.{error_kind};
 ghost use Rattle.std.specs.Io.KnownBytes.{Appends, Keeps};
 ghost use Rattle.packet_core.specs.Words.{params_of_words};
-ghost use Rattle.program_core.specs.Faults.{IsFaultOn, IsRunFault, command_fault_told, run_fault_told, status_of, trace_status};
+ghost use Rattle.program_core.specs.Faults.{IsFaultOn, IsRunFault, command_fault_told, run_fault_told, senders_fault_told, status_of, trace_status};
 ghost use Rattle.program_core.specs.Runs.{Answers, IsRunFor, IsUnwatched};
 ghost use Rattle.command_core.specs.Seeds.{seed_given};
 ghost use Rattle.program_core.specs.declared.program_run.ProgramFault.{ProgramFault};
@@ -14,9 +14,8 @@ use crate::lanes::simulate_lanes;
 use crate::locked::simulate_locked;
 use command_core::{CommandFault, Request, ZERO_SEED, parse, read_seed};
 use packet_core::{ParamFault, Seed, read_params};
-use port_core::{OpenFault, PublishFault};
-use sched_core::Refusal;
-use std::alloc::{AllocError, AllocFailed, Global};
+use run_core::SendersFault;
+use std::alloc::{AllocError, Global};
 use std::io::{self, ErrorKind, Read, Write};
 use std::sync::Wait;
 use std::thread::Threads;
@@ -134,33 +133,15 @@ impl From<RunFault> for ProgramFault {
     }
 }
 
-/// Why a call of the locked port or of the device is refused, where it isn't for a second close: the moments of a trace
-/// are below 2^60 and it has less than 2^40 rows, so memory was wanting.
-impl From<Refusal> for ProgramFault {
-    ghost from_gives = { λ _ e. e ≡ program_fault.Memory };
+impl From<SendersFault> for ProgramFault {
+    ghost from_gives = { λ fault e. e ≡ senders_fault_told fault };
 
-    fn from(_: Refusal) -> ProgramFault {
-        ProgramFault::Memory
-    }
-}
-
-/// Why lanes aren't opened.
-impl From<OpenFault> for ProgramFault {
-    ghost from_gives = { λ _ e. e ≡ program_fault.Memory };
-
-    fn from(fault: OpenFault) -> ProgramFault {
+    fn from(fault: SendersFault) -> ProgramFault {
         match fault {
-            OpenFault::Memory | OpenFault::NoPlace(_) => ProgramFault::Memory,
+            SendersFault::Memory => ProgramFault::Memory,
+            SendersFault::Settle => ProgramFault::Settle,
+            SendersFault::Lane(lane) => ProgramFault::Lane(lane),
         }
-    }
-}
-
-/// Why statistics aren't published.
-impl From<PublishFault> for ProgramFault {
-    ghost from_gives = { λ _ e. e ≡ program_fault.Memory };
-
-    fn from(_: PublishFault) -> ProgramFault {
-        ProgramFault::Memory
     }
 }
 
@@ -168,14 +149,6 @@ impl From<AllocError> for ProgramFault {
     ghost from_gives = { λ _ e. e ≡ program_fault.Memory };
 
     fn from(_: AllocError) -> ProgramFault {
-        ProgramFault::Memory
-    }
-}
-
-impl<T: Drop> From<AllocFailed<T>> for ProgramFault {
-    ghost from_gives = { λ _ e. e ≡ program_fault.Memory };
-
-    fn from(_: AllocFailed<T>) -> ProgramFault {
         ProgramFault::Memory
     }
 }

@@ -1,7 +1,7 @@
 use Rattle.std.proofs.Common.{◌≡◌, Ok, map, option_map, rules}
 use Rattle.packet_core.specs.Words.{params_of_words}
 use Rattle.program_core.specs.Faults.{run_fault_told}
-use Rattle.program_core.specs.Journals.{AreLockedJournal}
+use Rattle.run_core.specs.Journals.{AreLockedJournal}
 use Rattle.program_core.proofs.RunLemmas.{err_told, locked_fault, senders_run}
 use Rattle.program_core.proofs.locked.simulate_locked.Goals as goal
 

@@ -1,5 +1,5 @@
 use Rattle.std.proofs.Common.{inl, inr, map}
-use Rattle.program_core.specs.Journals.{AreLanesJournal, AreLockedJournal}
+use Rattle.run_core.specs.Journals.{AreLanesJournal, AreLockedJournal}
 use Rattle.program_core.proofs.RunLemmas.{answers_senders, answers_so, on_ok}
 use Rattle.program_core.proofs.program_run.answer.Goals as goal
 

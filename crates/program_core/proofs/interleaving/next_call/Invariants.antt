@@ -1,6 +1,0 @@
-use Rattle.std.proofs.Common.{◌≡◌, drop}
-use Rattle.program_core.specs.Interleavings.{main_rows}
-use Rattle.program_core.proofs.interleaving.next_call.Given as goal
-
-abbrev pub invariant-loop-next : goal.invariant-loop-next
-invariant-loop-next l = main_rows l.closed (drop l.next l.rows) ≡ main_rows l.closed (drop l.row l.rows)

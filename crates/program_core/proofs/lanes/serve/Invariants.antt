@@ -1,8 +1,0 @@
-use Rattle.std.proofs.Common.{length, take}
-use Rattle.program_core.specs.DeviceRuns.{ServesRows}
-use Rattle.program_core.specs.Journals.{IsSameDevice}
-use Rattle.program_core.proofs.lanes.serve.Given as goal
-
-abbrev pub invariant-loop-step : goal.invariant-loop-step
-invariant-loop-step g l = IsSameDevice l.fn.device l.device
-    × ServesRows (length l.fn.device.lanes) 0 l.fn.device.engine.steps (take l.step-index l.steps) l.now l.device.engine.steps

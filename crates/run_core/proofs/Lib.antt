@@ -1,0 +1,3 @@
+pub mod DeviceRunLemmas
+pub mod JournalLemmas
+pub mod LaneRunLemmas

@@ -1,0 +1,4 @@
+pub mod DeviceRuns
+pub mod Journals
+pub mod Seeing
+pub mod SendersFaults

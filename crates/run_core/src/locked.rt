@@ -1,0 +1,183 @@
+//! The run of steps by senders that are threads, through a locked port.
+ghost use Rattle.std.specs.Prelude.{◌≡◌, ◌≢◌, ◌≤◌, ◌<◌, ◌+◌, ◌-◌, ℕ, All, IfErr, IfOk, OnOk, length, map};
+ghost use Rattle.journal_core.specs.declared.step.Refusal.TheVariants.{ClosedAlready};
+ghost use Rattle.sender_core.specs.Senders.{AreCalls};
+ghost use Rattle.sender_core.specs.declared.interleaving.TheConstants.{MAX_SENDERS};
+ghost use Rattle.port_core.specs.declared.gate.Stop.TheVariants as stop;
+ghost use Rattle.run_core.specs.Journals.{AreLockedJournal, row_of};
+ghost use Rattle.run_core.specs.SendersFaults.{IsLockedRunFault};
+ghost use Rattle.run_core.specs.declared.senders_fault.SendersFault.TheVariants as senders_fault;
+
+use crate::senders_fault::SendersFault;
+use packet_core::{Packet, Params, Seed};
+use port_core::{LockedDone, LockedPort, Open, PortSeat, Stop};
+use sched_core::{Engine, Refusal, Step};
+use sender_core::{MAX_SENDERS, is_whole, lists_of, start_locked};
+use std::alloc::Global;
+use std::marker::Brand;
+use std::sync::Wait;
+use std::sync::ledger::{Blank, Ledger};
+use std::thread::Threads;
+use trace_core::SenderRow;
+
+/// Makes the steps by so many senders and this thread, through a locked port, and gives the engine and the rows of the
+/// senders.
+pub fn run_locked<H: Threads + Wait + Sync>(
+    rt: &H,
+    alloc: Global,
+    params: Params,
+    seed: Seed,
+    senders: u32,
+    steps: &[Step],
+) -> Result<(Engine, Vec<SenderRow>), SendersFault>
+    requires { (0 < senders) × (senders ≤ MAX_SENDERS) }
+    ensures journal { IfOk result (λ r. AreLockedJournal params seed senders steps.now
+        r.0.sched.standing.events r.1.items) }
+    ensures fault { IfErr result IsLockedRunFault }
+{
+    let lists = lists_of(alloc, &params, &seed, senders, steps)?;
+    let (accepted, sent) = (
+        Blank::new(u64::from(senders) + 1),
+        Blank::new(u64::from(senders) + 1),
+    );
+    run_lists::<Brand, Brand, _>(rt, alloc, params, seed, steps, &lists, accepted, sent)
+}
+
+/// Makes the packets of each list by a sender of its own, and the other steps by this thread, through a port with these
+/// ledgers.
+fn run_lists<A: Ledger + Send + Sync, S: Ledger + Send + Sync, H: Threads + Wait + Sync>(
+    rt: &H,
+    alloc: Global,
+    params: Params,
+    seed: Seed,
+    steps: &[Step],
+    lists: &[Vec<(u64, Packet)>],
+    accepted: Blank,
+    sent: Blank,
+) -> Result<(Engine, Vec<SenderRow>), SendersFault>
+    requires lists { AreCalls params seed (length lists.now) steps.now lists.now }
+    requires number { (0 < length lists.now) × (length lists.now ≤ MAX_SENDERS) }
+    requires accepted { (accepted.name ≡ A.name) × (accepted.parts ≡ A.parts) × (A.parts ≡ length lists.now + 1) }
+    requires sent { (sent.name ≡ S.name) × (sent.parts ≡ S.parts) × (S.parts ≡ length lists.now + 1) }
+    ensures journal { IfOk result (λ r. AreLockedJournal params seed (length lists.now) steps.now
+        r.0.sched.standing.events r.1.items) }
+    ensures fault { IfErr result IsLockedRunFault }
+{
+    let count = lists.len() as u32 + 1;
+    let (port, mut seats) = LockedPort::<A, S>::start(alloc, params, seed, count, accepted, sent)?;
+    let Some(seat) = seats.pop() else {
+        unreachable!()
+    };
+    let gates = vec![in alloc; Open; lists.len()]?;
+    let shared = &port;
+    let part = move || -> Result<PortSeat<A, S>, Refusal>
+        ensures { IfOk result (λ r. (r.lane ≡ seat.lane) × (r.told ≡ seat.told)) }
+    { device_part(rt, shared, seat, steps) };
+    let (done, part) = start_locked(rt, alloc, &port, seats, lists, &gates, part)?;
+    let seat = emptied(rt, &port, part?, steps.len())?;
+    let (rows, mut seats) = rows_of(alloc, done)?;
+    seats.push(seat)?;
+    match port.settle(seats) {
+        Ok(engine) => {
+            if !is_whole(&engine, lists, steps) {
+                return Err(SendersFault::Settle);
+            }
+            engine.run_of_steps();
+            Ok((engine, rows))
+        }
+        Err(_) => Err(SendersFault::Settle),
+    }
+}
+
+/// The device's part: the dequeues and closes of the steps, in their order. A close after another one is passed over.
+fn device_part<A: Ledger, S: Ledger, H: Wait>(
+    rt: &H,
+    port: &LockedPort<A, S>,
+    seat: PortSeat<A, S>,
+    steps: &[Step],
+) -> Result<PortSeat<A, S>, Refusal>
+    ensures { IfOk result (λ r. (r.lane ≡ seat.lane) × (r.told ≡ seat.told)) }
+{
+    let mut seat = seat;
+    for step in steps {
+        match *step {
+            Step::Enqueue { .. } => {}
+            Step::Dequeue { moment } => {
+                port.dequeue(rt, &mut seat, moment)?;
+            }
+            Step::Close { moment } => close(rt, port, moment)?,
+        }
+    }
+    Ok(seat)
+}
+
+/// Closes, unless there was a close.
+fn close<A: Ledger, S: Ledger, H: Wait>(
+    rt: &H,
+    port: &LockedPort<A, S>,
+    moment: u64,
+) -> Result<(), Refusal>
+    ensures { IfErr result (λ why. why ≢ ClosedAlready) }
+{
+    match port.close(rt, moment) {
+        Ok(_) | Err(Refusal::ClosedAlready) => Ok(()),
+        Err(refusal) => Err(refusal),
+    }
+}
+
+/// Closes, unless there was a close, and takes packets, at most so many, at the last moment, until none waits.
+fn emptied<A: Ledger, S: Ledger, H: Wait>(
+    rt: &H,
+    port: &LockedPort<A, S>,
+    seat: PortSeat<A, S>,
+    most: usize,
+) -> Result<PortSeat<A, S>, Refusal>
+    ensures { IfOk result (λ r. (r.lane ≡ seat.lane) × (r.told ≡ seat.told)) }
+{
+    let mut seat = seat;
+    // A step at 0 is made at the last moment.
+    close(rt, port, 0)?;
+    for _packet in 0..=most {
+        if port.dequeue(rt, &mut seat, 0)?.is_none() {
+            break;
+        }
+    }
+    Ok(seat)
+}
+
+/// The rows of the senders, in their order, and their seats.
+fn rows_of<A: Ledger, S: Ledger>(
+    alloc: Global,
+    done: Vec<LockedDone<A, S>>,
+) -> Result<(Vec<SenderRow>, Vec<PortSeat<A, S>>), SendersFault>
+    ensures rows { IfOk result (λ r. r.0.items ≡ map (λ d. row_of d.calls d.seat) done.items) }
+    ensures seats { IfOk result (λ r. r.1.items ≡ map (λ d. d.seat) done.items) }
+    ensures done { OnOk result (All (λ d. d.stop ≡ stop.Done) done.items) }
+    ensures fault { IfErr result (λ fault. fault ≡ senders_fault.Memory) }
+{
+    let mut rows = Vec::new(alloc);
+    let mut seats = Vec::new(alloc);
+    for sender in done {
+        let LockedDone { calls, stop, seat } = sender;
+        // The gates are open, each moment is below 2^60 and ids go to 2^40, so memory alone stops a sender.
+        if stop != Stop::Done {
+            return Err(SendersFault::Memory);
+        }
+        rows.push(row_of(calls, &seat))?;
+        seats.push(seat)?;
+    }
+    Ok((rows, seats))
+}
+
+/// The row of a sender that made so many calls.
+fn row_of<A: Ledger, S: Ledger>(calls: u64, seat: &PortSeat<A, S>) -> SenderRow
+    ensures { result ≡ row_of calls seat.now }
+{
+    let accepted = seat.accepted();
+    SenderRow {
+        sender: seat.lane(),
+        submitted: calls,
+        accepted,
+        left: calls.saturating_sub(accepted),
+    }
+}

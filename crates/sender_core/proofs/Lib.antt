@@ -1,0 +1,2 @@
+pub mod InterleavingLemmas
+pub mod SenderLemmas
