@@ -1,139 +1,79 @@
-//! Calls that may be refused for want of memory.
+//! Calls that may be refused for want of memory, one by one and as tables, and the first thing of them that is wrong.
 
-ghost use Rattle.std.specs.Prelude.{◌≡◌};
-
+use packet_core::Packet;
 use sched_core::Refusal;
-use thiserror::Error;
 
-/// A call that didn't answer as it has to, or what is wrong with the input.
-#[derive(Clone, Copy, Debug, PartialEq, Eq, Error)]
-pub(crate) enum Wrong {
-    #[error("a line")]
-    ALine,
-    #[error("a name and a number")]
-    ANameAndANumber,
-    #[error("a number")]
-    ANumber,
-    #[error("a page")]
-    APage,
-    #[error("a sequence of that name")]
-    ASequenceOfThatName,
-    #[error("a text")]
-    AText,
-    #[error("Device::close")]
-    DeviceClose,
-    #[error("Device::close once more")]
-    DeviceCloseOnceMore,
-    #[error("Device::dequeue")]
-    DeviceDequeue,
-    #[error("Device::publish")]
-    DevicePublish,
-    #[error("Device::pump")]
-    DevicePump,
-    #[error("Device::pump behind Device::close")]
-    DevicePumpBehindDeviceClose,
-    #[error("Device::pump behind Device::reserve")]
-    DevicePumpBehindDeviceReserve,
-    #[error("Device::receipt")]
-    DeviceReceipt,
-    #[error("Device::reserve")]
-    DeviceReserve,
-    #[error("Engine::close")]
-    EngineClose,
-    #[error("Engine::close once more")]
-    EngineCloseOnceMore,
-    #[error("Engine::dequeue")]
-    EngineDequeue,
-    #[error("Engine::dequeue behind Engine::reserve")]
-    EngineDequeueBehindEngineReserve,
-    #[error("Engine::enqueue")]
-    EngineEnqueue,
-    #[error("Engine::enqueue behind Engine::close")]
-    EngineEnqueueBehindEngineClose,
-    #[error("Engine::enqueue behind Engine::reserve")]
-    EngineEnqueueBehindEngineReserve,
-    #[error("Engine::make")]
-    EngineMake,
-    #[error("Engine::reserve")]
-    EngineReserve,
-    #[error("Engine::totals")]
-    EngineTotals,
-    #[error("Engine::try_new")]
-    EngineTryNew,
-    #[error("Engine::tuple_rows")]
-    EngineTupleRows,
-    #[error("Flows::push")]
-    FlowsPush,
-    #[error("Flows::reserve")]
-    FlowsReserve,
-    #[error("Flows::try_new")]
-    FlowsTryNew,
-    #[error("LaneSender::submit")]
-    LaneSenderSubmit,
-    #[error("lanes")]
-    Lanes,
-    #[error("LockedPort::close")]
-    LockedPortClose,
-    #[error("LockedPort::close once more")]
-    LockedPortCloseOnceMore,
-    #[error("LockedPort::dequeue")]
-    LockedPortDequeue,
-    #[error("LockedPort::enqueue")]
-    LockedPortEnqueue,
-    #[error("LockedPort::enqueue behind LockedPort::close")]
-    LockedPortEnqueueBehindLockedPortClose,
-    #[error("LockedPort::start")]
-    LockedPortStart,
-    #[error("Monitor::totals")]
-    MonitorTotals,
-    #[error("Packet::try_new")]
-    PacketTryNew,
-    #[error("Params::try_new")]
-    ParamsTryNew,
-    #[error("PortSeat")]
-    PortSeat,
-    #[error("program")]
-    Program,
-    #[error("read_trace")]
-    ReadTrace,
-    #[error("run")]
-    Run,
-    #[error("run_steps")]
-    RunSteps,
-    #[error("Sched::close")]
-    SchedClose,
-    #[error("Sched::dequeue")]
-    SchedDequeue,
-    #[error("Sched::enqueue")]
-    SchedEnqueue,
-    #[error("Sched::enqueue behind Sched::close")]
-    SchedEnqueueBehindSchedClose,
-    #[error("Sched::enqueue behind Sched::reserve")]
-    SchedEnqueueBehindSchedReserve,
-    #[error("Sched::reserve")]
-    SchedReserve,
-    #[error("Sched::totals")]
-    SchedTotals,
-    #[error("Sched::try_new")]
-    SchedTryNew,
-    #[error("Sched::tuple_rows")]
-    SchedTupleRows,
-    #[error("send_locked")]
-    SendLocked,
-    #[error("write_journal")]
-    WriteJournal,
+/// What became of a call.
+#[derive(Clone, Copy)]
+pub(crate) enum Answer {
+    /// It was answered as it has to be.
+    Right,
+    /// It was answered otherwise.
+    Wrong,
+    /// It was refused for want of memory.
+    Refused,
 }
 
-/// The calls of a sequence, and how many of them were refused for want of memory.
-#[derive(Debug, Drop)]
-pub(crate) struct Calls {
+impl Answer {
+    /// Right where it is as it has to be.
+    pub(crate) fn of(is: bool) -> Answer {
+        if is { Answer::Right } else { Answer::Wrong }
+    }
+
+    /// Whether it is right.
+    pub(crate) fn is_right(self) -> bool {
+        match self {
+            Answer::Right => true,
+            Answer::Wrong | Answer::Refused => false,
+        }
+    }
+}
+
+/// Whether memory may be refused to a call, and what is compared then.
+#[derive(Clone, Copy)]
+pub(crate) enum Memory {
+    /// It may. All that can be read is then as before, and the same call with ample memory is answered.
+    Takes,
+    /// It may. All that can be read is then as before, and the call isn't made again.
+    TakesOnce,
+    /// The call takes none.
+    Spares,
+    /// The call takes none, and all that can be read is as before.
+    Keeps,
+}
+
+/// A call of a table, whether it takes memory, and its name where it isn't answered as it has to be.
+pub(crate) type Row<'a, C> = (Memory, C, &'a str);
+
+/// What the calls of a table are made with.
+pub(crate) trait Subject {
+    /// A call, and what it is answered.
+    type Call: Copy;
+
+    /// All that can be read.
+    type Picture: PartialEq + Drop;
+
+    /// All that can be read now. It takes no memory.
+    fn picture(&mut self) -> Self::Picture;
+
+    /// Makes a call, with that packet where it wants one.
+    fn answer(&mut self, call: Self::Call, packet: Packet) -> Answer;
+}
+
+/// The calls of a sequence: how many of them were refused for want of memory, and the first thing that is wrong.
+#[derive(Drop)]
+pub(crate) struct Calls<'a> {
     refused: u32,
+    wrong: Option<&'a str>,
 }
 
-impl Calls {
-    /// None was refused yet.
-    pub(crate) fn new() -> Calls {
-        Calls { refused: 0 }
+impl<'a> Calls<'a> {
+    /// None was refused yet, and nothing is wrong.
+    pub(crate) fn new() -> Calls<'a> {
+        Calls {
+            refused: 0,
+            wrong: None,
+        }
     }
 
     /// How many were refused.
@@ -141,59 +81,79 @@ impl Calls {
         self.refused
     }
 
+    /// The first thing that is wrong.
+    pub(crate) fn wrong(&self) -> Option<&'a str> {
+        self.wrong
+    }
+
     /// One more was refused.
     pub(crate) fn note(&mut self) {
         self.refused = self.refused.saturating_add(1);
     }
 
-    /// Makes a value by a call that answers None for want of memory. The same call with ample memory gives one.
-    pub(crate) fn made<T, F: Fn() -> Option<T>>(
+    /// That has to be. Where it isn't, what has that name is wrong.
+    pub(crate) fn wanted(&mut self, is: bool, name: &'a str) {
+        if !is && self.wrong.is_none() {
+            self.wrong = Some(name);
+        }
+    }
+
+    /// Whether a call was refused for want of memory, so that it has to be made once more.
+    pub(crate) fn is_refused(&mut self, answer: Answer) -> bool {
+        match answer {
+            Answer::Refused => {
+                self.note();
+                true
+            }
+            Answer::Right | Answer::Wrong => false,
+        }
+    }
+
+    /// Makes the calls of a table in turn.
+    pub(crate) fn makes<S: Subject>(
         &mut self,
-        wrong: Wrong,
-        make: F,
-    ) -> Result<T, Wrong>
-        requires { F.IsAlwaysCallable make }
-    {
-        if let Some(value) = make() {
-            return Ok(value);
+        subject: &mut S,
+        packet: Packet,
+        rows: &[Row<'a, S::Call>],
+    ) {
+        for (memory, call, name) in rows {
+            self.makes_one(subject, packet, *memory, *call, name);
         }
-        self.note();
-        make().ok_or(wrong)
     }
 
-    /// Makes a call that answers None for want of memory. All that can be read is then as before, and the same call
-    /// with ample memory is answered.
-    pub(crate) fn answered<
-        T,
-        A: Drop,
-        P: PartialEq + Drop,
-        G: Fn(&mut T) -> P,
-        F: Fn(&mut T) -> Option<A>,
-    >(&mut self, wrong: Wrong, subject: &mut T, picture: G, call: F) -> Result<A, Wrong>
-        requires picture { G.IsAlwaysCallable picture }
-        requires call { F.IsAlwaysCallable call }
-    {
-        let before = picture(subject);
-        if let Some(answer) = call(subject) {
-            return Ok(answer);
+    /// Makes a call of a table.
+    fn makes_one<S: Subject>(
+        &mut self,
+        subject: &mut S,
+        packet: Packet,
+        memory: Memory,
+        call: S::Call,
+        name: &'a str,
+    ) {
+        let before = subject.picture();
+        match (memory, subject.answer(call, packet)) {
+            (Memory::Takes, Answer::Refused) => {
+                self.note();
+                self.wanted(subject.picture() == before, name);
+                self.wanted(subject.answer(call, packet).is_right(), name);
+            }
+            (Memory::TakesOnce, Answer::Refused) => {
+                self.note();
+                self.wanted(subject.picture() == before, name);
+            }
+            (Memory::Keeps, Answer::Right) => self.wanted(subject.picture() == before, name),
+            (_, answer) => self.wanted(answer.is_right(), name),
         }
-        self.note();
-        if picture(subject) != before {
-            return Err(wrong);
-        }
-        call(subject).ok_or(wrong)
     }
 }
 
-/// It is as it has to be.
-pub(crate) fn wanted(is: bool, wrong: Wrong) -> Result<(), Wrong> {
-    if is { Ok(()) } else { Err(wrong) }
-}
-
-/// A step's answer, and None where it was refused for want of memory.
-pub(crate) fn unless_memory<T: Drop>(answer: Result<T, Refusal>) -> Option<Result<T, Refusal>> {
+/// Whether the answer to a step is the one that is wanted, where memory wasn't refused.
+pub(crate) fn compared<T: PartialEq + Drop>(
+    answer: Result<T, Refusal>,
+    wanted: Result<T, Refusal>,
+) -> Answer {
     match answer {
-        Err(Refusal::Memory) => None,
-        answer => Some(answer),
+        Err(Refusal::Memory) => Answer::Refused,
+        answer => Answer::of(answer == wanted),
     }
 }

@@ -2,20 +2,19 @@
 
 ghost use Rattle.std.specs.Prelude.{◌≡◌};
 
-use crate::calls::{Calls, Wrong, unless_memory, wanted};
+use crate::calls::Memory::{Keeps, Spares, Takes, TakesOnce};
+use crate::calls::{Answer, Calls, Row, Subject, compared};
 use crate::pictures::{Picture, of_engine};
-use crate::values::{SEED, one_flow, packet};
+use crate::steps::{gave, has_room};
+use crate::values::{SEED, Values};
+use packet_core::Packet;
 use port_core::{
-    BookBlank, BookName, Device, LaneSender, Layout, LeftRight, Monitor, OpenFault, Opened,
-    PublishFault, Screen, Shown, lanes,
+    BookBlank, BookName, Device, LaneSender, Layout, MAX_BURST, Monitor, OpenFault, Opened,
+    PublishFault, Receipt, Screen, Shown, lanes,
 };
 use sched_core::Refusal;
-use std::alloc::Global;
 use std::marker::Brand;
 use std::sync::Wait;
-
-/// So many packets are submitted, pumped and sent.
-const PACKETS: u64 = 5;
 
 /// One lane with room for all packets, and one monitor.
 const LAYOUT: Layout = Layout {
@@ -24,282 +23,268 @@ const LAYOUT: Layout = Layout {
     monitors: 1,
 };
 
-/// All that can be read of a device: of its engine, and how much was published.
-pub(crate) fn picture<J: BookName, X: Screen<Shown<J>> + Drop>(
-    device: &mut Device<J, X>,
-) -> (Picture, u64) {
-    (of_engine(device.engine()), device.receipt().events())
-}
+/// What comes after the close is refused.
+const CLOSED: Refusal = Refusal::ClosedAlready;
 
-/// What was opened, and None where memory was refused.
-pub(crate) fn opened<'a, J: BookName, R: Wait>(
-    rt: &'a R,
-    alloc: Global,
-    blank: BookBlank,
-) -> Result<Option<Opened<J, LeftRight<Shown<J>, &'a R>>>, Wrong>
-    requires { blank ≡ J.book }
-{
-    match lanes(rt, alloc, blank, one_flow()?, SEED, LAYOUT) {
-        Ok(opened) => Ok(Some(opened)),
-        Err(OpenFault::Memory) => Ok(None),
-        Err(OpenFault::NoPlace(_)) => Err(Wrong::Lanes),
-    }
-}
-
-/// Lanes are opened with the name of a book, which doesn't come back where memory is refused, and then with another.
-pub(crate) fn lane<R: Wait>(rt: &R, alloc: Global, calls: &mut Calls) -> Result<(), Wrong> {
-    if lane_in::<Brand, R>(rt, alloc, BookBlank::new(), calls)? {
-        return Ok(());
-    }
-    calls.note();
-    let again = lane_in::<Brand, R>(rt, alloc, BookBlank::new(), calls)?;
-    wanted(again, Wrong::Lanes)
-}
-
-/// The same with that name. It answers whether the lane was opened.
-fn lane_in<J: BookName, R: Wait>(
-    rt: &R,
-    alloc: Global,
-    blank: BookBlank,
-    calls: &mut Calls,
-) -> Result<bool, Wrong>
-    requires { blank ≡ J.book }
-{
-    let Some(opened) = opened::<J, R>(rt, alloc, blank)? else {
-        return Ok(false);
-    };
-    with_lane(opened, calls)?;
-    Ok(true)
-}
-
-/// Makes the calls of a device that was opened.
-fn with_lane<J: BookName, X: Screen<Shown<J>> + Drop>(
-    opened: Opened<J, X>,
-    calls: &mut Calls,
-) -> Result<(), Wrong> {
-    let Opened {
-        mut senders,
-        mut device,
-        monitors: _monitors,
-    } = opened;
-    let Some(sender) = senders.first_mut() else {
-        return Err(Wrong::Lanes);
-    };
-    device_calls(sender, &mut device, calls)
+/// A call, and what it is answered.
+#[derive(Clone, Copy)]
+pub(crate) enum Call {
+    /// A packet is submitted.
+    Submit,
+    /// A pump of the lane at that moment, of so many packets at most.
+    Pump(u64, u64, Result<u64, Refusal>),
+    /// A dequeue at that moment, and the id of the packet that it gives.
+    Dequeue(u64, Result<Option<u64>, Refusal>),
+    /// A close at that moment.
+    Close(u64, Result<(), Refusal>),
+    /// Memory for so many steps.
+    Reserve(u8),
+    /// All is published: so many events.
+    Publish(u64),
+    /// The receipt of the last publish: so many events.
+    Receipt(u64),
+    /// The monitor shows what was published last.
+    Shown,
+    /// The monitor shows so many events, and so many packets accepted and sent.
+    Seen(u64, u64, u64),
+    /// The statistics: so many packets accepted and sent.
+    Totals(u64, u64),
 }
 
 /// Packets are submitted, pumped and sent one by one, then published, then some for which room was taken ahead, and
-/// then the device is closed.
-fn device_calls<J: BookName, X: Screen<Shown<J>> + Drop>(
-    sender: &mut LaneSender,
-    device: &mut Device<J, X>,
-    calls: &mut Calls,
-) -> Result<(), Wrong> {
-    for _ in 0..PACKETS {
-        admits(sender, device, calls)?;
-    }
-    for _ in 0..PACKETS {
-        let answer = calls.answered(
-            Wrong::DeviceDequeue,
-            device,
-            picture,
-            |device: &mut Device<J, X>| { unless_memory(device.dequeue(0)) },
-        )?;
-        wanted(answer.is_ok(), Wrong::DeviceDequeue)?;
-    }
-    let receipt = calls.answered(
-        Wrong::DevicePublish,
-        device,
-        picture,
-        |device: &mut Device<J, X>| { device.publish().ok() },
-    )?;
-    wanted(receipt.events() == 2 * PACKETS, Wrong::DevicePublish)?;
-    calls.answered(
-        Wrong::DeviceReserve,
-        device,
-        picture,
-        |device: &mut Device<J, X>| { device.reserve(8).ok() },
-    )?;
-    wanted(sender.submit(packet(53)?).is_ok(), Wrong::LaneSenderSubmit)?;
-    let pumped = pump(device);
-    wanted(pumped == Some(Ok(1)), Wrong::DevicePumpBehindDeviceReserve)?;
-    let answer = calls.answered(
-        Wrong::DeviceClose,
-        device,
-        picture,
-        |device: &mut Device<J, X>| { unless_memory(device.close(1)) },
-    )?;
-    wanted(answer.is_ok(), Wrong::DeviceClose)?;
-    closed(sender, device)?;
-    let totals = device.engine().totals();
-    wanted(
-        (totals.accepted, totals.sent) == (PACKETS + 1, PACKETS),
-        Wrong::EngineTotals,
-    )
-}
+/// then the device is closed. After the close a packet stays in its lane, and so does the device.
+static LANES: [Row<'static, Call>; 24] = [
+    (Spares, Call::Submit, "LaneSender::submit"),
+    (Takes, Call::Pump(0, 8, Ok(1)), "Device::pump"),
+    (Spares, Call::Submit, "LaneSender::submit"),
+    (Takes, Call::Pump(0, 8, Ok(1)), "Device::pump"),
+    (Spares, Call::Submit, "LaneSender::submit"),
+    (Takes, Call::Pump(0, 8, Ok(1)), "Device::pump"),
+    (Spares, Call::Submit, "LaneSender::submit"),
+    (Takes, Call::Pump(0, 8, Ok(1)), "Device::pump"),
+    (Spares, Call::Submit, "LaneSender::submit"),
+    (Takes, Call::Pump(0, 8, Ok(1)), "Device::pump"),
+    (Takes, Call::Dequeue(0, Ok(Some(0))), "Device::dequeue"),
+    (Takes, Call::Dequeue(0, Ok(Some(1))), "Device::dequeue"),
+    (Takes, Call::Dequeue(0, Ok(Some(2))), "Device::dequeue"),
+    (Takes, Call::Dequeue(0, Ok(Some(3))), "Device::dequeue"),
+    (Takes, Call::Dequeue(0, Ok(Some(4))), "Device::dequeue"),
+    (Takes, Call::Publish(10), "Device::publish"),
+    (Takes, Call::Reserve(8), "Device::reserve"),
+    (Spares, Call::Submit, "LaneSender::submit"),
+    (
+        Spares,
+        Call::Pump(0, 8, Ok(1)),
+        "Device::pump after Device::reserve",
+    ),
+    (Takes, Call::Close(1, Ok(())), "Device::close"),
+    (Keeps, Call::Submit, "LaneSender::submit"),
+    (
+        Keeps,
+        Call::Pump(1, 8, Err(CLOSED)),
+        "Device::pump after Device::close",
+    ),
+    (
+        Keeps,
+        Call::Close(1, Err(CLOSED)),
+        "Device::close once more",
+    ),
+    (Spares, Call::Totals(6, 5), "Engine::totals"),
+];
 
-/// Behind the close a packet stays in its lane, and so does the device.
-fn closed<J: BookName, X: Screen<Shown<J>> + Drop>(
-    sender: &mut LaneSender,
-    device: &mut Device<J, X>,
-) -> Result<(), Wrong> {
-    let before = picture(device);
-    wanted(sender.submit(packet(53)?).is_ok(), Wrong::LaneSenderSubmit)?;
-    let pumped = pump_at(device, 1);
-    let closed = Some(Err(Refusal::ClosedAlready));
-    wanted(pumped == closed, Wrong::DevicePumpBehindDeviceClose)?;
-    let again = device.close(1);
-    wanted(
-        again == Err(Refusal::ClosedAlready),
-        Wrong::DeviceCloseOnceMore,
-    )?;
-    wanted(
-        picture(device) == before,
-        Wrong::DevicePumpBehindDeviceClose,
-    )
-}
+/// Three packets are accepted, and all is published after each. A publish that is refused isn't made again: the next
+/// one shows what it left out. Then the device is closed, and all is published then and after a departure.
+static PUBLISH: [Row<'static, Call>; 20] = [
+    (Spares, Call::Submit, "LaneSender::submit"),
+    (Takes, Call::Pump(0, 8, Ok(1)), "Device::pump"),
+    (TakesOnce, Call::Publish(1), "Device::publish"),
+    (Spares, Call::Shown, "Monitor::totals"),
+    (Spares, Call::Submit, "LaneSender::submit"),
+    (Takes, Call::Pump(0, 8, Ok(1)), "Device::pump"),
+    (TakesOnce, Call::Publish(2), "Device::publish"),
+    (Spares, Call::Shown, "Monitor::totals"),
+    (Spares, Call::Submit, "LaneSender::submit"),
+    (Takes, Call::Pump(0, 8, Ok(1)), "Device::pump"),
+    (TakesOnce, Call::Publish(3), "Device::publish"),
+    (Spares, Call::Shown, "Monitor::totals"),
+    (Spares, Call::Receipt(3), "Device::publish"),
+    (Takes, Call::Close(9, Ok(())), "Device::close"),
+    (Takes, Call::Publish(4), "Device::publish"),
+    (Spares, Call::Shown, "Monitor::totals"),
+    (Takes, Call::Dequeue(9, Ok(Some(0))), "Device::dequeue"),
+    (Takes, Call::Publish(5), "Device::publish"),
+    (Spares, Call::Shown, "Monitor::totals"),
+    (Takes, Call::Dequeue(9, Ok(Some(1))), "Device::dequeue"),
+];
 
-/// A packet is submitted and pumped. A refused pump leaves it in its lane.
-fn admits<J: BookName, X: Screen<Shown<J>> + Drop>(
-    sender: &mut LaneSender,
-    device: &mut Device<J, X>,
-    calls: &mut Calls,
-) -> Result<(), Wrong> {
-    wanted(sender.submit(packet(53)?).is_ok(), Wrong::LaneSenderSubmit)?;
-    let pumped = calls.answered(Wrong::DevicePump, device, picture, pump)?;
-    wanted(pumped == Ok(1), Wrong::DevicePump)
-}
+/// The device is closed before the first publish.
+static PUBLISH_CLOSED: [Row<'static, Call>; 9] = [
+    (Spares, Call::Submit, "LaneSender::submit"),
+    (Takes, Call::Pump(0, 8, Ok(1)), "Device::pump"),
+    (Takes, Call::Close(9, Ok(())), "Device::close"),
+    (Takes, Call::Publish(2), "Device::publish"),
+    (Spares, Call::Shown, "Monitor::totals"),
+    (Takes, Call::Dequeue(9, Ok(Some(0))), "Device::dequeue"),
+    (Takes, Call::Publish(3), "Device::publish"),
+    (Spares, Call::Shown, "Monitor::totals"),
+    (Takes, Call::Dequeue(9, Ok(None)), "Device::dequeue"),
+];
 
-/// A pump of the lane at moment 0, of 8 packets at most.
-fn pump<J: BookName, X: Screen<Shown<J>> + Drop>(
-    device: &mut Device<J, X>,
-) -> Option<Result<u64, Refusal>> {
-    pump_at(device, 0)
-}
-
-/// The same at that moment.
-fn pump_at<J: BookName, X: Screen<Shown<J>> + Drop>(
-    device: &mut Device<J, X>,
-    moment: u64,
-) -> Option<Result<u64, Refusal>> {
-    if device.lanes() == 0 {
-        return None;
-    }
-    unless_memory(device.pump(0, moment, 8))
+/// Makes the calls of a device that is closed at last.
+pub(crate) fn lane<R: Wait>(rt: &R, values: &Values, calls: &mut Calls<'_>) {
+    plays(rt, values, &LANES, calls);
 }
 
 /// A publish is refused: the monitor still has what it saw, the receipt is the one before, and the next publish shows
 /// all that came meanwhile.
-pub(crate) fn second_publish<R: Wait>(
-    rt: &R,
-    alloc: Global,
-    is_closed: bool,
-    calls: &mut Calls,
-) -> Result<(), Wrong> {
-    if publish_in::<Brand, R>(rt, alloc, BookBlank::new(), is_closed, calls)? {
-        return Ok(());
-    }
-    calls.note();
-    let again = publish_in::<Brand, R>(rt, alloc, BookBlank::new(), is_closed, calls)?;
-    wanted(again, Wrong::Lanes)
+pub(crate) fn second_publish<R: Wait>(rt: &R, values: &Values, calls: &mut Calls<'_>) {
+    plays(rt, values, &PUBLISH, calls);
 }
 
-/// The same with that name of a book. It answers whether the lane was opened.
-fn publish_in<J: BookName, R: Wait>(
+/// The same of a device that was closed.
+pub(crate) fn closed_publish<R: Wait>(rt: &R, values: &Values, calls: &mut Calls<'_>) {
+    plays(rt, values, &PUBLISH_CLOSED, calls);
+}
+
+/// Lanes are opened with the name of a book, which doesn't come back where memory is refused, and then with another.
+/// The calls are made with them.
+pub(crate) fn plays<'a, R: Wait>(
     rt: &R,
-    alloc: Global,
+    values: &Values,
+    rows: &[Row<'a, Call>],
+    calls: &mut Calls<'a>,
+) {
+    if !plays_in::<Brand, R>(rt, values, BookBlank::new(), rows, calls) {
+        calls.note();
+        let again = plays_in::<Brand, R>(rt, values, BookBlank::new(), rows, calls);
+        calls.wanted(again, "lanes");
+    }
+}
+
+/// Makes the calls with lanes that are opened with that name. It answers whether memory wasn't refused to their opening.
+fn plays_in<'a, J: BookName, R: Wait>(
+    rt: &R,
+    values: &Values,
     blank: BookBlank,
-    is_closed: bool,
-    calls: &mut Calls,
-) -> Result<bool, Wrong>
+    rows: &[Row<'a, Call>],
+    calls: &mut Calls<'a>,
+) -> bool
     requires { blank ≡ J.book }
 {
-    let Some(opened) = opened::<J, R>(rt, alloc, blank)? else {
-        return Ok(false);
-    };
-    with_monitor(opened, is_closed, calls)?;
-    Ok(true)
-}
-
-/// Publishes on a device that was opened, or closes it before the first publish.
-fn with_monitor<J: BookName, X: Screen<Shown<J>> + Drop>(
-    opened: Opened<J, X>,
-    is_closed: bool,
-    calls: &mut Calls,
-) -> Result<(), Wrong> {
-    let Opened {
-        mut senders,
-        mut device,
-        mut monitors,
-    } = opened;
-    let (Some(sender), Some(monitor)) = (senders.first_mut(), monitors.first_mut()) else {
-        return Err(Wrong::Lanes);
-    };
-    if is_closed {
-        admits(sender, &mut device, calls)?;
-        goes_on(&mut device, monitor, 2, calls)
-    } else {
-        publishes(sender, &mut device, monitor, calls)
-    }
-}
-
-/// Three packets are accepted, and all is published behind each. A publish that is refused isn't made again: the next
-/// one shows what it left out.
-fn publishes<J: BookName, X: Screen<Shown<J>> + Drop>(
-    sender: &mut LaneSender,
-    device: &mut Device<J, X>,
-    monitor: &mut Monitor<J>,
-    calls: &mut Calls,
-) -> Result<(), Wrong> {
-    let mut shown = 0;
-    for accepted in 1..4 {
-        admits(sender, device, calls)?;
-        if shows(device, monitor, calls)? {
-            shown = accepted;
+    match lanes::<J, _>(rt, values.alloc, blank, values.params, SEED, LAYOUT) {
+        Ok(mut opened) => {
+            calls.makes(&mut opened, values.packet, rows);
+            true
         }
-        wanted(monitor.totals().events == shown, Wrong::MonitorTotals)?;
-        wanted(device.receipt().events() == shown, Wrong::DeviceReceipt)?;
+        Err(OpenFault::Memory) => false,
+        Err(OpenFault::NoPlace(_)) => {
+            calls.wanted(false, "lanes");
+            true
+        }
     }
-    wanted(shown == 3, Wrong::DevicePublish)?;
-    goes_on(device, monitor, 4, calls)
 }
 
-/// Closes, which makes so many events. All is published then, and after each of two departures. A publish that is refused
-/// is made again.
-fn goes_on<J: BookName, X: Screen<Shown<J>> + Drop>(
+impl<J: BookName, X: Screen<Shown<J>> + Drop> Subject for Opened<J, X> {
+    type Call = Call;
+
+    type Picture = (Picture, u64);
+
+    /// All that can be read of the device: of its engine, and how much was published.
+    fn picture(&mut self) -> (Picture, u64) {
+        (
+            of_engine(self.device.engine()),
+            self.device.receipt().events(),
+        )
+    }
+
+    fn answer(&mut self, call: Call, packet: Packet) -> Answer {
+        match call {
+            Call::Submit => submits(&mut self.senders, packet),
+            Call::Publish(events) => publishes(&mut self.device, &mut self.monitors, events),
+            Call::Shown => sees(&mut self.monitors, self.device.receipt().events()),
+            Call::Seen(events, accepted, sent) => {
+                has_seen(&mut self.monitors, (events, accepted, sent))
+            }
+            _ => device_answer(&mut self.device, call),
+        }
+    }
+}
+
+/// The sender submits the packet.
+fn submits(senders: &mut Vec<LaneSender>, packet: Packet) -> Answer {
+    match senders.first_mut() {
+        Some(sender) => Answer::of(sender.submit(packet).is_ok()),
+        None => Answer::Wrong,
+    }
+}
+
+/// The device publishes so many events, and the monitor learns of it.
+fn publishes<J: BookName, X: Screen<Shown<J>> + Drop>(
     device: &mut Device<J, X>,
-    monitor: &mut Monitor<J>,
+    monitors: &mut Vec<Monitor<J>>,
     events: u64,
-    calls: &mut Calls,
-) -> Result<(), Wrong> {
-    let close = |device: &mut Device<J, X>| unless_memory(device.close(9));
-    let answer = calls.answered(Wrong::DeviceClose, device, picture, close)?;
-    wanted(answer == Ok(()), Wrong::DeviceClose)?;
-    for events in events..events.saturating_add(2) {
-        let published = shows(device, monitor, calls)? || shows(device, monitor, calls)?;
-        wanted(published, Wrong::DevicePublish)?;
-        wanted(monitor.totals().events == events, Wrong::MonitorTotals)?;
-        let give = |device: &mut Device<J, X>| unless_memory(device.dequeue(9));
-        let answer = calls.answered(Wrong::DeviceDequeue, device, picture, give)?;
-        wanted(answer.is_ok(), Wrong::DeviceDequeue)?;
-    }
-    Ok(())
-}
-
-/// Publishes once, and says whether that wasn't refused. What was published the monitor shows from then on.
-fn shows<J: BookName, X: Screen<Shown<J>> + Drop>(
-    device: &mut Device<J, X>,
-    monitor: &mut Monitor<J>,
-    calls: &mut Calls,
-) -> Result<bool, Wrong> {
+) -> Answer {
     match device.publish() {
         Ok(receipt) => {
-            monitor.learn(&receipt);
-            Ok(true)
+            learns(monitors, &receipt);
+            Answer::of(receipt.events() == events && device.receipt().events() == events)
         }
-        Err(PublishFault::Memory) => {
-            calls.note();
-            Ok(false)
-        }
+        Err(PublishFault::Memory) => Answer::Refused,
     }
+}
+
+/// The monitor learns of a publish.
+fn learns<J: BookName>(monitors: &mut Vec<Monitor<J>>, receipt: &Receipt<J>) {
+    if let Some(monitor) = monitors.first_mut() {
+        monitor.learn(receipt);
+    }
+}
+
+/// The monitor shows so many events.
+fn sees<J: BookName>(monitors: &mut Vec<Monitor<J>>, events: u64) -> Answer {
+    match monitors.first_mut() {
+        Some(monitor) => Answer::of(monitor.totals().events == events),
+        None => Answer::Wrong,
+    }
+}
+
+/// The monitor shows so many events, and so many packets accepted and sent.
+fn has_seen<J: BookName>(monitors: &mut Vec<Monitor<J>>, wanted: (u64, u64, u64)) -> Answer {
+    let Some(monitor) = monitors.first_mut() else {
+        return Answer::Wrong;
+    };
+    let seen = monitor.totals();
+    Answer::of((seen.events, seen.totals.accepted, seen.totals.sent) == wanted)
+}
+
+/// The device's own answer.
+fn device_answer<J: BookName, X: Screen<Shown<J>> + Drop>(
+    device: &mut Device<J, X>,
+    call: Call,
+) -> Answer {
+    match call {
+        Call::Pump(moment, burst, wanted) => pumps(device, moment, burst, wanted),
+        Call::Dequeue(moment, wanted) => gave(device.dequeue(moment), wanted),
+        Call::Close(moment, wanted) => compared(device.close(moment), wanted),
+        Call::Reserve(steps) => has_room(device.reserve(u64::from(steps))),
+        Call::Receipt(events) => Answer::of(device.receipt().events() == events),
+        Call::Totals(accepted, sent) => {
+            let totals = device.engine().totals();
+            Answer::of((totals.accepted, totals.sent) == (accepted, sent))
+        }
+        Call::Submit | Call::Publish(_) | Call::Shown | Call::Seen(..) => Answer::Wrong,
+    }
+}
+
+/// The lane is pumped.
+fn pumps<J: BookName, X: Screen<Shown<J>> + Drop>(
+    device: &mut Device<J, X>,
+    moment: u64,
+    burst: u64,
+    wanted: Result<u64, Refusal>,
+) -> Answer {
+    if device.lanes() == 0 || burst == 0 || burst > MAX_BURST {
+        return Answer::Wrong;
+    }
+    compared(device.pump(0, moment, burst), wanted)
 }

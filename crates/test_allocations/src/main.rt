@@ -15,10 +15,12 @@ mod ports;
 mod programs;
 mod quiet;
 mod schedulers;
+mod steps;
 mod traces;
 mod values;
 
-use crate::calls::{Calls, Wrong};
+use crate::calls::Calls;
+use crate::values::Values;
 use std::alloc::Global;
 use std::io::Read;
 use std::marker::Sync;
@@ -84,30 +86,38 @@ fn read_input<'a, R: Read>(reader: &mut R, bytes: &'a mut [u8]) -> Option<&'a st
     str::from_utf8(bytes.get(..count)?).ok()
 }
 
-/// Makes the calls that the input asks for, and tells what became of them.
-fn run<H: Print + Threads + Wait + Sync>(rt: &H, alloc: Global, input: &str) -> Result<(), Wrong> {
-    let (line, rest) = input.split_once('\n').ok_or(Wrong::ALine)?;
-    let (name, number) = line.split_once(' ').ok_or(Wrong::ANameAndANumber)?;
-    let refused: u32 = number.parse().ok().ok_or(Wrong::ANumber)?;
+/// Makes the calls that the input asks for, and reports what became of them.
+fn run<H: Print + Threads + Wait + Sync>(
+    rt: &H,
+    alloc: Global,
+    input: &str,
+) -> Result<(), &'static str> {
+    let (line, trace) = input.split_once('\n').ok_or("a line")?;
+    let (name, number) = line.split_once(' ').ok_or("a name and a number")?;
+    let refused: u32 = number.parse().ok().ok_or("a number")?;
+    let values = Values::try_new(alloc)?;
     make_before(alloc, refused);
     if name != ALL {
-        return tell(rt, alloc, name, rest);
+        return tell(rt, &values, name, trace);
     }
     for name in SEQUENCES {
-        tell(rt, alloc, name, rest)?;
+        tell(rt, &values, name, trace)?;
     }
     Ok(())
 }
 
-/// Makes the calls of a sequence, and tells how many were refused.
+/// Makes the calls of a sequence, and reports how many were refused, or what was wrong first.
 fn tell<H: Print + Threads + Wait + Sync>(
     rt: &H,
-    alloc: Global,
+    values: &Values,
     name: &str,
     trace: &str,
-) -> Result<(), Wrong> {
+) -> Result<(), &'static str> {
     let mut calls = Calls::new();
-    make(rt, alloc, name, trace, &mut calls)?;
+    make(rt, values, name, trace, &mut calls);
+    if let Some(wrong) = calls.wrong() {
+        return Err(wrong);
+    }
     let _ = println!(rt; "{name}: refused {}", calls.refused());
     Ok(())
 }
@@ -123,29 +133,29 @@ fn make_before(alloc: Global, refused: u32) {
 /// Makes the calls of the sequence of that name.
 fn make<H: Print + Threads + Wait + Sync>(
     rt: &H,
-    alloc: Global,
+    values: &Values,
     name: &str,
     trace: &str,
-    calls: &mut Calls,
-) -> Result<(), Wrong> {
+    calls: &mut Calls<'_>,
+) {
     match name {
-        "flows" => flow_lists::flows(alloc, calls),
-        "sched" => schedulers::sched(alloc, calls),
-        "engine" => engines::engine(alloc, calls),
-        "run_steps" => engines::steps_run(alloc, calls),
-        "locked" => ports::locked(rt, alloc, calls),
-        "lanes" => devices::lane(rt, alloc, calls),
-        "publish" => devices::second_publish(rt, alloc, false, calls),
-        "publish_closed" => devices::second_publish(rt, alloc, true, calls),
-        "quiet_sched" => quiet::sched(alloc, calls),
-        "quiet_engine" => quiet::engine(alloc, calls),
-        "quiet_device" => quiet::device(rt, alloc, calls),
-        "trace" => traces::trace(alloc, calls),
-        "journal" => traces::journal(alloc, calls),
-        "program_locked" => programs::locked(rt, alloc, calls),
-        "program_idle" => programs::idle(rt, alloc, calls),
-        "program_lanes" => programs::lanes(rt, alloc, calls),
-        "program" => programs::whole(rt, alloc, trace, calls),
-        _ => Err(Wrong::ASequenceOfThatName),
+        "flows" => flow_lists::flows(values, calls),
+        "sched" => schedulers::sched(values, calls),
+        "engine" => engines::engine(values, calls),
+        "run_steps" => engines::steps_run(values, calls),
+        "locked" => ports::locked(rt, values, calls),
+        "lanes" => devices::lane(rt, values, calls),
+        "publish" => devices::second_publish(rt, values, calls),
+        "publish_closed" => devices::closed_publish(rt, values, calls),
+        "quiet_sched" => quiet::sched(values, calls),
+        "quiet_engine" => quiet::engine(values, calls),
+        "quiet_device" => quiet::device(rt, values, calls),
+        "trace" => traces::trace(values, calls),
+        "journal" => traces::journal(values, calls),
+        "program_locked" => programs::locked(rt, values.alloc, calls),
+        "program_idle" => programs::idle(rt, values.alloc, calls),
+        "program_lanes" => programs::lanes(rt, values.alloc, calls),
+        "program" => programs::whole(rt, values.alloc, trace, calls),
+        _ => calls.wanted(false, "a sequence of that name"),
     }
 }

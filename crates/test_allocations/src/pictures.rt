@@ -6,7 +6,7 @@ use sched_core::{Engine, Event, Sched, Step, Totals};
 const SHOWN: usize = 24;
 
 /// All that can be read of a scheduler or of an engine with one flow. A scheduler stores no steps.
-#[derive(Clone, Copy, Debug, PartialEq, Eq)]
+#[derive(PartialEq, Drop)]
 pub(crate) struct Picture {
     totals: Totals,
     turns: u64,

@@ -2,140 +2,169 @@
 
 ghost use Rattle.std.specs.Prelude.{◌≡◌};
 
-use crate::calls::{Calls, Wrong, unless_memory, wanted};
+use crate::calls::Memory::{Keeps, Spares, Takes};
+use crate::calls::{Answer, Calls, Row, Subject, compared};
 use crate::pictures::first_of;
-use crate::values::{SEED, one_flow, packet};
+use crate::steps::{admitted, gave};
+use crate::values::{SEED, Values};
+use packet_core::Packet;
 use port_core::{LockedPort, Open, PortSeat, Stop, send_locked};
 use sched_core::{Event, Refusal, Totals};
-use std::alloc::Global;
 use std::marker::Brand;
 use std::sync::Wait;
 use std::sync::ledger::{Blank, Ledger};
 
-/// So many packets come, and as many dequeues.
+/// So many packets come, and as many are sent by a sender.
 const PACKETS: u64 = 5;
 
-/// All that can be read of a port by its seat: what the seat was told and given, and the statistics.
-type Picture = ([Option<Event>; 24], u64, u64, Totals);
+/// What comes after the close is refused.
+const CLOSED: Refusal = Refusal::ClosedAlready;
+
+/// A call, and what it is answered.
+#[derive(Clone, Copy)]
+enum Call {
+    /// An enqueue at that moment, and the packet's id.
+    Enqueue(u64, Result<u64, Refusal>),
+    /// A dequeue at that moment, and the id of the packet that it gives.
+    Dequeue(u64, Result<Option<u64>, Refusal>),
+    /// A close at that moment.
+    Close(u64, Result<u64, Refusal>),
+    /// The seat was told of so many acceptances, and so many packets were sent to it.
+    Seat(u64, u64),
+}
+
+/// Packets come one by one, and go.
+static COMES_AND_GOES: [Row<'static, Call>; 10] = [
+    (Takes, Call::Enqueue(0, Ok(0)), "LockedPort::enqueue"),
+    (Takes, Call::Enqueue(1, Ok(1)), "LockedPort::enqueue"),
+    (Takes, Call::Enqueue(2, Ok(2)), "LockedPort::enqueue"),
+    (Takes, Call::Enqueue(3, Ok(3)), "LockedPort::enqueue"),
+    (Takes, Call::Enqueue(4, Ok(4)), "LockedPort::enqueue"),
+    (Takes, Call::Dequeue(5, Ok(Some(0))), "LockedPort::dequeue"),
+    (Takes, Call::Dequeue(5, Ok(Some(1))), "LockedPort::dequeue"),
+    (Takes, Call::Dequeue(5, Ok(Some(2))), "LockedPort::dequeue"),
+    (Takes, Call::Dequeue(5, Ok(Some(3))), "LockedPort::dequeue"),
+    (Takes, Call::Dequeue(5, Ok(Some(4))), "LockedPort::dequeue"),
+];
+
+/// The port is closed. After that a packet is refused, and so is another close, and all is as before.
+static CLOSES: [Row<'static, Call>; 4] = [
+    (Takes, Call::Close(5, Ok(5)), "LockedPort::close"),
+    (
+        Keeps,
+        Call::Enqueue(5, Err(CLOSED)),
+        "LockedPort::enqueue after LockedPort::close",
+    ),
+    (
+        Keeps,
+        Call::Close(5, Err(CLOSED)),
+        "LockedPort::close once more",
+    ),
+    (Spares, Call::Seat(10, 5), "PortSeat"),
+];
 
 /// A port is started with ledgers, which don't come back where memory is refused, and then with others.
-pub(crate) fn locked<R: Wait>(rt: &R, alloc: Global, calls: &mut Calls) -> Result<(), Wrong> {
-    let first = started::<Brand, Brand, _>(rt, alloc, calls, Blank::new(1), Blank::new(1))?;
-    if first {
-        return Ok(());
+pub(crate) fn locked<R: Wait>(rt: &R, values: &Values, calls: &mut Calls<'_>) {
+    if !started::<Brand, Brand, _>(rt, values, calls, Blank::new(1), Blank::new(1)) {
+        calls.note();
+        let again = started::<Brand, Brand, _>(rt, values, calls, Blank::new(1), Blank::new(1));
+        calls.wanted(again, "LockedPort::start");
     }
-    calls.note();
-    let second = started::<Brand, Brand, _>(rt, alloc, calls, Blank::new(1), Blank::new(1))?;
-    wanted(second, Wrong::LockedPortStart)
 }
 
 /// Starts a port and makes its calls. It answers whether it was started.
 fn started<A: Ledger, S: Ledger, R: Wait>(
     rt: &R,
-    alloc: Global,
-    calls: &mut Calls,
+    values: &Values,
+    calls: &mut Calls<'_>,
     accepted: Blank,
     sent: Blank,
-) -> Result<bool, Wrong>
+) -> bool
     requires accepted { (accepted.name ≡ A.name) × (accepted.parts ≡ A.parts) × (A.parts ≡ 1) }
     requires sent { (sent.name ≡ S.name) × (sent.parts ≡ S.parts) × (S.parts ≡ 1) }
 {
-    let params = one_flow()?;
-    let Ok((port, mut seats)) = LockedPort::<A, S>::start(alloc, params, SEED, 1, accepted, sent)
-    else {
-        return Ok(false);
-    };
-    let Some(seat) = seats.pop() else {
-        return Err(Wrong::LockedPortStart);
-    };
-    port_calls(rt, &port, seat, calls)?;
-    Ok(true)
+    let Values { alloc, params, .. } = *values;
+    match LockedPort::<A, S>::start(alloc, params, SEED, 1, accepted, sent) {
+        Ok((port, seats)) => {
+            port_calls(rt, &port, seats, values.packet, calls);
+            true
+        }
+        Err(_) => false,
+    }
 }
 
-/// Packets come and go, one is sent by a sender, and the port is closed.
+/// Packets come and go, some are sent by a sender, and the port is closed.
 fn port_calls<A: Ledger, S: Ledger, R: Wait>(
     rt: &R,
     port: &LockedPort<A, S>,
+    seats: Vec<PortSeat<A, S>>,
+    packet: Packet,
+    calls: &mut Calls<'_>,
+) {
+    let mut seats = seats;
+    match seats.pop() {
+        Some(seat) => {
+            let seat = plays(rt, port, seat, packet, &COMES_AND_GOES, calls);
+            let seat = sent_through(rt, port, seat, packet, calls);
+            plays(rt, port, seat, packet, &CLOSES, calls);
+        }
+        None => calls.wanted(false, "LockedPort::start"),
+    }
+}
+
+/// Makes the calls by that seat.
+fn plays<'a, A: Ledger, S: Ledger, R: Wait>(
+    rt: &R,
+    port: &LockedPort<A, S>,
     seat: PortSeat<A, S>,
-    calls: &mut Calls,
-) -> Result<(), Wrong> {
-    let mut seat = seat;
-    comes_and_goes(rt, port, &mut seat, calls)?;
-    let mut seat = sent_through(rt, port, seat, calls)?;
-    closes(rt, port, &mut seat, calls)
+    packet: Packet,
+    rows: &[Row<'a, Call>],
+    calls: &mut Calls<'a>,
+) -> PortSeat<A, S> {
+    let mut at = AtPort { rt, port, seat };
+    calls.makes(&mut at, packet, rows);
+    let AtPort {
+        rt: _,
+        port: _,
+        seat,
+    } = at;
+    seat
 }
 
-/// All that can be read of a port by that seat.
-fn picture_of<A: Ledger, S: Ledger, R: Wait>(
-    rt: &R,
-    port: &LockedPort<A, S>,
-    seat: &mut PortSeat<A, S>,
-) -> Picture {
-    let totals = port.totals(rt, seat);
-    (first_of(seat.told()), seat.accepted(), seat.sent(), totals)
+/// A port, by its one seat.
+struct AtPort<'a, A: Ledger, S: Ledger, R: Wait> {
+    rt: &'a R,
+    port: &'a LockedPort<A, S>,
+    seat: PortSeat<A, S>,
 }
 
-/// Packets come one by one, and go.
-fn comes_and_goes<A: Ledger, S: Ledger, R: Wait>(
-    rt: &R,
-    port: &LockedPort<A, S>,
-    seat: &mut PortSeat<A, S>,
-    calls: &mut Calls,
-) -> Result<(), Wrong> {
-    let picture = |seat: &mut PortSeat<A, S>| -> Picture { picture_of(rt, port, seat) };
-    for id in 0..PACKETS {
-        let packet = packet(53)?;
-        let enqueue = |seat: &mut PortSeat<A, S>| unless_memory(port.enqueue(rt, seat, id, packet));
-        let answer = calls.answered(Wrong::LockedPortEnqueue, seat, picture, enqueue)?;
-        wanted(answer.is_ok(), Wrong::LockedPortEnqueue)?;
+impl<A: Ledger, S: Ledger, R: Wait> Subject for AtPort<'_, A, S, R> {
+    type Call = Call;
+
+    /// What the seat was told and given, and the statistics.
+    type Picture = ([Option<Event>; 24], u64, u64, Totals);
+
+    fn picture(&mut self) -> ([Option<Event>; 24], u64, u64, Totals) {
+        let totals = self.port.totals(self.rt, &mut self.seat);
+        let told = first_of(self.seat.told());
+        (told, self.seat.accepted(), self.seat.sent(), totals)
     }
-    for _ in 0..PACKETS {
-        let dequeue = |seat: &mut PortSeat<A, S>| unless_memory(port.dequeue(rt, seat, PACKETS));
-        let answer = calls.answered(Wrong::LockedPortDequeue, seat, picture, dequeue)?;
-        wanted(answer.is_ok(), Wrong::LockedPortDequeue)?;
+
+    fn answer(&mut self, call: Call, packet: Packet) -> Answer {
+        match call {
+            Call::Enqueue(moment, wanted) => {
+                let answer = self.port.enqueue(self.rt, &mut self.seat, moment, packet);
+                compared(answer, admitted(moment, wanted))
+            }
+            Call::Dequeue(moment, wanted) => {
+                gave(self.port.dequeue(self.rt, &mut self.seat, moment), wanted)
+            }
+            Call::Close(moment, wanted) => compared(self.port.close(self.rt, moment), wanted),
+            Call::Seat(accepted, sent) => {
+                Answer::of((self.seat.accepted(), self.seat.sent()) == (accepted, sent))
+            }
+        }
     }
-    Ok(())
-}
-
-/// The port is closed.
-fn closes<A: Ledger, S: Ledger, R: Wait>(
-    rt: &R,
-    port: &LockedPort<A, S>,
-    seat: &mut PortSeat<A, S>,
-    calls: &mut Calls,
-) -> Result<(), Wrong> {
-    let picture = |seat: &mut PortSeat<A, S>| -> Picture { picture_of(rt, port, seat) };
-    let close = |_: &mut PortSeat<A, S>| unless_memory(port.close(rt, PACKETS));
-    let answer = calls.answered(Wrong::LockedPortClose, seat, picture, close)?;
-    wanted(answer == Ok(PACKETS), Wrong::LockedPortClose)?;
-    closed(rt, port, seat)?;
-    wanted(
-        (seat.accepted(), seat.sent()) == (2 * PACKETS, PACKETS),
-        Wrong::PortSeat,
-    )
-}
-
-/// Behind the close a packet is refused, and so is another close, and all is as before.
-fn closed<A: Ledger, S: Ledger, R: Wait>(
-    rt: &R,
-    port: &LockedPort<A, S>,
-    seat: &mut PortSeat<A, S>,
-) -> Result<(), Wrong> {
-    let before = picture_of(rt, port, seat);
-    let refused = port.enqueue(rt, seat, PACKETS, packet(53)?);
-    wanted(
-        refused == Err(Refusal::ClosedAlready),
-        Wrong::LockedPortEnqueueBehindLockedPortClose,
-    )?;
-    let again = port.close(rt, PACKETS);
-    wanted(
-        again == Err(Refusal::ClosedAlready),
-        Wrong::LockedPortCloseOnceMore,
-    )?;
-    wanted(
-        picture_of(rt, port, seat) == before,
-        Wrong::LockedPortEnqueueBehindLockedPortClose,
-    )
 }
 
 /// A sender sends packets. Where it was refused, it has told of those before, and another sends the others.
@@ -143,24 +172,24 @@ fn sent_through<A: Ledger, S: Ledger, R: Wait>(
     rt: &R,
     port: &LockedPort<A, S>,
     seat: PortSeat<A, S>,
-    calls: &mut Calls,
-) -> Result<PortSeat<A, S>, Wrong> {
-    let packets = [(PACKETS, packet(53)?); PACKETS as usize];
+    packet: Packet,
+    calls: &mut Calls<'_>,
+) -> PortSeat<A, S> {
+    let packets = [(PACKETS, packet); PACKETS as usize];
     let done = send_locked(rt, port, seat, &packets, &Open);
     if done.stop == Stop::Done {
-        return Ok(done.seat);
+        return done.seat;
     }
     calls.note();
     let accepted = done.calls.saturating_sub(1);
     let was_memory = done.stop == Stop::Refused(Refusal::Memory);
-    wanted(
+    calls.wanted(
         was_memory && done.seat.accepted() == PACKETS + accepted,
-        Wrong::SendLocked,
-    )?;
-    let Some(rest) = packets.get(accepted as usize..) else {
-        return Err(Wrong::SendLocked);
-    };
+        "send_locked",
+    );
+    let rest = packets.get(accepted as usize..).unwrap_or(&[]);
+    calls.wanted(!rest.is_empty(), "send_locked");
     let done = send_locked(rt, port, done.seat, rest, &Open);
-    wanted(done.stop == Stop::Done, Wrong::SendLocked)?;
-    Ok(done.seat)
+    calls.wanted(done.stop == Stop::Done, "send_locked");
+    done.seat
 }

@@ -1,6 +1,6 @@
 //! The whole program.
 
-use crate::calls::{Calls, Wrong, wanted};
+use crate::calls::{Answer, Calls};
 use program_core::program;
 use std::alloc::Global;
 use std::str;
@@ -85,131 +85,122 @@ sender,0,0,0,0
 sender,1,0,0,0
 ";
 
-/// What a run by senders is of, and what it gives: its words, its trace, its journal, and what is told beside it.
+/// What the monitor saw last: 9 events, 4 packets accepted, 2 sent, 2 dropped and none waiting.
+const SEEN: &str = "monitor 0 9 4 2 2 0\n";
+
+/// A run of the program: its words, its trace, what it has to write, and what it has to say beside it. Where what it
+/// writes isn't given, that is printed.
 #[derive(Clone, Copy)]
 struct Run<'a> {
     words: &'a [&'a str],
     trace: &'a str,
-    journal: &'a str,
+    report: Option<&'a str>,
     beside: &'a str,
 }
 
-/// What the monitor saw last: 9 events, 4 packets accepted, 2 sent, 2 dropped and none waiting.
-const SEEN: &str = "monitor 0 9 4 2 2 0\n";
-
-/// Runs the program on a trace. Where memory was refused it says so and nothing else, and once more it gives the
-/// report.
+/// Runs the program on a trace.
 pub(crate) fn whole<H: Print + Threads + Wait + Sync>(
     rt: &H,
     alloc: Global,
     trace: &str,
-    calls: &mut Calls,
-) -> Result<(), Wrong> {
-    if prints(rt, alloc, trace)? {
-        return Ok(());
-    }
-    calls.note();
-    wanted(prints(rt, alloc, trace)?, Wrong::Program)
+    calls: &mut Calls<'_>,
+) {
+    let run = Run {
+        words: &WORDS,
+        trace,
+        report: None,
+        beside: "",
+    };
+    ends(rt, alloc, run, calls);
 }
 
 /// The same by senders that share the scheduler.
-pub(crate) fn locked<H: Threads + Wait + Sync>(
+pub(crate) fn locked<H: Print + Threads + Wait + Sync>(
     rt: &H,
     alloc: Global,
-    calls: &mut Calls,
-) -> Result<(), Wrong> {
+    calls: &mut Calls<'_>,
+) {
     let run = Run {
         words: &LOCKED_WORDS,
         trace: SENDERS_TRACE,
-        journal: SENDERS_JOURNAL,
+        report: Some(SENDERS_JOURNAL),
         beside: "",
     };
-    by_senders(rt, alloc, run, calls)
+    ends(rt, alloc, run, calls);
 }
 
 /// The same with dequeues alone, which the main thread makes.
-pub(crate) fn idle<H: Threads + Wait + Sync>(
-    rt: &H,
-    alloc: Global,
-    calls: &mut Calls,
-) -> Result<(), Wrong> {
+pub(crate) fn idle<H: Print + Threads + Wait + Sync>(rt: &H, alloc: Global, calls: &mut Calls<'_>) {
     let run = Run {
         words: &LOCKED_WORDS,
         trace: IDLE_TRACE,
-        journal: IDLE_JOURNAL,
+        report: Some(IDLE_JOURNAL),
         beside: "",
     };
-    by_senders(rt, alloc, run, calls)
+    ends(rt, alloc, run, calls);
 }
 
 /// The same by senders with a lane each, and a monitor.
-pub(crate) fn lanes<H: Threads + Wait + Sync>(
+pub(crate) fn lanes<H: Print + Threads + Wait + Sync>(
     rt: &H,
     alloc: Global,
-    calls: &mut Calls,
-) -> Result<(), Wrong> {
+    calls: &mut Calls<'_>,
+) {
     let run = Run {
         words: &LANES_WORDS,
         trace: SENDERS_TRACE,
-        journal: SENDERS_JOURNAL,
+        report: Some(SENDERS_JOURNAL),
         beside: SEEN,
     };
-    by_senders(rt, alloc, run, calls)
+    ends(rt, alloc, run, calls);
 }
 
-/// Runs the program by senders. Where memory was refused it says so and nothing else, and once more it gives the
-/// journal, and says what has to be told beside it.
-fn by_senders<H: Threads + Wait + Sync>(
+/// Runs the program. Where memory was refused it says so and nothing else, and once more it writes what it has to, and
+/// says what it has to beside it.
+fn ends<H: Print + Threads + Wait + Sync>(
     rt: &H,
     alloc: Global,
     run: Run<'_>,
-    calls: &mut Calls,
-) -> Result<(), Wrong> {
-    if gives(rt, alloc, run)? {
-        return Ok(());
+    calls: &mut Calls<'_>,
+) {
+    let mut answer = ran(rt, alloc, run);
+    if calls.is_refused(answer) {
+        answer = ran(rt, alloc, run);
     }
-    calls.note();
-    wanted(gives(rt, alloc, run)?, Wrong::Program)
+    calls.wanted(answer.is_right(), "program");
 }
 
-/// Runs the program by senders once. It answers whether there was a journal: else memory was refused.
-fn gives<H: Threads + Wait + Sync>(rt: &H, alloc: Global, run: Run<'_>) -> Result<bool, Wrong> {
-    let Run {
-        words,
-        trace,
-        journal: wanted_journal,
-        beside,
-    } = run;
+/// Runs the program once.
+fn ran<H: Print + Threads + Wait + Sync>(rt: &H, alloc: Global, run: Run<'_>) -> Answer {
     let mut page = [0u8; PAGE];
     let mut line = [0u8; LINE];
-    let ran = run_on(rt, alloc, words, trace, &mut page, &mut line);
-    let journal = text_of(&page, ran.written)?;
-    let told = text_of(&line, ran.told)?;
-    if ran.status == 0 {
-        wanted(journal == wanted_journal && told == beside, Wrong::Program)?;
-        return Ok(true);
+    let ran = run_on(rt, alloc, run.words, run.trace, &mut page, &mut line);
+    match (text_of(&page, ran.written), text_of(&line, ran.told)) {
+        (Some(report), Some(told)) => judged(rt, run, ran.status, report, told),
+        _ => Answer::Wrong,
     }
-    was_memory(&ran, told)?;
-    Ok(false)
 }
 
-/// Runs the program once, and prints its report. It answers whether there was one: else memory was refused.
-fn prints<H: Print + Threads + Wait + Sync>(
-    rt: &H,
-    alloc: Global,
-    trace: &str,
-) -> Result<bool, Wrong> {
-    let mut page = [0u8; PAGE];
-    let mut line = [0u8; LINE];
-    let ran = run_on(rt, alloc, &WORDS, trace, &mut page, &mut line);
-    let report = text_of(&page, ran.written)?;
-    let told = text_of(&line, ran.told)?;
-    if ran.status == 0 {
-        let _ = print!(rt; "{report}");
-        return Ok(told.is_empty());
+/// Whether a run with that status wrote what it has to, or wrote nothing for want of memory.
+fn judged<H: Print>(rt: &H, run: Run<'_>, status: u8, report: &str, told: &str) -> Answer {
+    if status != 0 {
+        return without_memory(status, report, told);
     }
-    was_memory(&ran, told)?;
-    Ok(false)
+    let is_written = match run.report {
+        Some(wanted) => report == wanted,
+        None => print!(rt; "{report}").is_ok(),
+    };
+    Answer::of(is_written && told == run.beside)
+}
+
+/// Whether a run ended for want of memory, and wrote nothing.
+fn without_memory(status: u8, report: &str, told: &str) -> Answer {
+    let is_memory = told == "fqsim: memory\n" || is_row_fault(told);
+    if status == 1 && report.is_empty() && is_memory {
+        Answer::Refused
+    } else {
+        Answer::Wrong
+    }
 }
 
 /// What became of a run: its status, and how many bytes it wrote and told.
@@ -248,15 +239,6 @@ fn run_on<H: Threads + Wait + Sync>(
     }
 }
 
-/// The run ended for want of memory, and wrote nothing.
-fn was_memory(ran: &RanOnce, told: &str) -> Result<(), Wrong> {
-    let is_memory = told == "fqsim: memory\n" || is_row_fault(told);
-    wanted(
-        ran.status == 1 && ran.written == 0 && is_memory,
-        Wrong::Program,
-    )
-}
-
 /// Whether memory was refused at a row.
 fn is_row_fault(fault: &str) -> bool {
     let Some(rest) = fault.strip_prefix("fqsim: row ") else {
@@ -269,9 +251,6 @@ fn is_row_fault(fault: &str) -> bool {
 }
 
 /// The text at the front of a page.
-fn text_of(page: &[u8], count: usize) -> Result<&str, Wrong> {
-    let Some(bytes) = page.get(..count) else {
-        return Err(Wrong::APage);
-    };
-    str::from_utf8(bytes).ok().ok_or(Wrong::AText)
+fn text_of(page: &[u8], count: usize) -> Option<&str> {
+    str::from_utf8(page.get(..count)?).ok()
 }

@@ -1,84 +1,106 @@
 //! A scheduler that is its own journal.
 
-use crate::calls::{Calls, Wrong, unless_memory, wanted};
-use crate::pictures::of_sched;
-use crate::values::{SEED, one_flow, packet};
-use sched_core::{Admitted, Sched, TupleRow};
-use std::alloc::Global;
-
-/// So many packets come one by one, and as many for which room was taken ahead.
-const PACKETS: u64 = 6;
+use crate::calls::Memory::{Spares, Takes};
+use crate::calls::{Answer, Calls, Row, Subject, compared};
+use crate::pictures::{Picture, of_sched};
+use crate::steps::Call::{self, Close, Dequeue, Enqueue, Reserve, Totals, TupleRows};
+use crate::steps::{admitted, gave, has_room, is_row, is_total};
+use crate::values::{SEED, Values};
+use packet_core::Packet;
+use sched_core::{Refusal, Sched};
 
 /// Packets come and one goes; the rows of the five-tuples are gathered; then room is taken for packets that come.
-pub(crate) fn sched(alloc: Global, calls: &mut Calls) -> Result<(), Wrong> {
-    let params = one_flow()?;
-    let mut sched = calls.made(
-        Wrong::SchedTryNew,
-        || Sched::try_new(alloc, params, SEED).ok(),
-    )?;
-    sched_calls(&mut sched, calls)
+static SCHED: [Row<'static, Call>; 17] = [
+    (Takes, Enqueue(0, Ok(0)), "Sched::enqueue"),
+    (Takes, Enqueue(1, Ok(1)), "Sched::enqueue"),
+    (Takes, Enqueue(2, Ok(2)), "Sched::enqueue"),
+    (Takes, Enqueue(3, Ok(3)), "Sched::enqueue"),
+    (Takes, Enqueue(4, Ok(4)), "Sched::enqueue"),
+    (Takes, Enqueue(5, Ok(5)), "Sched::enqueue"),
+    (Spares, Dequeue(6, Ok(Some(0))), "Sched::dequeue"),
+    (Takes, TupleRows(6, 1, 5), "Sched::tuple_rows"),
+    (Takes, Reserve(6), "Sched::reserve"),
+    (
+        Spares,
+        Enqueue(6, Ok(6)),
+        "Sched::enqueue after Sched::reserve",
+    ),
+    (
+        Spares,
+        Enqueue(7, Ok(7)),
+        "Sched::enqueue after Sched::reserve",
+    ),
+    (
+        Spares,
+        Enqueue(8, Ok(8)),
+        "Sched::enqueue after Sched::reserve",
+    ),
+    (
+        Spares,
+        Enqueue(9, Ok(9)),
+        "Sched::enqueue after Sched::reserve",
+    ),
+    (
+        Spares,
+        Enqueue(10, Ok(10)),
+        "Sched::enqueue after Sched::reserve",
+    ),
+    (
+        Spares,
+        Enqueue(11, Ok(11)),
+        "Sched::enqueue after Sched::reserve",
+    ),
+    (Spares, Close(12, Ok(())), "Sched::close"),
+    (Spares, Totals(12, 1, 11, true), "Sched::totals"),
+];
+
+/// Makes the calls of the sequence.
+pub(crate) fn sched(values: &Values, calls: &mut Calls<'_>) {
+    plays(values, &SCHED, calls);
 }
 
-/// The same of a scheduler that was made.
-fn sched_calls(sched: &mut Sched, calls: &mut Calls) -> Result<(), Wrong> {
-    enqueues(sched, calls)?;
-    wanted(sched.dequeue(PACKETS).is_ok(), Wrong::SchedDequeue)?;
-    rows(sched, calls)?;
-    calls.answered(Wrong::SchedReserve, sched, of_sched, |sched: &mut Sched| {
-        sched.reserve(PACKETS).ok()
-    })?;
-    for id in PACKETS..2 * PACKETS {
-        let answer = sched.enqueue(id, 0, packet(53)?);
-        wanted(
-            answer == Ok(admitted(id)),
-            Wrong::SchedEnqueueBehindSchedReserve,
-        )?;
+/// Makes the calls with a new scheduler.
+pub(crate) fn plays<'a>(values: &Values, rows: &[Row<'a, Call>], calls: &mut Calls<'a>) {
+    match new_sched(values, calls) {
+        Some(mut sched) => calls.makes(&mut sched, values.packet, rows),
+        None => calls.wanted(false, "Sched::try_new"),
     }
-    wanted(sched.close(2 * PACKETS).is_ok(), Wrong::SchedClose)?;
-    let totals = sched.totals();
-    let balance = (totals.accepted, totals.sent, totals.queued, totals.closed);
-    wanted(
-        balance == (2 * PACKETS, 1, 2 * PACKETS - 1, true),
-        Wrong::SchedTotals,
-    )
 }
 
-/// Packets come one by one.
-fn enqueues(sched: &mut Sched, calls: &mut Calls) -> Result<(), Wrong> {
-    for id in 0..PACKETS {
-        let packet = packet(53)?;
-        let answer = calls.answered(Wrong::SchedEnqueue, sched, of_sched, |sched: &mut Sched| {
-            unless_memory(sched.enqueue(id, 0, packet))
-        })?;
-        wanted(answer == Ok(admitted(id)), Wrong::SchedEnqueue)?;
-    }
-    Ok(())
-}
-
-/// What the enqueue of a packet answers, which has its number as its moment.
-fn admitted(id: u64) -> Admitted {
-    Admitted {
-        id,
-        moment: id,
-        flow: 0,
+/// A new scheduler. Where memory was refused, the same call with ample memory gives one.
+fn new_sched(values: &Values, calls: &mut Calls<'_>) -> Option<Sched> {
+    match Sched::try_new(values.alloc, values.params, SEED) {
+        Ok(sched) => Some(sched),
+        Err(_) => {
+            calls.note();
+            Sched::try_new(values.alloc, values.params, SEED).ok()
+        }
     }
 }
 
-/// The one row of the five-tuples.
-fn rows(sched: &mut Sched, calls: &mut Calls) -> Result<(), Wrong> {
-    let rows = calls.answered(
-        Wrong::SchedTupleRows,
-        sched,
-        of_sched,
-        |sched: &mut Sched| { sched.tuple_rows().ok() },
-    )?;
-    let row = TupleRow {
-        tuple: packet(53)?.tuple(),
-        flow: 0,
-        accepted: PACKETS,
-        sent: 1,
-        dropped: 0,
-        queued: PACKETS - 1,
-    };
-    wanted(rows.as_slice() == [row].as_slice(), Wrong::SchedTupleRows)
+impl Subject for Sched {
+    type Call = Call;
+
+    type Picture = Picture;
+
+    fn picture(&mut self) -> Picture {
+        of_sched(self)
+    }
+
+    fn answer(&mut self, call: Call, packet: Packet) -> Answer {
+        match call {
+            Enqueue(moment, wanted) => {
+                compared(self.enqueue(moment, 0, packet), admitted(moment, wanted))
+            }
+            Dequeue(moment, wanted) => gave(self.dequeue(moment).map_err(Refusal::from), wanted),
+            Close(moment, wanted) => compared(self.close(moment).map_err(Refusal::from), wanted),
+            Reserve(enqueues) => has_room(self.reserve(u64::from(enqueues))),
+            TupleRows(accepted, sent, queued) => {
+                is_row(self.tuple_rows(), packet, accepted, sent, queued)
+            }
+            Totals(accepted, sent, queued, closed) => {
+                is_total(&self.totals(), (accepted, sent, queued, closed))
+            }
+        }
+    }
 }

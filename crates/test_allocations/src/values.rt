@@ -1,29 +1,49 @@
-//! The parameters, the seed and the packets of the sequences.
+//! The parameters, the seed and the packet of the sequences.
 
-use crate::calls::Wrong;
 use packet_core::{Classify, Ecn, FiveTuple, Ip, Packet, ParamFields, Params, Seed};
+use std::alloc::Global;
 
 /// The seed of every run.
 pub(crate) const SEED: Seed = Seed([0; 16]);
 
+/// What the sequences are made with.
+#[derive(Clone, Copy)]
+pub(crate) struct Values {
+    /// What gives memory.
+    pub(crate) alloc: Global,
+    /// One flow, chosen by the destination port.
+    pub(crate) params: Params,
+    /// The packet that comes.
+    pub(crate) packet: Packet,
+}
+
+impl Values {
+    /// They take no memory. The answer where there are none is what is wrong.
+    pub(crate) fn try_new(alloc: Global) -> Result<Values, &'static str> {
+        Ok(Values {
+            alloc,
+            params: one_flow().ok_or("Params::try_new")?,
+            packet: packet().ok_or("Packet::try_new")?,
+        })
+    }
+}
+
 /// One flow, chosen by the destination port.
-pub(crate) fn one_flow() -> Result<Params, Wrong> {
+fn one_flow() -> Option<Params> {
     let mut fields = ParamFields::standard();
     fields.flows = 1;
     fields.classify = Classify::Dport;
-    Params::try_new(fields).ok().ok_or(Wrong::ParamsTryNew)
+    Params::try_new(fields).ok()
 }
 
-/// A packet of 1,000 bytes to that destination port.
-pub(crate) fn packet(dport: u16) -> Result<Packet, Wrong> {
+/// A packet of 1,000 bytes.
+fn packet() -> Option<Packet> {
     let tuple = FiveTuple {
         proto: 17,
         src: Ip::V4([10, 0, 0, 1]),
         dst: Ip::V4([10, 0, 0, 2]),
         sport: 5_000,
-        dport,
+        dport: 53,
     };
-    Packet::try_new(tuple, 1_000, Ecn::NotEct)
-        .ok()
-        .ok_or(Wrong::PacketTryNew)
+    Packet::try_new(tuple, 1_000, Ecn::NotEct).ok()
 }
