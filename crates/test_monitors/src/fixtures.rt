@@ -1,13 +1,17 @@
-//! The parameters, the seed and the packet of the tests.
+//! The layout, the parameters and the packets of the tests.
 
-use packet_core::{Classify, Ecn, FiveTuple, Ip, Packet, ParamFields, Params, Seed};
+use packet_core::{Classify, Ecn, FiveTuple, Ip, Packet, ParamFields, Params};
+use port_core::Layout;
 use std::process::Abort;
 
-/// So often a monitor looks for what was published.
-pub(crate) const MAX_LOOKS: u32 = 1_000_000;
-
-/// The seed of every device.
-pub(crate) const SEED: Seed = Seed([1, 2, 3, 4, 5, 6, 7, 8, 9, 10, 11, 12, 13, 14, 15, 16]);
+/// A lane with room for one packet, and so many monitors.
+pub(crate) fn room_for_one(monitors: u32) -> Layout {
+    Layout {
+        lanes: 1,
+        capacity: 1,
+        monitors,
+    }
+}
 
 /// One flow, chosen by the destination port.
 pub(crate) fn one_flow<R: Abort>(rt: &R) -> Params {
@@ -17,24 +21,8 @@ pub(crate) fn one_flow<R: Abort>(rt: &R) -> Params {
     Params::try_new(fields).expect(rt, "parameters")
 }
 
-/// One flow with room for ten packets, which loses one packet at an overflow, and with a threshold of 200 ms.
-pub(crate) fn room_for_ten<R: Abort>(rt: &R) -> Params {
-    let mut fields = ParamFields::standard();
-    fields.flows = 1;
-    fields.classify = Classify::Dport;
-    fields.limit = 10;
-    fields.drop_batch = 1;
-    fields.ce_threshold = Some(200_000);
-    Params::try_new(fields).expect(rt, "parameters")
-}
-
-/// A packet of 100 bytes.
-pub(crate) fn packet<R: Abort>(rt: &R) -> Packet {
-    packet_of(rt, 100, Ecn::NotEct)
-}
-
 /// A packet of so many bytes with that field.
-pub(crate) fn packet_of<R: Abort>(rt: &R, len: u32, ecn: Ecn) -> Packet {
+pub(crate) fn packet<R: Abort>(rt: &R, len: u32, ecn: Ecn) -> Packet {
     let tuple = FiveTuple {
         proto: 17,
         src: Ip::V4([10, 0, 0, 1]),

@@ -1,136 +1,169 @@
 //! Monitors of a journal with every kind of event: acceptances, drops by CoDel and at an overflow, marks of both kinds,
 //! and the close. The run is worked out in `test_ports`.
 
-ghost use Rattle.std.specs.Prelude.{◌≡◌, ◌≤◌};
-
-use crate::fixtures::{MAX_LOOKS, SEED, packet_of, room_for_ten};
-use packet_core::Ecn;
-use port_core::{
-    BookBlank, BookName, Device, Layout, MAX_MONITORS, Monitor, Opened, Screen, Seen, Shown, lanes,
-};
-use sched_core::Totals;
+use crate::calls::{Call, Given, plays};
+use crate::totals::NOTHING;
+use packet_core::{Classify, Ecn, ParamFields, Params};
+use port_core::Layout;
+use sched_core::{Mark, Totals};
 use std::alloc::Global;
-use std::marker::Brand;
 use std::process::Abort;
 use std::sync::Wait;
-use std::thread;
+use std::thread::Threads;
 
 /// What each publish shows is seen.
 #[test]
 fn every_kind_of_event_is_seen(rt: HostRuntime) {
-    publishes_kinds::<Brand, _>(&rt, rt.alloc(), BookBlank::new(), 1);
+    publishes_kinds(&rt, rt.alloc(), 1);
 }
 
 /// Each publish is made where nobody reads.
 #[test]
 fn every_kind_of_event_is_published(rt: HostRuntime) {
-    publishes_kinds::<Brand, _>(&rt, rt.alloc(), BookBlank::new(), 0);
+    publishes_kinds(&rt, rt.alloc(), 0);
 }
 
-fn publishes_kinds<J: BookName, R: Wait + Abort>(
-    rt: &R,
-    alloc: Global,
-    blank: BookBlank,
-    monitors: u32,
-)
-    requires book { blank ≡ J.book }
-    requires monitors { monitors ≤ MAX_MONITORS }
-{
+fn publishes_kinds<R: Threads + Wait + Abort + Sync>(rt: &R, alloc: Global, monitors: u32) {
     let layout = Layout {
         lanes: 1,
         capacity: 11,
         monitors,
     };
-    let params = room_for_ten(rt);
-    let mut opened = lanes::<J, _>(rt, alloc, blank, params, SEED, layout).expect(rt, "lanes");
-    shows_kinds(rt, &mut opened);
+    plays(rt, alloc, room_for_ten(rt), layout, &KINDS);
 }
 
-/// Eleven packets come and are published at once, then each departure, then the close, with three packets left, and then
-/// one departure more.
-fn shows_kinds<J: BookName, X: Screen<Shown<J>> + Drop, R: Abort>(
-    rt: &R,
-    opened: &mut Opened<J, X>,
-) {
-    let mut monitor = opened.monitors.pop();
-    eleven_come(rt, opened);
-    let device = &mut opened.device;
-    shows(rt, device, &mut monitor, 12);
-    for (moment, events) in [
-        (5_000, 13),
-        (105_000, 15),
-        (205_000, 16),
-        (205_001, 17),
-        (275_710, 19),
-    ] {
-        assert!(rt; matches!(device.dequeue(moment), Ok(Some(_))));
-        shows(rt, device, &mut monitor, events);
-    }
-    assert_eq!(rt; device.close(275_710), Ok(()));
-    shows(rt, device, &mut monitor, 20);
-    assert!(rt; matches!(device.dequeue(275_711), Ok(Some(_))));
-    shows(rt, device, &mut monitor, 21);
-    assert_eq!(rt; device.engine().totals(), whole());
+/// One flow with room for ten packets, which loses one packet at an overflow, and with a threshold of 200 ms.
+fn room_for_ten<R: Abort>(rt: &R) -> Params {
+    let mut fields = ParamFields::standard();
+    fields.flows = 1;
+    fields.classify = Classify::Dport;
+    fields.limit = 10;
+    fields.drop_batch = 1;
+    fields.ce_threshold = Some(200_000);
+    Params::try_new(fields).expect(rt, "parameters")
 }
 
-/// Packets of 1,000 to 1,010 bytes come at 0. Of the fifth and the sixth the sender takes part in ECN.
-fn eleven_come<J: BookName, X: Screen<Shown<J>> + Drop, R: Abort>(
-    rt: &R,
-    opened: &mut Opened<J, X>,
-) {
-    let mut sender = opened.senders.pop().expect(rt, "a sender");
-    for place in 0..11u32 {
-        let takes_part = place == 4 || place == 5;
-        let ecn = if takes_part { Ecn::Ect0 } else { Ecn::NotEct };
-        assert_eq!(rt; sender.submit(packet_of(rt, 1_000 + place, ecn)), Ok(()));
-    }
-    assert!(rt; 0 < opened.device.lanes());
-    assert_eq!(rt; opened.device.pump(0, 0, 11), Ok(11));
-}
+/// Packets of 1,000 to 1,010 bytes come at 0 and are published at once. Of the fifth and the sixth the sender takes part
+/// in ECN. Then each departure is published, then the close, with three packets left, and then one departure more.
+const KINDS: [Call; 43] = [
+    Call::Submit(1_000, Ecn::NotEct),
+    Call::Submit(1_001, Ecn::NotEct),
+    Call::Submit(1_002, Ecn::NotEct),
+    Call::Submit(1_003, Ecn::NotEct),
+    Call::Submit(1_004, Ecn::Ect0),
+    Call::Submit(1_005, Ecn::Ect0),
+    Call::Submit(1_006, Ecn::NotEct),
+    Call::Submit(1_007, Ecn::NotEct),
+    Call::Submit(1_008, Ecn::NotEct),
+    Call::Submit(1_009, Ecn::NotEct),
+    Call::Submit(1_010, Ecn::NotEct),
+    Call::Pump(0, 11),
+    Call::Publish(12),
+    Call::Journal(12, ELEVEN),
+    Call::EachComesTo(0, 12, ELEVEN),
+    Call::Dequeue(5_000, Given(1, 1_001, Ecn::NotEct, Mark::NoMark)),
+    Call::Publish(13),
+    Call::Journal(13, FIRST),
+    Call::EachComesTo(0, 13, FIRST),
+    Call::Dequeue(105_000, Given(3, 1_003, Ecn::NotEct, Mark::NoMark)),
+    Call::Publish(15),
+    Call::Journal(15, SECOND),
+    Call::EachComesTo(0, 15, SECOND),
+    Call::Dequeue(205_000, Given(4, 1_004, Ecn::Ce, Mark::CodelMark)),
+    Call::Publish(16),
+    Call::Journal(16, THIRD),
+    Call::EachComesTo(0, 16, THIRD),
+    Call::Dequeue(205_001, Given(5, 1_005, Ecn::Ce, Mark::Threshold)),
+    Call::Publish(17),
+    Call::Journal(17, FOURTH),
+    Call::EachComesTo(0, 17, FOURTH),
+    Call::Dequeue(275_710, Given(7, 1_007, Ecn::NotEct, Mark::NoMark)),
+    Call::Publish(19),
+    Call::Journal(19, FIFTH),
+    Call::EachComesTo(0, 19, FIFTH),
+    Call::Close(275_710),
+    Call::Publish(20),
+    Call::Journal(20, CLOSED),
+    Call::EachComesTo(0, 20, CLOSED),
+    Call::Dequeue(275_711, Given(8, 1_008, Ecn::NotEct, Mark::NoMark)),
+    Call::Publish(21),
+    Call::Journal(21, WHOLE),
+    Call::EachComesTo(0, 21, WHOLE),
+];
 
-/// A publish shows so many events and the device's statistics, and the monitor sees them, without the receipt.
-fn shows<J: BookName, X: Screen<Shown<J>> + Drop, R: Abort>(
-    rt: &R,
-    device: &mut Device<J, X>,
-    monitor: &mut Option<Monitor<J>>,
-    events: u64,
-) {
-    let receipt = device.publish().expect(rt, "a receipt");
-    assert_eq!(rt; receipt.events(), events);
-    if let Some(monitor) = monitor {
-        let seen = comes_to(monitor, events);
-        assert_eq!(rt;
-            (seen.events, seen.totals),
-            (events, device.engine().totals())
-        );
-    }
-}
+/// Eleven packets came, and the first of them was lost at the overflow.
+const ELEVEN: Totals = Totals {
+    accepted: 11,
+    accepted_bytes: 11_055,
+    dropped_overflow: 1,
+    dropped_bytes: 1_000,
+    queued: 10,
+    queued_bytes: 10_055,
+    ..NOTHING
+};
 
-/// What the monitor sees once it has read often enough to see so many events.
-fn comes_to<J: BookName>(monitor: &mut Monitor<J>, events: u64) -> Seen {
-    for _look in 0..MAX_LOOKS {
-        if monitor.totals().events >= events {
-            break;
-        }
-        thread::yield_now();
-    }
-    monitor.totals()
-}
+/// The second was sent.
+const FIRST: Totals = Totals {
+    sent: 1,
+    sent_bytes: 1_001,
+    queued: 9,
+    queued_bytes: 9_054,
+    ..ELEVEN
+};
 
-/// The statistics of the whole run.
-fn whole() -> Totals {
-    Totals {
-        accepted: 11,
-        accepted_bytes: 11_055,
-        sent: 6,
-        sent_bytes: 6_028,
-        dropped_codel: 2,
-        dropped_overflow: 1,
-        dropped_bytes: 3_008,
-        marked: 1,
-        threshold_marked: 1,
-        queued: 2,
-        queued_bytes: 2_019,
-        closed: true,
-    }
-}
+/// CoDel dropped the third, and the fourth was sent.
+const SECOND: Totals = Totals {
+    sent: 2,
+    sent_bytes: 2_004,
+    dropped_codel: 1,
+    dropped_bytes: 2_002,
+    queued: 7,
+    queued_bytes: 7_049,
+    ..FIRST
+};
+
+/// The fifth was sent with CoDel's mark.
+const THIRD: Totals = Totals {
+    sent: 3,
+    sent_bytes: 3_008,
+    marked: 1,
+    queued: 6,
+    queued_bytes: 6_045,
+    ..SECOND
+};
+
+/// The sixth was sent with the threshold's mark.
+const FOURTH: Totals = Totals {
+    sent: 4,
+    sent_bytes: 4_013,
+    threshold_marked: 1,
+    queued: 5,
+    queued_bytes: 5_040,
+    ..THIRD
+};
+
+/// CoDel dropped the seventh, and the eighth was sent.
+const FIFTH: Totals = Totals {
+    sent: 5,
+    sent_bytes: 5_020,
+    dropped_codel: 2,
+    dropped_bytes: 3_008,
+    queued: 3,
+    queued_bytes: 3_027,
+    ..FOURTH
+};
+
+/// The close was made.
+const CLOSED: Totals = Totals {
+    closed: true,
+    ..FIFTH
+};
+
+/// The ninth was sent after the close.
+const WHOLE: Totals = Totals {
+    sent: 6,
+    sent_bytes: 6_028,
+    queued: 2,
+    queued_bytes: 2_019,
+    ..CLOSED
+};

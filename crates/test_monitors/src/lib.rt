@@ -3,8 +3,14 @@
 #![tactic(auto)]
 
 #[cfg(test)]
+mod beside;
+#[cfg(test)]
+mod calls;
+#[cfg(test)]
 mod fixtures;
 #[cfg(test)]
 mod kinds;
 #[cfg(test)]
 mod monitors;
+#[cfg(test)]
+mod totals;
