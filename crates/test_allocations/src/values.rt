@@ -1,7 +1,8 @@
 //! The parameters, the seed and the packet of the sequences.
 
-use packet_core::{Classify, Ecn, FiveTuple, Ip, Packet, ParamFields, Params, Seed};
+use packet_core::{Ecn, Packet, Params, Seed};
 use std::alloc::Global;
+use test_support::{by_port, tuple};
 
 /// The seed of every run.
 pub(crate) const SEED: Seed = Seed([0; 16]);
@@ -30,20 +31,10 @@ impl Values {
 
 /// One flow, chosen by the destination port.
 fn one_flow() -> Option<Params> {
-    let mut fields = ParamFields::standard();
-    fields.flows = 1;
-    fields.classify = Classify::Dport;
-    Params::try_new(fields).ok()
+    Params::try_new(by_port(1)).ok()
 }
 
 /// A packet of 1,000 bytes.
 fn packet() -> Option<Packet> {
-    let tuple = FiveTuple {
-        proto: 17,
-        src: Ip::V4([10, 0, 0, 1]),
-        dst: Ip::V4([10, 0, 0, 2]),
-        sport: 5_000,
-        dport: 53,
-    };
-    Packet::try_new(tuple, 1_000, Ecn::NotEct).ok()
+    Packet::try_new(tuple(53), 1_000, Ecn::NotEct).ok()
 }

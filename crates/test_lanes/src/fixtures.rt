@@ -5,7 +5,7 @@ ghost use Rattle.std.specs.Prelude.{◌≡◌, ◌≤◌, ◌<◌};
 ghost use Rattle.port_core.specs.Devices.{rings_of};
 ghost use Rattle.test_lanes.specs.Ends.{AreFirst, sender_rings};
 
-use packet_core::{Classify, Ecn, FiveTuple, Ip, Packet, ParamFields, Params, Seed};
+use packet_core::{Ecn, Packet, Params};
 use port_core::{
     BookBlank, BookName, Layout, LeftRight, MAX_CAPACITY, MAX_LANES, Opened, Shown, lanes,
     lanes_with_keepers,
@@ -14,16 +14,11 @@ use sched_core::{Event, Step, Unstored};
 use std::alloc::Global;
 use std::process::Abort;
 use std::sync::Wait;
-
-/// The seed of every device.
-const SEED: Seed = Seed([1, 2, 3, 4, 5, 6, 7, 8, 9, 10, 11, 12, 13, 14, 15, 16]);
+use test_support::{SEED, by_port, tuple};
 
 /// One flow, chosen by the destination port.
 fn one_flow<R: Abort>(rt: &R) -> Params {
-    let mut fields = ParamFields::standard();
-    fields.flows = 1;
-    fields.classify = Classify::Dport;
-    Params::try_new(fields).expect(rt, "parameters")
+    Params::try_new(by_port(1)).expect(rt, "parameters")
 }
 
 /// A packet of 100 bytes to that destination port.
@@ -33,14 +28,7 @@ pub(crate) fn packet<R: Abort>(rt: &R, dport: u16) -> Packet {
 
 /// A packet of so many bytes to that destination port.
 pub(crate) fn packet_of<R: Abort>(rt: &R, dport: u16, len: u32) -> Packet {
-    let tuple = FiveTuple {
-        proto: 17,
-        src: Ip::V4([10, 0, 0, 1]),
-        dst: Ip::V4([10, 0, 0, 2]),
-        sport: 5000,
-        dport,
-    };
-    Packet::try_new(tuple, len, Ecn::NotEct).expect(rt, "a packet")
+    Packet::try_new(tuple(dport), len, Ecn::NotEct).expect(rt, "a packet")
 }
 
 /// Six packets of 100 bytes, to the destination ports from that one.

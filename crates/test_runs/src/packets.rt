@@ -1,19 +1,19 @@
 //! The parameters and the packets of the tests. Where a step fails the test ends there: each `?` would be one more way
 //! out of a function, and its proof takes each of them.
 
-use packet_core::{Classify, Ecn, EcnUse, FiveTuple, Ip, Packet, ParamFields, Params, Seed};
+use packet_core::{Ecn, EcnUse, Packet, ParamFields, Params, Seed};
 use sched_core::Step;
 use std::process::Abort;
+use test_support::by_port;
+pub(crate) use test_support::tuple;
 
 /// The seed of every run. A flow that is found from the destination port doesn't depend on it.
 pub(crate) const SEED: Seed = Seed([0; 16]);
 
 /// Standard parameters for one flow, without marks, and flows by the destination port.
 pub(crate) fn one_flow() -> ParamFields {
-    let mut fields = ParamFields::standard();
-    fields.flows = 1;
+    let mut fields = by_port(1);
     fields.ecn = EcnUse::Drop;
-    fields.classify = Classify::Dport;
     fields
 }
 
@@ -38,17 +38,6 @@ pub(crate) fn four_flows() -> ParamFields {
 /// Those parameters.
 pub(crate) fn params_of<R: Abort>(rt: &R, fields: ParamFields) -> Params {
     Params::try_new(fields).ok().expect(rt, "parameters")
-}
-
-/// A five-tuple with that destination port.
-pub(crate) fn tuple(dport: u16) -> FiveTuple {
-    FiveTuple {
-        proto: 17,
-        src: Ip::V4([10, 0, 0, 1]),
-        dst: Ip::V4([10, 0, 0, 2]),
-        sport: 5000,
-        dport,
-    }
 }
 
 /// A packet of 1,000 bytes to that destination port.

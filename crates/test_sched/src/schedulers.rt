@@ -1,9 +1,10 @@
 //! The schedulers and the packets of the tests. Where a step fails the test ends there: each `?` would be one more way
 //! out of a function, and its proof takes each of them.
 
-use packet_core::{Classify, Ecn, EcnUse, FiveTuple, Ip, Packet, ParamFields, Params, Seed};
+use packet_core::{Ecn, EcnUse, FiveTuple, Packet, ParamFields, Params, Seed};
 use sched_core::{Event, Keeps, Sched};
 use std::process::Abort;
+use test_support::by_port;
 
 /// The destination port where there is one flow.
 pub(crate) const PORT: u16 = 53;
@@ -13,17 +14,15 @@ pub(crate) const SEED: Seed = Seed([0; 16]);
 
 /// Standard parameters for one flow, without marks, and flows by the destination port.
 pub(crate) fn one_flow() -> ParamFields {
-    let mut fields = ParamFields::standard();
-    fields.flows = 1;
+    let mut fields = by_port(1);
     fields.ecn = EcnUse::Drop;
-    fields.classify = Classify::Dport;
     fields
 }
 
 /// Standard parameters for four flows, without marks.
 pub(crate) fn four_flows() -> ParamFields {
-    let mut fields = one_flow();
-    fields.flows = 4;
+    let mut fields = by_port(4);
+    fields.ecn = EcnUse::Drop;
     fields
 }
 
@@ -44,13 +43,9 @@ pub(crate) fn seeded(rt: &(impl Abort + AllocGlobal), params: Params, seed: Seed
 
 /// A five-tuple with those ports.
 pub(crate) fn tuple(sport: u16, dport: u16) -> FiveTuple {
-    FiveTuple {
-        proto: 17,
-        src: Ip::V4([10, 0, 0, 1]),
-        dst: Ip::V4([10, 0, 0, 2]),
-        sport,
-        dport,
-    }
+    let mut tuple = test_support::tuple(dport);
+    tuple.sport = sport;
+    tuple
 }
 
 /// A packet of `len` bytes to that destination port.
