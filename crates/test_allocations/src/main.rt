@@ -92,9 +92,7 @@ fn run<H: Print + Threads + Wait + Sync>(
     alloc: Global,
     input: &str,
 ) -> Result<(), &'static str> {
-    let (line, trace) = input.split_once('\n').ok_or("a line")?;
-    let (name, number) = line.split_once(' ').ok_or("a name and a number")?;
-    let refused: u32 = number.parse().ok().ok_or("a number")?;
+    let (name, refused, trace) = asked(input)?;
     let values = Values::try_new(alloc)?;
     make_before(alloc, refused);
     if name != ALL {
@@ -104,6 +102,14 @@ fn run<H: Print + Threads + Wait + Sync>(
         tell(rt, &values, name, trace)?;
     }
     Ok(())
+}
+
+/// The name that the input asks for, the allocation that is refused, and what follows their line.
+fn asked(input: &str) -> Result<(&str, u32, &str), &'static str> {
+    let (line, trace) = input.split_once('\n').ok_or("a line")?;
+    let (name, number) = line.split_once(' ').ok_or("a name and a number")?;
+    let refused = number.parse().ok().ok_or("a number")?;
+    Ok((name, refused, trace))
 }
 
 /// Makes the calls of a sequence, and reports how many were refused, or what was wrong first.
