@@ -1,9 +1,8 @@
 //! The lists of new and of old flows, against plain lists.
 
 use crate::queued::next;
-use flow_core::{Flows, Memory};
+use flow_core::Flows;
 use std::process::Abort;
-use std::test::Fail;
 
 /// One of the four moves, where there is a flow for it.
 fn make_move(flows: &mut Flows, which: u64, flow: u32) {
@@ -32,27 +31,22 @@ fn make_move(flows: &mut Flows, which: u64, flow: u32) {
 }
 
 /// The same of two plain lists.
-fn make_plain_move(
-    new: &mut Vec<u32>,
-    old: &mut Vec<u32>,
-    which: u64,
-    flow: u32,
-) -> Result<(), Memory> {
+fn make_plain_move(rt: &impl Abort, new: &mut Vec<u32>, old: &mut Vec<u32>, which: u64, flow: u32) {
     match which {
         0 => {
             if !new.contains(&flow) && !old.contains(&flow) {
-                new.push(flow)?;
+                new.push(flow).expect(rt, "memory");
             }
         }
         1 => {
             if !new.is_empty() {
-                old.push(new.remove(0))?;
+                old.push(new.remove(0)).expect(rt, "memory");
             }
         }
         2 => {
             if !old.is_empty() {
                 let first = old.remove(0);
-                old.push(first)?;
+                old.push(first).expect(rt, "memory");
             }
         }
         _ => {
@@ -61,16 +55,10 @@ fn make_plain_move(
             }
         }
     }
-    Ok(())
 }
 
 /// A thousand moves of five flows, and the same of two plain lists.
-fn compare_moves(
-    rt: &impl Abort,
-    flows: &mut Flows,
-    new: &mut Vec<u32>,
-    old: &mut Vec<u32>,
-) -> Result<(), Fail> {
+fn compare_moves(rt: &impl Abort, flows: &mut Flows, new: &mut Vec<u32>, old: &mut Vec<u32>) {
     let mut seed = 2;
     for _ in 0..1000 {
         let (after, random) = next(seed);
@@ -78,7 +66,7 @@ fn compare_moves(
         let flow = (random % 5) as u32;
         let which = random / 5 % 5 % 4;
         make_move(flows, which, flow);
-        make_plain_move(new, old, which, flow)?;
+        make_plain_move(rt, new, old, which, flow);
         assert_eq!(rt; flows.head_new(), new.first().copied());
         assert_eq!(rt; flows.head_old(), old.first().copied());
         assert_eq!(rt;
@@ -86,12 +74,11 @@ fn compare_moves(
             new.contains(&flow) || old.contains(&flow)
         );
     }
-    Ok(())
 }
 
 #[test]
-fn lists_under_moves(rt: HostRuntime) -> Result<(), Fail> {
-    let mut flows = Flows::try_new(rt.alloc(), 5)?;
+fn lists_under_moves(rt: HostRuntime) {
+    let mut flows = Flows::try_new(rt.alloc(), 5).expect(&rt, "memory");
     let (mut new, mut old) = (Vec::new(rt.alloc()), Vec::new(rt.alloc()));
-    compare_moves(&rt, &mut flows, &mut new, &mut old)
+    compare_moves(&rt, &mut flows, &mut new, &mut old);
 }

@@ -1,6 +1,7 @@
 //! Flows by hash and by port.
 
-use packet_core::{Classify, FiveTuple, Ip, ParamFields, ParamName, Params, Seed, flow_of};
+use packet_core::{Classify, FiveTuple, Ip, ParamFields, Params, Seed, flow_of};
+use std::process::Abort;
 
 /// The seed of zeros.
 const ZERO_SEED: Seed = Seed([0; 16]);
@@ -81,67 +82,63 @@ const BOTH_KINDS: FiveTuple = FiveTuple {
 };
 
 /// The standard parameters with this number of flows, found in this way.
-fn with_flows(classify: Classify, flows: u32) -> Result<Params, ParamName> {
+fn with_flows(rt: &impl Abort, classify: Classify, flows: u32) -> Params {
     Params::try_new(ParamFields {
         flows,
         classify,
         ..ParamFields::standard()
     })
+    .expect(rt, "parameters")
+}
+
+/// With the seed of zeros the five-tuple has each of these flows, among so many.
+fn is_hashed(rt: &impl Abort, tuple: &FiveTuple, wanted: &[(u32, u32)]) {
+    for &(flows, flow) in wanted {
+        let params = with_flows(rt, Classify::Hash, flows);
+        assert_eq!(rt; flow_of(&params, &ZERO_SEED, tuple), flow);
+    }
 }
 
 /// The flow numbers were computed with the SHA-256 of python's hashlib, over the query's 29 bytes
 /// 00000000000000000000000000000000 11 0a000001 0a000002 1388 0035. The hash is 4184301397059139397.
 #[test]
-fn hashed_message(rt: HostRuntime) -> Result<(), ParamName> {
-    for (flows, flow) in [
-        (1, 0),
-        (7, 6),
-        (1000, 397),
-        (1024, 837),
-        (65535, 54827),
-        (65536, 30533),
-    ] {
-        let params = with_flows(Classify::Hash, flows)?;
-        assert_eq!(rt; flow_of(&params, &ZERO_SEED, &QUERY), flow);
-    }
-    Ok(())
+fn hashed_message(rt: HostRuntime) {
+    is_hashed(&rt, &QUERY, &QUERY_FLOWS);
 }
+
+const QUERY_FLOWS: [(u32, u32); 6] = [
+    (1, 0),
+    (7, 6),
+    (1000, 397),
+    (1024, 837),
+    (65535, 54827),
+    (65536, 30533),
+];
 
 /// The same over the 53 bytes 00000000000000000000000000000000 06 20010db8000000000000000000000001
 /// 20010db8000000000000000000000002 1388 01bb. The hash is 15403021339092855209.
 #[test]
-fn hashed_ipv6_message(rt: HostRuntime) -> Result<(), ParamName> {
-    for (flows, flow) in [
-        (1, 0),
-        (11, 5),
-        (1000, 209),
-        (1024, 425),
-        (65535, 7709),
-        (65536, 10665),
-    ] {
-        let params = with_flows(Classify::Hash, flows)?;
-        assert_eq!(rt; flow_of(&params, &ZERO_SEED, &IPV6_REQUEST), flow);
-    }
-    Ok(())
+fn hashed_ipv6_message(rt: HostRuntime) {
+    is_hashed(&rt, &IPV6_REQUEST, &IPV6_FLOWS);
 }
+
+const IPV6_FLOWS: [(u32, u32); 6] = [
+    (1, 0),
+    (11, 5),
+    (1000, 209),
+    (1024, 425),
+    (65535, 7709),
+    (65536, 10665),
+];
 
 /// As computed with python's hashlib, with the seed of zeros and with the rising one; the ports by hand. Of a five-tuple
 /// with both kinds of address 41 bytes are hashed.
 #[test]
-fn flows_of_five_tuples(rt: HostRuntime) -> Result<(), ParamName> {
-    let hashed = with_flows(Classify::Hash, 65536)?;
-    let by_port = with_flows(Classify::Dport, 1024)?;
-    for (tuple, flow_of_zeros, rising_flow, port_flow) in [
-        (QUERY, 30533, 25935, 53),
-        (ANSWER, 27923, 22397, 904),
-        (REQUEST, 58405, 986, 443),
-        (PING, 52606, 25737, 0),
-        (ENDS, 19333, 40771, 1),
-        (IPV6_REQUEST, 10665, 60958, 443),
-        (MAPPED_QUERY, 7407, 30696, 53),
-        (BOTH_KINDS, 22584, 41426, 53),
-    ] {
-        for (params, seed, flow) in [
+fn flows_of_five_tuples(rt: HostRuntime) {
+    let hashed = with_flows(&rt, Classify::Hash, 65536);
+    let by_port = with_flows(&rt, Classify::Dport, 1024);
+    for &(tuple, flow_of_zeros, rising_flow, port_flow) in &FIVE_TUPLES {
+        for &(params, seed, flow) in &[
             (hashed, ZERO_SEED, flow_of_zeros),
             (hashed, RISING_SEED, rising_flow),
             (by_port, ZERO_SEED, port_flow),
@@ -150,5 +147,16 @@ fn flows_of_five_tuples(rt: HostRuntime) -> Result<(), ParamName> {
             assert_eq!(rt; flow_of(&params, &seed, &tuple), flow);
         }
     }
-    Ok(())
 }
+
+/// Of each five-tuple the flow by its hash with the seed of zeros, that with the rising seed, and that by its port.
+const FIVE_TUPLES: [(FiveTuple, u32, u32, u32); 8] = [
+    (QUERY, 30533, 25935, 53),
+    (ANSWER, 27923, 22397, 904),
+    (REQUEST, 58405, 986, 443),
+    (PING, 52606, 25737, 0),
+    (ENDS, 19333, 40771, 1),
+    (IPV6_REQUEST, 10665, 60958, 443),
+    (MAPPED_QUERY, 7407, 30696, 53),
+    (BOTH_KINDS, 22584, 41426, 53),
+];

@@ -1,28 +1,96 @@
 //! The queues of the flows and the fattest flow, against plain lists and a scan of all flows.
 
-ghost use Rattle.std.specs.Prelude.{◌+◌, ◌^◌, ◌<◌};
+ghost use Rattle.std.specs.Prelude.{◌+◌, ◌^◌, ◌<◌, length};
 
 use crate::queued::{next, push, waiting};
 use flow_core::{Flows, MAX_FLOWS};
 use packet_core::Ecn;
 use std::process::Abort;
-use std::test::Fail;
 
-/// Packets of those flows and lengths come, with the ids 0, 1 and so on.
-fn push_all(rt: &impl Abort, flows: &mut Flows, packets: &[(u32, u32)]) -> Result<(), Fail> {
+/// A call, and what it is answered.
+#[derive(Clone, Copy)]
+enum Call {
+    /// A packet of so many bytes comes to that flow. The packets have the ids 0, 1 and so on.
+    Push(u32, u32),
+    /// That flow gives the packet with that id.
+    Pop(u32, Option<u64>),
+    /// The fattest flow, and the bytes of all flows.
+    Fattest(Option<u32>, u64),
+    /// So many levels are over the flows.
+    Levels(u32),
+    /// So many comparisons were made.
+    Comparisons(u64),
+    /// They are counted from 0 again.
+    Clear,
+}
+
+/// The calls are made in turn with so many new flows.
+fn plays(rt: &(impl Abort + AllocGlobal), count: u32, calls: &[Call]) {
+    assert!(rt; 1 <= count && count <= MAX_FLOWS);
+    let mut flows = Flows::try_new(rt.alloc(), count).expect(rt, "memory");
+    makes(rt, &mut flows, calls);
+}
+
+fn makes(rt: &impl Abort, flows: &mut Flows, calls: &[Call]) {
     let mut id = 0u64;
-    for &(flow, len) in packets {
-        push(rt, flows, flow, waiting(id, len, Ecn::NotEct)?)?;
-        id = id.wrapping_add(1);
+    for (place, call) in calls.iter().enumerate() {
+        if let Call::Push(flow, len) = *call {
+            push(rt, flows, flow, waiting(rt, id, len, Ecn::NotEct));
+            id = id.wrapping_add(1);
+        } else {
+            assert!(rt;
+                is_answered(flows, call),
+                "call {place} is answered otherwise"
+            );
+        }
     }
-    Ok(())
+}
+
+/// Whether a call that is no push is answered as it has to be.
+fn is_answered(flows: &mut Flows, call: &Call) -> bool {
+    match *call {
+        Call::Pop(flow, id) => flow < flows.flows() && pop(flows, flow) == id,
+        Call::Fattest(fattest, bytes) => {
+            flows.fattest() == fattest && flows.total_bytes() == bytes
+        }
+        Call::Levels(levels) => flows.levels() == levels,
+        Call::Comparisons(comparisons) => flows.comparisons() == comparisons,
+        Call::Clear => {
+            flows.clear_comparisons();
+            true
+        }
+        Call::Push(..) => false,
+    }
 }
 
 /// The id of the packet that a flow gives.
-fn pop(rt: &impl Abort, flows: &mut Flows, flow: u32) -> Option<u64> {
-    assert!(rt; flow < flows.flows());
-    flows.pop(flow).map(|w| w.id)
+fn pop(flows: &mut Flows, flow: u32) -> Option<u64>
+    requires { flow < length flows.old.lists.queues }
+{
+    Some(flows.pop(flow)?.id)
 }
+
+#[test]
+fn least_number_at_a_tie(rt: HostRuntime) {
+    plays(&rt, 4, &LEAST_NUMBER);
+}
+
+const LEAST_NUMBER: [Call; 14] = [
+    Call::Push(3, 500),
+    Call::Push(1, 200),
+    Call::Push(1, 300),
+    Call::Push(0, 499),
+    Call::Fattest(Some(1), 1_499),
+    Call::Pop(1, Some(1)),
+    Call::Fattest(Some(3), 1_299),
+    Call::Pop(3, Some(0)),
+    Call::Fattest(Some(0), 799),
+    Call::Pop(0, Some(3)),
+    Call::Fattest(Some(1), 300),
+    Call::Pop(1, Some(2)),
+    Call::Fattest(None, 0),
+    Call::Pop(0, None),
+];
 
 /// The flow with the most bytes, by a look at each of them.
 fn scan(flows: &Flows) -> Option<u32> {
@@ -48,25 +116,13 @@ fn sum(flows: &Flows) -> u64 {
 }
 
 #[test]
-fn least_number_at_a_tie(rt: HostRuntime) -> Result<(), Fail> {
-    let mut flows = Flows::try_new(rt.alloc(), 4)?;
-    push_all(&rt, &mut flows, &[(3, 500), (1, 200), (1, 300), (0, 499)])?;
-    for (fattest, id, bytes) in [
-        (Some(1), Some(1), 1499),
-        (Some(3), Some(0), 1299),
-        (Some(0), Some(3), 799),
-        (Some(1), Some(2), 300),
-        (None, None, 0),
-    ] {
-        assert_eq!(rt; flows.fattest(), fattest);
-        assert_eq!(rt; flows.total_bytes(), bytes);
-        assert_eq!(rt; pop(&rt, &mut flows, fattest.unwrap_or(0)), id);
-    }
-    Ok(())
+fn fattest_as_by_a_scan(rt: HostRuntime) {
+    let mut flows = Flows::try_new(rt.alloc(), 7).expect(&rt, "memory");
+    compare_with_scans(&rt, &mut flows);
 }
 
 /// Packets come to seven flows or leave them, and the fattest flow and all bytes are those of a scan after each.
-fn compare_with_scans(rt: &impl Abort, flows: &mut Flows) -> Result<(), Fail> {
+fn compare_with_scans(rt: &impl Abort, flows: &mut Flows) {
     let mut seed = 1;
     for id in 0..2000 {
         let (after, random) = next(seed);
@@ -75,75 +131,66 @@ fn compare_with_scans(rt: &impl Abort, flows: &mut Flows) -> Result<(), Fail> {
         // Five come where four go. There are few lengths, so that flows are often equally fat.
         if random / 7 % 9 < 5 {
             let len = 500 * (random / 63 % 3) as u32 + 100;
-            push(rt, flows, flow, waiting(id, len, Ecn::NotEct)?)?;
+            push(rt, flows, flow, waiting(rt, id, len, Ecn::NotEct));
         } else {
-            let _ = pop(rt, flows, flow);
+            assert!(rt; flow < flows.flows());
+            let _ = flows.pop(flow);
         }
         assert_eq!(rt; flows.fattest(), scan(flows));
         assert_eq!(rt; flows.total_bytes(), sum(flows));
     }
-    Ok(())
 }
 
+/// A flow gets two packets, the second of which takes one comparison. A look at the fattest flow takes none.
 #[test]
-fn fattest_as_by_a_scan(rt: HostRuntime) -> Result<(), Fail> {
-    let mut flows = Flows::try_new(rt.alloc(), 7)?;
-    compare_with_scans(&rt, &mut flows)
-}
-
-/// A flow gets two packets, the second of which takes one comparison.
-fn expect_one_comparison(rt: &impl Abort, flows: &mut Flows, flow: u32) -> Result<(), Fail> {
-    assert_eq!(rt; flows.comparisons(), 0);
-    push_all(rt, flows, &[(flow, 100)])?;
-    flows.clear_comparisons();
-    push_all(rt, flows, &[(flow, 100)])?;
-    assert_eq!(rt; flows.comparisons(), 1);
-    assert_eq!(rt; flows.fattest(), Some(flow));
-    assert_eq!(rt; flows.comparisons(), 1);
-    Ok(())
-}
-
-#[test]
-fn a_flow_that_wins_compares_once_as_it_grows(rt: HostRuntime) -> Result<(), Fail> {
+fn a_flow_that_wins_compares_once_as_it_grows(rt: HostRuntime) {
     for (count, flow) in [(2, 0), (2, 1), (1024, 700)] {
-        assert!(rt; count >= 1);
-        assert!(rt; count <= MAX_FLOWS);
-        let mut flows = Flows::try_new(rt.alloc(), count)?;
-        expect_one_comparison(&rt, &mut flows, flow)?;
+        let calls = [
+            Call::Comparisons(0),
+            Call::Push(flow, 100),
+            Call::Clear,
+            Call::Push(flow, 100),
+            Call::Comparisons(1),
+            Call::Fattest(Some(flow), 200),
+            Call::Comparisons(1),
+        ];
+        plays(&rt, count, &calls);
     }
-    Ok(())
 }
 
 #[test]
-fn pops_compare_where_there_is_a_packet(rt: HostRuntime) -> Result<(), Fail> {
-    let mut flows = Flows::try_new(rt.alloc(), 4)?;
-    push_all(&rt, &mut flows, &[(1, 100), (2, 1500)])?;
-    flows.clear_comparisons();
-    // Flow 2 falls below flow 1: both nodes above it get their winners anew.
-    for (flow, id, comparisons) in [(3, None, 0), (2, Some(1), 2), (2, None, 2)] {
-        assert_eq!(rt; pop(&rt, &mut flows, flow), id);
-        assert_eq!(rt; flows.comparisons(), comparisons);
-    }
-    Ok(())
+fn pops_compare_where_there_is_a_packet(rt: HostRuntime) {
+    plays(&rt, 4, &POPS);
 }
 
+/// Flow 2 falls below flow 1: both nodes above it get their winners anew.
+const POPS: [Call; 9] = [
+    Call::Push(1, 100),
+    Call::Push(2, 1_500),
+    Call::Clear,
+    Call::Pop(3, None),
+    Call::Comparisons(0),
+    Call::Pop(2, Some(1)),
+    Call::Comparisons(2),
+    Call::Pop(2, None),
+    Call::Comparisons(2),
+];
+
 #[test]
-fn levels_over_the_flows(rt: HostRuntime) -> Result<(), Fail> {
-    for (count, levels) in [
-        (1, 0),
-        (2, 1),
-        (3, 2),
-        (4, 2),
-        (5, 3),
-        (1024, 10),
-        (1025, 11),
-        (65536, 16),
-    ] {
-        assert!(rt; count >= 1);
-        assert!(rt; count <= MAX_FLOWS);
-        let flows = Flows::try_new(rt.alloc(), count)?;
-        assert_eq!(rt; flows.levels(), levels);
-        assert_eq!(rt; flows.fattest(), None);
+fn levels_over_the_flows(rt: HostRuntime) {
+    for &(count, levels) in &LEVELS {
+        plays(&rt, count, &[Call::Levels(levels), Call::Fattest(None, 0)]);
     }
-    Ok(())
 }
+
+/// How many flows, and how many levels over them.
+const LEVELS: [(u32, u32); 8] = [
+    (1, 0),
+    (2, 1),
+    (3, 2),
+    (4, 2),
+    (5, 3),
+    (1024, 10),
+    (1025, 11),
+    (65536, 16),
+];

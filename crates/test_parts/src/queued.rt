@@ -1,14 +1,14 @@
-//! The packets that the tests put into flows.
+//! The packets that the tests put into flows. Where a step fails the test ends there: each `?` would be one more way out
+//! of a function, and its proof takes each of them.
 
 ghost use Rattle.std.specs.Prelude.{◌+◌, ◌^◌, ◌<◌};
 
 use flow_core::{Flows, MAX_WAITING};
 use packet_core::{Ecn, FiveTuple, Ip, Packet, Waiting};
 use std::process::Abort;
-use std::test::Fail;
 
 /// A packet of `len` bytes that came at 0.
-pub(crate) fn waiting(id: u64, len: u32, ecn: Ecn) -> Result<Waiting, Fail> {
+pub(crate) fn waiting(rt: &impl Abort, id: u64, len: u32, ecn: Ecn) -> Waiting {
     let tuple = FiveTuple {
         proto: 17,
         src: Ip::V4([10, 0, 0, 1]),
@@ -16,26 +16,19 @@ pub(crate) fn waiting(id: u64, len: u32, ecn: Ecn) -> Result<Waiting, Fail> {
         sport: 5000,
         dport: 53,
     };
-    let packet = Packet::try_new(tuple, len, ecn)?;
-    Ok(Waiting {
+    Waiting {
         id,
         stamp: 0,
-        packet,
-    })
+        packet: Packet::try_new(tuple, len, ecn).expect(rt, "a packet"),
+    }
 }
 
 /// A push whose conditions are tested, with memory for it.
-pub(crate) fn push(
-    rt: &impl Abort,
-    flows: &mut Flows,
-    flow: u32,
-    waiting: Waiting,
-) -> Result<(), Fail> {
+pub(crate) fn push(rt: &impl Abort, flows: &mut Flows, flow: u32, waiting: Waiting) {
     assert!(rt; flow < flows.flows());
     assert!(rt; flows.total_len() < MAX_WAITING);
-    flows.reserve(1)?;
+    flows.reserve(1).expect(rt, "memory");
     flows.push(flow, waiting);
-    Ok(())
 }
 
 /// The next of a sequence of numbers that look random, and a part of it.
