@@ -2,6 +2,7 @@
 
 use command_core::{ZERO_SEED, read_seed};
 use packet_core::Seed;
+use std::process::Abort;
 
 /// Texts that are no seeds.
 static WRONG: [&str; 16] = [
@@ -37,7 +38,12 @@ fn seeds_are_read(rt: HostRuntime) {
 
 #[test]
 fn wrong_seeds_refused(rt: HostRuntime) {
-    for seed in &WRONG {
-        assert_eq!(rt; read_seed(seed), None, "{seed}");
+    are_refused(&rt, &WRONG);
+}
+
+/// None of the texts is a seed.
+fn are_refused<R: Abort>(rt: &R, texts: &[&str]) {
+    for text in texts {
+        assert_eq!(rt; read_seed(text), None, "{text}");
     }
 }
