@@ -179,7 +179,9 @@ fn pumping_from<J: BookName, X: Screen<Shown<J>> + Drop, R: Clock>(
 }
 
 /// Pumps the packets out of the first lane. It answers whether all came.
-fn pump_out<J: BookName, X: Screen<Shown<J>> + Drop>(device: &mut Device<J, X>) -> bool {
+fn pump_out<J: BookName, X: Screen<Shown<J>> + Drop, K: Keeps<Event>, S: Keeps<Step>>(
+    device: &mut Device<J, X, K, S>,
+) -> bool {
     for _ in 0..=u64::from(ROUNDS) / BURST {
         if !pump_one(device, 0) {
             return false;
@@ -198,14 +200,24 @@ pub fn pump_one<J: BookName, X: Screen<Shown<J>> + Drop, K: Keeps<Event>, S: Kee
 
 /// The time in which an engine accepts the packets.
 fn enqueuing<R: AllocGlobal + Clock>(rt: &R, packet: Packet) -> Result<u128, Fault> {
-    let mut engine = Engine::try_new(rt.alloc(), params()?, SEED)?;
+    let params = params()?;
+    let mut engine = Engine::try_new(rt.alloc(), params, SEED)?;
+    enqueuing_into(rt, &mut engine, packet)
+}
+
+/// The same, of an engine that was made.
+fn enqueuing_into<K: Keeps<Event>, S: Keeps<Step>, R: Clock>(
+    rt: &R,
+    engine: &mut Engine<K, S>,
+    packet: Packet,
+) -> Result<u128, Fault> {
     let begun = now(rt);
-    let is_done = enqueue_all(&mut engine, packet);
+    let is_done = enqueue_all(engine, packet);
     nanoseconds_since(rt, begun, is_done)
 }
 
 /// Enqueues the packets. It answers whether all were accepted.
-fn enqueue_all(engine: &mut Engine, packet: Packet) -> bool {
+fn enqueue_all<K: Keeps<Event>, S: Keeps<Step>>(engine: &mut Engine<K, S>, packet: Packet) -> bool {
     for _ in 0..ROUNDS {
         if engine.enqueue(MOMENT, 0, packet).is_err() {
             return false;
@@ -223,9 +235,20 @@ pub fn times_through_lanes<R: AllocGlobal + Clock + Threads + Wait + Sync>(
 {
     let packet = packet_to(0, Ecn::NotEct)?;
     let packets = vec![in rt.alloc(); packet; (ROUNDS / senders) as usize]?;
+    times_of_packets(rt, senders, &packets)
+}
+
+/// The same, where each sender has these packets.
+fn times_of_packets<R: AllocGlobal + Clock + Threads + Wait + Sync>(
+    rt: &R,
+    senders: u32,
+    packets: &[Packet],
+) -> Result<Times, Fault>
+    requires { (0 < senders) × (senders ≤ 4) }
+{
     let mut times = no_times(rt.alloc(), REPETITIONS)?;
     for _ in 0..REPETITIONS {
-        times.push(opened_lanes::<Brand, _>(rt, BookBlank::new(), senders, &packets)?)?;
+        times.push(opened_lanes::<Brand, _>(rt, BookBlank::new(), senders, packets)?)?;
     }
     Times::of(times).ok_or(Fault::OutOfRange)
 }
@@ -256,7 +279,15 @@ fn through_lanes<J: BookName, X: Screen<Shown<J>> + Drop, R: Clock + Threads + S
     } = opened;
     let begun = now(rt);
     let (done, device) = at_once(rt, senders, packets, device);
-    nanoseconds_since(rt, begun, done.is_ok() && has_sent_all(&device))
+    nanoseconds_since(rt, begun, is_through(&done, &device))
+}
+
+/// Whether memory wasn't refused to the senders' threads, and all packets of a repetition were sent.
+fn is_through<J: BookName, X: Screen<Shown<J>> + Drop>(
+    done: &Result<Vec<LaneDone>, AllocError>,
+    device: &Device<J, X>,
+) -> bool {
+    done.is_ok() && has_sent_all(device)
 }
 
 /// The device takes packets while the senders submit theirs.
@@ -283,7 +314,9 @@ fn send_all<R: Threads + Sync>(
 }
 
 /// Whether all packets of a repetition were sent.
-pub fn has_sent_all<J: BookName, X: Screen<Shown<J>> + Drop>(device: &Device<J, X>) -> bool {
+pub fn has_sent_all<J: BookName, X: Screen<Shown<J>> + Drop, K: Keeps<Event>, S: Keeps<Step>>(
+    device: &Device<J, X, K, S>,
+) -> bool {
     device.engine().totals().sent == u64::from(ROUNDS)
 }
 

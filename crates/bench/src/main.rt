@@ -96,6 +96,15 @@ fn measure<R: AllocGlobal + Clock + Print + Threads + Wait + Sync + Clone + Drop
     if let Some(beside) = reads_of(name) {
         return tell_each(rt, name, ROUNDS, times_of_reads(rt, beside)?);
     }
+    measure_threads(rt, name, memory)
+}
+
+/// Measures what is told as a rate, and else a workload.
+fn measure_threads<R: AllocGlobal + Clock + Print + Threads + Wait + Sync + Clone + Drop>(
+    rt: &R,
+    name: &str,
+    memory: Memory,
+) -> Result<(), Fault> {
     if let Some(monitors) = monitors_of(name) {
         return tell_rate(rt, name, times_while_read(rt, monitors)?);
     }
@@ -105,6 +114,15 @@ fn measure<R: AllocGlobal + Clock + Print + Threads + Wait + Sync + Clone + Drop
     if let Some(senders) = senders_of(name, "lanes_") {
         return tell_rate(rt, name, times_through_lanes(rt, senders)?);
     }
+    measure_rounds(rt, name, memory)
+}
+
+/// Measures the workload of that name.
+fn measure_rounds<R: AllocGlobal + Clock + Print + Wait + Clone + Drop>(
+    rt: &R,
+    name: &str,
+    memory: Memory,
+) -> Result<(), Fault> {
     let named = named(name).ok_or(Fault::UnknownWorkload)?;
     let workload = match memory {
         Memory::Warm => *named,

@@ -9,6 +9,7 @@ use crate::timing::{Fault, nanoseconds_since, now, packet_to};
 use crate::workload::{REPETITIONS, ROUNDS};
 use packet_core::{Ecn, Packet};
 use port_core::{BookBlank, BookName, Device, LaneSender, Monitor, Opened, Screen, Shown};
+use sched_core::{Event, Keeps, Step};
 use std::alloc::AllocError;
 use std::marker::{Brand, Send, Sync};
 use std::rt::Clock;
@@ -60,29 +61,68 @@ fn publishing_on<J: BookName, X: Screen<Shown<J>> + Drop, R: Clock>(
 }
 
 /// Accepts so many packets and publishes them, over and over, and gives the time that the publishes took.
-fn publish_often<J: BookName, X: Screen<Shown<J>> + Drop, R: Clock>(
+fn publish_often<
+    J: BookName,
+    X: Screen<Shown<J>> + Drop,
+    K: Keeps<Event>,
+    S: Keeps<Step>,
+    R: Clock,
+>(
     rt: &R,
     senders: &mut Vec<LaneSender>,
-    device: &mut Device<J, X>,
+    device: &mut Device<J, X, K, S>,
     packet: Packet,
     events: u32,
 ) -> Result<u128, Fault> {
-    let mut took = 0_u128;
+    let mut took = Ok(0);
     for _ in 0..PUBLISHES {
-        for _ in 0..events {
-            if !submit_all(senders, packet, 1) || !pump_one(device, 0) {
-                return Err(Fault::Refused);
-            }
-        }
-        let begun = now(rt);
-        let is_done = device.publish().is_ok();
-        took = took.saturating_add(nanoseconds_since(rt, begun, is_done)?);
+        let is_accepted = accept(senders, device, packet, events);
+        let published = publish_once(rt, device);
+        took = with_time(took, is_accepted, published);
     }
-    Ok(took)
+    took
+}
+
+/// So many packets come out of the first lane. It answers whether none was refused.
+fn accept<J: BookName, X: Screen<Shown<J>> + Drop, K: Keeps<Event>, S: Keeps<Step>>(
+    senders: &mut Vec<LaneSender>,
+    device: &mut Device<J, X, K, S>,
+    packet: Packet,
+    packets: u32,
+) -> bool {
+    let mut is_accepted = true;
+    for _ in 0..packets {
+        is_accepted = is_accepted && submit_all(senders, packet, 1) && pump_one(device, 0);
+    }
+    is_accepted
+}
+
+/// The time that a publish takes.
+fn publish_once<J: BookName, X: Screen<Shown<J>> + Drop, K: Keeps<Event>, S: Keeps<Step>, R: Clock>(
+    rt: &R,
+    device: &mut Device<J, X, K, S>,
+) -> Result<u128, Fault> {
+    let begun = now(rt);
+    let is_done = device.publish().is_ok();
+    nanoseconds_since(rt, begun, is_done)
+}
+
+/// The time with that of one publish more, before which all was accepted or not.
+fn with_time(
+    took: Result<u128, Fault>,
+    is_accepted: bool,
+    published: Result<u128, Fault>,
+) -> Result<u128, Fault> {
+    let sum = took?.saturating_add(published?);
+    if is_accepted {
+        Ok(sum)
+    } else {
+        Err(Fault::Refused)
+    }
 }
 
 /// Whether a device publishes while a monitor reads.
-#[derive(Clone, Copy, Debug, PartialEq, Eq)]
+#[derive(Clone, Copy, Debug)]
 pub enum Beside {
     /// It doesn't.
     Nothing,
@@ -125,7 +165,7 @@ fn reading_of<
         mut monitors,
     } = opened;
     let monitor = monitors.pop();
-    let ended = AtomicBool::new(beside == Beside::Nothing);
+    let ended = AtomicBool::new(matches!(beside, Beside::Nothing));
     let over = &ended;
     let read = move || {
         let took = read_often(rt, monitor);
@@ -162,11 +202,11 @@ fn read_all<J: BookName>(monitor: &mut Monitor<J>) -> bool {
 }
 
 /// Publishes until the reads have ended, and gives the device back.
-fn publish_on<J: BookName, X: Screen<Shown<J>> + Drop, R: Wait>(
+fn publish_on<J: BookName, X: Screen<Shown<J>> + Drop, K: Keeps<Event>, S: Keeps<Step>, R: Wait>(
     rt: &R,
-    device: Device<J, X>,
+    device: Device<J, X, K, S>,
     ended: &AtomicBool,
-) -> Device<J, X> {
+) -> Device<J, X, K, S> {
     let mut device = device;
     for _ in rt.forever() {
         if ended.load(Ordering::SeqCst) || device.publish().is_err() {
@@ -230,12 +270,22 @@ fn while_read_on<
     { read_each(rt, monitors, over) };
     // Where no thread can be made, `join` calls its first closure last: the device is through before a monitor reads.
     let (read, (_device, took)) = thread::join(rt, read, part);
+    unless_refused(read, took)
+}
+
+/// The time, where memory wasn't refused to the monitors' threads.
+fn unless_refused(
+    read: Result<Vec<u64>, AllocError>,
+    took: Result<u128, Fault>,
+) -> Result<u128, Fault> {
     let _ = read?;
     took
 }
 
 /// Pumps the packets of the lane, sends what waits and publishes, until no packet is left or it is refused.
-fn pass_all<J: BookName, X: Screen<Shown<J>> + Drop>(device: Device<J, X>) -> Device<J, X> {
+fn pass_all<J: BookName, X: Screen<Shown<J>> + Drop, K: Keeps<Event>, S: Keeps<Step>>(
+    device: Device<J, X, K, S>,
+) -> Device<J, X, K, S> {
     let mut device = device;
     for _ in 0..ROUNDS {
         if has_sent_all(&device) || !take_some(&mut device) || device.publish().is_err() {

@@ -69,7 +69,11 @@ fn passed<J: BookName, X: Screen<Shown<J>> + Drop, R: Threads + Sync>(
     packet: Packet,
 ) -> Result<Totals, Fault> {
     let (sent, device) = at_once(rt, opened, packet);
-    let totals = device.engine().totals();
+    unless_refused(sent, device.engine().totals())
+}
+
+/// The totals, where memory wasn't refused to the senders' threads.
+fn unless_refused(sent: Result<(), AllocError>, totals: Totals) -> Result<Totals, Fault> {
     sent?;
     Ok(totals)
 }
