@@ -1,21 +1,15 @@
-//! The parameters, the seed and the packets of the tests, and how each of them ends. Where a step fails the test ends
-//! there: each `?` would be one more way out of a function, and its proof takes each of them.
+//! The parameters and the packets of the tests. Where a step fails the test ends there: each `?` would be one more way
+//! out of a function, and its proof takes each of them.
 
-use packet_core::{Classify, Ecn, FiveTuple, Ip, Packet, ParamFields, Params, Seed};
-use port_core::{LockedPort, PortSeat};
-use sched_core::{Engine, Event, Totals};
+use packet_core::{Classify, Ecn, FiveTuple, Ip, Packet, ParamFields, Params};
+use sched_core::Totals;
+use std::alloc::Global;
 use std::process::Abort;
-use std::sync::ledger::Ledger;
-
-/// The seed of every port.
-pub(crate) const SEED: Seed = Seed([1, 2, 3, 4, 5, 6, 7, 8, 9, 10, 11, 12, 13, 14, 15, 16]);
+use test_support::{by_port, tuple};
 
 /// So many flows, chosen by the destination port.
 pub(crate) fn flows<R: Abort>(rt: &R, flows: u32) -> Params {
-    let mut fields = ParamFields::standard();
-    fields.flows = flows;
-    fields.classify = Classify::Dport;
-    Params::try_new(fields).expect(rt, "parameters")
+    Params::try_new(by_port(flows)).expect(rt, "parameters")
 }
 
 /// 65,536 flows, chosen by a hash of the five-tuple and the seed.
@@ -26,57 +20,51 @@ pub(crate) fn hashed<R: Abort>(rt: &R) -> Params {
     Params::try_new(fields).expect(rt, "parameters")
 }
 
-/// A packet of 100 bytes to that destination port.
-pub(crate) fn packet<R: Abort>(rt: &R, dport: u16) -> Packet {
-    packet_of(rt, dport, 100)
+/// What a packet is made of.
+#[derive(Clone, Copy)]
+pub(crate) enum Form {
+    /// Of IPv4: its destination port and its bytes.
+    Ip4(u16, u32),
+    /// Of IPv6: its bytes and its ECN field.
+    Ip6(u32, Ecn),
 }
 
-/// A packet of so many bytes to that destination port.
-pub(crate) fn packet_of<R: Abort>(rt: &R, dport: u16, len: u32) -> Packet {
-    let tuple = FiveTuple {
-        proto: 17,
-        src: Ip::V4([10, 0, 0, 1]),
-        dst: Ip::V4([10, 0, 0, 2]),
-        sport: 5000,
-        dport,
-    };
-    Packet::try_new(tuple, len, Ecn::NotEct).expect(rt, "a packet")
-}
-
-/// A packet of IPv6.
-pub(crate) fn ipv6<R: Abort>(rt: &R, len: u32, ecn: Ecn) -> Packet {
-    let tuple = FiveTuple {
+/// A five-tuple of IPv6.
+fn ip6_tuple() -> FiveTuple {
+    FiveTuple {
         proto: 17,
         src: Ip::V6([1; 16]),
         dst: Ip::V6([2; 16]),
-        sport: 5000,
+        sport: 5_000,
         dport: 53,
+    }
+}
+
+/// The packet of that form.
+pub(crate) fn packet<R: Abort>(rt: &R, form: Form) -> Packet {
+    let (tuple, len, ecn) = match form {
+        Form::Ip4(dport, len) => (tuple(dport), len, Ecn::NotEct),
+        Form::Ip6(len, ecn) => (ip6_tuple(), len, ecn),
     };
     Packet::try_new(tuple, len, ecn).expect(rt, "a packet")
 }
 
-/// The seat was told of those packets, in this order, and of no other.
-pub(crate) fn is_told<A: Ledger, S: Ledger>(
-    seat: &PortSeat<A, S>,
-    packets: &[(u64, Packet)],
-) -> bool {
-    let told = seat.told();
-    told.len() == packets.len()
-        && told.iter().zip(packets).all(|(event, wanted)| {
-            matches!(event, Event::Accepted { packet, .. } if *packet == wanted.1)
-        })
+/// The packets of those forms, each with its moment.
+pub(crate) fn packets<R: Abort>(
+    rt: &R,
+    alloc: Global,
+    forms: &[(u64, Form)],
+) -> Vec<(u64, Packet)> {
+    let mut packets = Vec::new(alloc);
+    for &(moment, form) in forms {
+        packets
+            .push((moment, packet(rt, form)))
+            .expect(rt, "memory");
+    }
+    packets
 }
 
 /// How many packets were accepted, and how many were sent.
 pub(crate) fn counted(totals: &Totals) -> (u64, u64) {
     (totals.accepted, totals.sent)
-}
-
-/// The port with all its seats is settled.
-pub(crate) fn settled<A: Ledger, S: Ledger, R: Abort>(
-    rt: &R,
-    port: LockedPort<A, S>,
-    seats: Vec<PortSeat<A, S>>,
-) -> Engine {
-    port.settle(seats).ok().expect(rt, "an engine")
 }

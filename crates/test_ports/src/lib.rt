@@ -11,6 +11,8 @@ mod gates;
 #[cfg(test)]
 mod one_seat;
 #[cfg(test)]
+mod seats;
+#[cfg(test)]
 mod senders;
 #[cfg(test)]
 mod together;

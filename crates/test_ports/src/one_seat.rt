@@ -1,11 +1,15 @@
 //! Locked ports by one thread with one seat: what their calls answer, before the close and after it, and what the
 //! engine is that a settling gives.
 
-use crate::calls::{Call, comes, comes_at, goes, goes_at, goes_marked, plays};
-use crate::fixtures::{counted, flows, ipv6, packet, packet_of};
-use packet_core::{Classify, Ecn, Packet, ParamFields, Params};
+use crate::calls::Call;
+use crate::fixtures::{Form, counted, flows, packet};
+use crate::seats::{Part, plays};
+use packet_core::{Classify, Ecn, ParamFields, Params};
 use sched_core::{Engine, Event, Mark, MomentFault, Refusal, Step, Totals};
+use std::alloc::Global;
 use std::process::Abort;
+use std::sync::Wait;
+use std::thread::Threads;
 
 /// Why a moment of 2^60 microseconds is refused.
 const TOO_LARGE: Refusal = Refusal::Moment(MomentFault::TooLarge);
@@ -13,50 +17,63 @@ const TOO_LARGE: Refusal = Refusal::Moment(MomentFault::TooLarge);
 /// The largest moment.
 const LAST: u64 = (1 << 60) - 1;
 
+/// A packet of 100 bytes.
+const PACKET: Form = Form::Ip4(53, 100);
+
+/// The calls are made by the one seat of a new port with those parameters, and it is settled.
+fn plays_alone<R: Threads + Wait + Abort + Sync>(
+    rt: &R,
+    alloc: Global,
+    params: Params,
+    calls: &[Call<'_>],
+) -> Engine {
+    plays(rt, alloc, params, 1, Part::Alone(calls), &[])
+}
+
 /// Time doesn't go back: a call that comes with an earlier moment is made at the last one. The statistics have both
 /// acceptances and what was sent, before the settling and after it.
 #[test]
 fn locked_moments_rise(rt: HostRuntime) {
-    let packet = packet(&rt, 53);
-    let calls = [
-        comes(5, packet, 0, 0),
-        comes_at(3, packet, 1, 0, 5),
-        goes_at(4, packet, 0, 5),
-        Call::Seat(2, 1),
-        Call::Counts(2, 1),
-    ];
-    let engine = plays(&rt, rt.alloc(), flows(&rt, 1), &calls);
+    let engine = plays_alone(&rt, rt.alloc(), flows(&rt, 1), &MOMENTS_RISE);
     assert_eq!(rt; counted(&engine.totals()), (2, 1));
 }
+
+const MOMENTS_RISE: [Call<'static>; 5] = [
+    Call::Comes(5, PACKET, 0, 0, 5),
+    Call::Comes(3, PACKET, 1, 0, 5),
+    Call::Goes(4, PACKET, 0, 5, Mark::NoMark),
+    Call::Seat(2, 1),
+    Call::Counts(2, 1),
+];
 
 /// The engine has one step for each call that was answered, at that moment, also where nothing waits and at the largest
 /// moment. It has none for a refused call, for the statistics or for a settling.
 #[test]
 fn engine_has_the_steps_of_the_calls(rt: HostRuntime) {
-    let packet = packet(&rt, 53);
-    let calls = [
-        Call::Dequeue(1, Ok(None)),
-        comes(2, packet, 0, 0),
-        goes(3, packet, 0),
-        Call::Dequeue(LAST + 1, Err(TOO_LARGE)),
-        Call::Dequeue(4, Ok(None)),
-        Call::Enqueue(LAST + 1, packet, Err(TOO_LARGE)),
-        comes(LAST, packet, 1, 0),
-        Call::Counts(2, 1),
-        Call::Close(LAST + 1, Err(TOO_LARGE)),
-        Call::Close(5, Ok(LAST)),
-        Call::Close(LAST + 1, Err(TOO_LARGE)),
-        Call::Close(6, Err(Refusal::ClosedAlready)),
-        Call::Enqueue(7, packet, Err(Refusal::ClosedAlready)),
-        goes_at(8, packet, 1, LAST),
-        Call::Counts(2, 2),
-    ];
-    has_the_steps(&rt, &plays(&rt, rt.alloc(), flows(&rt, 1), &calls), packet);
+    has_the_steps(&rt, &plays_alone(&rt, rt.alloc(), flows(&rt, 1), &ANSWERED));
 }
 
+const ANSWERED: [Call<'static>; 15] = [
+    Call::Idle(1),
+    Call::Comes(2, PACKET, 0, 0, 2),
+    Call::Goes(3, PACKET, 0, 3, Mark::NoMark),
+    Call::GoesNot(LAST + 1, TOO_LARGE),
+    Call::Idle(4),
+    Call::ComesNot(LAST + 1, PACKET, TOO_LARGE),
+    Call::Comes(LAST, PACKET, 1, 0, LAST),
+    Call::Counts(2, 1),
+    Call::Close(LAST + 1, Err(TOO_LARGE)),
+    Call::Close(5, Ok(LAST)),
+    Call::Close(LAST + 1, Err(TOO_LARGE)),
+    Call::Close(6, Err(Refusal::ClosedAlready)),
+    Call::ComesNot(7, PACKET, Refusal::ClosedAlready),
+    Call::Goes(8, PACKET, 1, LAST, Mark::NoMark),
+    Call::Counts(2, 2),
+];
+
 /// Those of each answered call, in order.
-fn has_the_steps<R: Abort>(rt: &R, engine: &Engine, packet: Packet) {
-    let lane = 0;
+fn has_the_steps<R: Abort>(rt: &R, engine: &Engine) {
+    let (lane, packet) = (0, packet(rt, PACKET));
     let wanted = [
         Step::Dequeue { moment: 1 },
         Step::Enqueue {
@@ -82,95 +99,103 @@ fn has_the_steps<R: Abort>(rt: &R, engine: &Engine, packet: Packet) {
 /// refused, and those that wait are given, from the two new flows in turn.
 #[test]
 fn short_and_long_packets(rt: HostRuntime) {
-    let (short1, long1) = (packet_of(&rt, 1, 64), packet_of(&rt, 1, 1_500));
-    let (short2, long2) = (packet_of(&rt, 2, 64), packet_of(&rt, 2, 1_500));
-    let short3 = packet_of(&rt, 3, 64);
-    let calls = [
-        Call::Dequeue(0, Ok(None)),
-        Call::Dequeue(1, Ok(None)),
-        comes(2, long1, 0, 1),
-        comes(3, short1, 1, 1),
-        comes(3, short2, 2, 2),
-        comes(4, long1, 3, 1),
-        comes(5, long2, 4, 2),
-        Call::Counts(5, 0),
-        goes(1_000, long1, 0),
-        goes(1_001, short1, 1),
-        goes(1_002, short2, 2),
-        goes(1_003, long2, 4),
-        goes(1_004, long1, 3),
-        Call::Counts(5, 5),
-        Call::Dequeue(1_005, Ok(None)),
-        Call::Dequeue(2_000, Ok(None)),
-        comes(3_000, short3, 5, 3),
-        comes(3_000, long1, 6, 1),
-        Call::Close(3_001, Ok(3_001)),
-        Call::Enqueue(3_002, short1, Err(Refusal::ClosedAlready)),
-        Call::Enqueue(3_002, long1, Err(Refusal::ClosedAlready)),
-        Call::Close(3_003, Err(Refusal::ClosedAlready)),
-        Call::Counts(7, 5),
-        goes(3_500, short3, 5),
-        goes(3_501, long1, 6),
-        Call::Seat(7, 7),
-        Call::Dequeue(4_000, Ok(None)),
-        Call::Totals(whole()),
-    ];
-    assert_eq!(rt;
-        plays(&rt, rt.alloc(), flows(&rt, 4), &calls).totals(),
-        whole()
-    );
+    let engine = plays_alone(&rt, rt.alloc(), flows(&rt, 4), &SHORT_AND_LONG);
+    assert_eq!(rt; engine.totals(), WHOLE);
 }
 
+const SHORT1: Form = Form::Ip4(1, 64);
+
+const LONG1: Form = Form::Ip4(1, 1_500);
+
+const SHORT2: Form = Form::Ip4(2, 64);
+
+const LONG2: Form = Form::Ip4(2, 1_500);
+
+const SHORT3: Form = Form::Ip4(3, 64);
+
+const SHORT_AND_LONG: [Call<'static>; 28] = [
+    Call::Idle(0),
+    Call::Idle(1),
+    Call::Comes(2, LONG1, 0, 1, 2),
+    Call::Comes(3, SHORT1, 1, 1, 3),
+    Call::Comes(3, SHORT2, 2, 2, 3),
+    Call::Comes(4, LONG1, 3, 1, 4),
+    Call::Comes(5, LONG2, 4, 2, 5),
+    Call::Counts(5, 0),
+    Call::Goes(1_000, LONG1, 0, 1_000, Mark::NoMark),
+    Call::Goes(1_001, SHORT1, 1, 1_001, Mark::NoMark),
+    Call::Goes(1_002, SHORT2, 2, 1_002, Mark::NoMark),
+    Call::Goes(1_003, LONG2, 4, 1_003, Mark::NoMark),
+    Call::Goes(1_004, LONG1, 3, 1_004, Mark::NoMark),
+    Call::Counts(5, 5),
+    Call::Idle(1_005),
+    Call::Idle(2_000),
+    Call::Comes(3_000, SHORT3, 5, 3, 3_000),
+    Call::Comes(3_000, LONG1, 6, 1, 3_000),
+    Call::Close(3_001, Ok(3_001)),
+    Call::ComesNot(3_002, SHORT1, Refusal::ClosedAlready),
+    Call::ComesNot(3_002, LONG1, Refusal::ClosedAlready),
+    Call::Close(3_003, Err(Refusal::ClosedAlready)),
+    Call::Counts(7, 5),
+    Call::Goes(3_500, SHORT3, 5, 3_500, Mark::NoMark),
+    Call::Goes(3_501, LONG1, 6, 3_501, Mark::NoMark),
+    Call::Seat(7, 7),
+    Call::Idle(4_000),
+    Call::Totals(WHOLE),
+];
+
 /// Three packets of 64 bytes and four of 1,500 came and went, and the port is closed.
-fn whole() -> Totals {
-    Totals {
-        accepted: 7,
-        accepted_bytes: 6_192,
-        sent: 7,
-        sent_bytes: 6_192,
-        dropped_codel: 0,
-        dropped_overflow: 0,
-        dropped_bytes: 0,
-        marked: 0,
-        threshold_marked: 0,
-        queued: 0,
-        queued_bytes: 0,
-        closed: true,
-    }
-}
+const WHOLE: Totals = Totals {
+    accepted: 7,
+    accepted_bytes: 6_192,
+    sent: 7,
+    sent_bytes: 6_192,
+    dropped_codel: 0,
+    dropped_overflow: 0,
+    dropped_bytes: 0,
+    marked: 0,
+    threshold_marked: 0,
+    queued: 0,
+    queued_bytes: 0,
+    closed: true,
+};
 
 /// Packets of IPv6, the longest ones, with each ECN field, are settled as they came.
 #[test]
 fn settles_the_longest_packets(rt: HostRuntime) {
-    let long = |ecn: Ecn| ipv6(&rt, 65_535, ecn);
-    let packets = [
-        long(Ecn::NotEct),
-        long(Ecn::Ect1),
-        long(Ecn::Ect0),
-        long(Ecn::Ce),
-    ];
-    let calls = [
-        comes(0, packets[0], 0, 0),
-        comes(0, packets[1], 1, 0),
-        comes(0, packets[2], 2, 0),
-        comes(0, packets[3], 3, 0),
-    ];
-    let engine = plays(&rt, rt.alloc(), flows(&rt, 1), &calls);
-    are_accepted(&rt, engine.events(), &packets);
+    let engine = plays_alone(&rt, rt.alloc(), flows(&rt, 1), &LONGEST);
+    are_accepted(&rt, engine.events(), &LONG);
 }
 
+/// The longest packets with each field.
+const LONG: [Form; 4] = [
+    Form::Ip6(65_535, Ecn::NotEct),
+    Form::Ip6(65_535, Ecn::Ect1),
+    Form::Ip6(65_535, Ecn::Ect0),
+    Form::Ip6(65_535, Ecn::Ce),
+];
+
+const LONGEST: [Call<'static>; 4] = [
+    Call::Comes(0, Form::Ip6(65_535, Ecn::NotEct), 0, 0, 0),
+    Call::Comes(0, Form::Ip6(65_535, Ecn::Ect1), 1, 0, 0),
+    Call::Comes(0, Form::Ip6(65_535, Ecn::Ect0), 2, 0, 0),
+    Call::Comes(0, Form::Ip6(65_535, Ecn::Ce), 3, 0, 0),
+];
+
 /// The events are the acceptances of these packets at 0.
-fn are_accepted<R: Abort>(rt: &R, events: &[Event], packets: &[Packet]) {
-    assert_eq!(rt; events.len(), packets.len());
-    for id in 0..packets.len().min(events.len()) {
+fn are_accepted<R: Abort>(rt: &R, events: &[Event], forms: &[Form]) {
+    assert_eq!(rt; events.len(), forms.len());
+    let mut id = 0u64;
+    for (event, &form) in events.iter().zip(forms) {
         let wanted = Event::Accepted {
             lane: 0,
-            id: id as u64,
+            id,
             moment: 0,
             flow: 0,
-            packet: packets[id],
+            packet: packet(rt, form),
         };
-        assert_eq!(rt; events[id], wanted);
+        assert_eq!(rt; *event, wanted);
+        id = id.wrapping_add(1);
     }
 }
 
@@ -192,49 +217,74 @@ fn room_for_ten<R: Abort>(rt: &R) -> Params {
 /// the packet 7 is sent. So the packets 8, 9 and 10 wait.
 #[test]
 fn totals_of_a_whole_run(rt: HostRuntime) {
-    let of = |id: u32, ecn: Ecn| ipv6(&rt, 1_000 + id.min(10), ecn);
-    let (plain, takes_part) = (Ecn::NotEct, Ecn::Ect0);
-    let calls = [
-        comes(0, of(0, plain), 0, 0),
-        comes(0, of(1, plain), 1, 0),
-        comes(0, of(2, plain), 2, 0),
-        comes(0, of(3, plain), 3, 0),
-        comes(0, of(4, takes_part), 4, 0),
-        comes(0, of(5, takes_part), 5, 0),
-        comes(0, of(6, plain), 6, 0),
-        comes(0, of(7, plain), 7, 0),
-        comes(0, of(8, plain), 8, 0),
-        comes(0, of(9, plain), 9, 0),
-        comes(0, of(10, plain), 10, 0),
-        goes(5_000, of(1, plain), 1),
-        goes(105_000, of(3, plain), 3),
-        goes_marked(205_000, of(4, Ecn::Ce), 4, 205_000, Mark::CodelMark),
-        goes_marked(205_001, of(5, Ecn::Ce), 5, 205_001, Mark::Threshold),
-        goes(275_710, of(7, plain), 7),
-        Call::Totals(wanted(false)),
-        Call::Close(275_710, Ok(275_710)),
-        Call::Totals(wanted(true)),
-    ];
-    assert_eq!(rt;
-        plays(&rt, rt.alloc(), room_for_ten(&rt), &calls).totals(),
-        wanted(true)
-    );
+    let engine = plays_alone(&rt, rt.alloc(), room_for_ten(&rt), &WHOLE_RUN);
+    assert_eq!(rt; engine.totals(), CLOSED);
 }
 
-/// The statistics of that run.
-fn wanted(closed: bool) -> Totals {
-    Totals {
-        accepted: 11,
-        accepted_bytes: 11_055,
-        sent: 5,
-        sent_bytes: 5_020,
-        dropped_codel: 2,
-        dropped_overflow: 1,
-        dropped_bytes: 3_008,
-        marked: 1,
-        threshold_marked: 1,
-        queued: 3,
-        queued_bytes: 3_027,
-        closed,
-    }
-}
+const WHOLE_RUN: [Call<'static>; 19] = [
+    Call::Comes(0, Form::Ip6(1_000, Ecn::NotEct), 0, 0, 0),
+    Call::Comes(0, Form::Ip6(1_001, Ecn::NotEct), 1, 0, 0),
+    Call::Comes(0, Form::Ip6(1_002, Ecn::NotEct), 2, 0, 0),
+    Call::Comes(0, Form::Ip6(1_003, Ecn::NotEct), 3, 0, 0),
+    Call::Comes(0, Form::Ip6(1_004, Ecn::Ect0), 4, 0, 0),
+    Call::Comes(0, Form::Ip6(1_005, Ecn::Ect0), 5, 0, 0),
+    Call::Comes(0, Form::Ip6(1_006, Ecn::NotEct), 6, 0, 0),
+    Call::Comes(0, Form::Ip6(1_007, Ecn::NotEct), 7, 0, 0),
+    Call::Comes(0, Form::Ip6(1_008, Ecn::NotEct), 8, 0, 0),
+    Call::Comes(0, Form::Ip6(1_009, Ecn::NotEct), 9, 0, 0),
+    Call::Comes(0, Form::Ip6(1_010, Ecn::NotEct), 10, 0, 0),
+    Call::Goes(5_000, Form::Ip6(1_001, Ecn::NotEct), 1, 5_000, Mark::NoMark),
+    Call::Goes(
+        105_000,
+        Form::Ip6(1_003, Ecn::NotEct),
+        3,
+        105_000,
+        Mark::NoMark,
+    ),
+    Call::Goes(
+        205_000,
+        Form::Ip6(1_004, Ecn::Ce),
+        4,
+        205_000,
+        Mark::CodelMark,
+    ),
+    Call::Goes(
+        205_001,
+        Form::Ip6(1_005, Ecn::Ce),
+        5,
+        205_001,
+        Mark::Threshold,
+    ),
+    Call::Goes(
+        275_710,
+        Form::Ip6(1_007, Ecn::NotEct),
+        7,
+        275_710,
+        Mark::NoMark,
+    ),
+    Call::Totals(OPEN),
+    Call::Close(275_710, Ok(275_710)),
+    Call::Totals(CLOSED),
+];
+
+/// The statistics of that run before the close.
+const OPEN: Totals = Totals {
+    accepted: 11,
+    accepted_bytes: 11_055,
+    sent: 5,
+    sent_bytes: 5_020,
+    dropped_codel: 2,
+    dropped_overflow: 1,
+    dropped_bytes: 3_008,
+    marked: 1,
+    threshold_marked: 1,
+    queued: 3,
+    queued_bytes: 3_027,
+    closed: false,
+};
+
+/// Those after it.
+const CLOSED: Totals = Totals {
+    closed: true,
+    ..OPEN
+};

@@ -1,17 +1,17 @@
 //! Locked ports by several threads: senders run at once, and nothing of what they were told is lost.
 
-ghost use Rattle.std.specs.Prelude.{◌≡◌};
 ghost use denote.Param.Send.{IsSend, IsSync};
 
-use crate::fixtures::{SEED, counted, flows, is_told, packet, settled};
+use crate::calls::is_told;
+use crate::fixtures::{Form, counted, flows, packet};
+use crate::seats::{Part, plays};
 use packet_core::Packet;
 use port_core::{Gate, LockedDone, LockedPort, Open, PortSeat, Stop, send_locked};
 use std::alloc::{AllocError, Global};
-use std::marker::Brand;
 use std::process::Abort;
 use std::sync::Wait;
 use std::sync::atomic::{AtomicU64, Ordering};
-use std::sync::ledger::{Blank, Ledger};
+use std::sync::ledger::Ledger;
 use std::thread::{self, Threads};
 
 /// A sender's gate: from one call on it waits for the other sender's first answer.
@@ -116,33 +116,39 @@ fn at_gates<R: Threads + Wait + Abort + Sync>(
     at_once: bool,
     wanted: [(u64, Stop); 2],
 ) {
-    at_two_seats::<Brand, Brand, _>(rt, alloc, at_once, wanted, Blank::new(2), Blank::new(2));
+    let engine = plays(
+        rt,
+        alloc,
+        flows(rt, 1),
+        2,
+        Part::Gates(at_once, wanted),
+        &[],
+    );
+    let calls = (wanted[0].0.min(9) + wanted[1].0.min(9), 0);
+    assert_eq!(rt; counted(&engine.totals()), calls);
 }
 
-fn at_two_seats<A: Ledger + Send + Sync, S: Ledger + Send + Sync, R: Threads + Wait + Abort + Sync>(
+/// The two senders make so many calls each and stop so. Gives their seats.
+pub(crate) fn both_send<
+    A: Ledger + Send + Sync,
+    S: Ledger + Send + Sync,
+    R: Threads + Wait + Abort + Sync,
+>(
     rt: &R,
-    alloc: Global,
+    port: &LockedPort<A, S>,
+    seats: Vec<PortSeat<A, S>>,
     at_once: bool,
     wanted: [(u64, Stop); 2],
-    accepted: Blank,
-    sent: Blank,
-)
-    requires accepted { (accepted.name ≡ A.name) × (accepted.parts ≡ A.parts) × (A.parts ≡ 2) }
-    requires sent { (sent.name ≡ S.name) × (sent.parts ≡ S.parts) × (S.parts ≡ 2) }
-{
-    let params = flows(rt, 1);
-    let (port, mut seats) = LockedPort::<A, S>::start(
-        alloc, params, SEED, 2, accepted, sent,
-    ).expect(rt, "a port");
+) -> Vec<PortSeat<A, S>> {
+    let mut seats = seats;
     let one = seats.pop().expect(rt, "seat 1");
     let zero = seats.pop().expect(rt, "seat 0");
-    let (zero, one) = both(rt, &port, (zero, one), at_once);
+    let (zero, one) = both(rt, port, (zero, one), at_once);
     seats
         .push(seat_of(rt, zero, wanted[0]))
         .expect(rt, "memory");
     seats.push(seat_of(rt, one, wanted[1])).expect(rt, "memory");
-    let calls = (wanted[0].0.min(9) + wanted[1].0.min(9), 0);
-    assert_eq!(rt; counted(&settled(rt, port, seats).totals()), calls);
+    seats
 }
 
 /// Each of the two senders has a thread of its own, or one comes after the other.
@@ -152,7 +158,10 @@ fn both<A: Ledger + Send + Sync, S: Ledger + Send + Sync, R: Threads + Wait + Ab
     seats: (PortSeat<A, S>, PortSeat<A, S>),
     at_once: bool,
 ) -> (LockedDone<A, S>, LockedDone<A, S>) {
-    let packets = [(0, packet(rt, 53)), (1, packet(rt, 54))];
+    let packets = [
+        (0, packet(rt, Form::Ip4(53, 100))),
+        (1, packet(rt, Form::Ip4(54, 100))),
+    ];
     let answered = (AtomicU64::new(0), AtomicU64::new(0));
     let (zero, one) = jobs(seats, &packets, &answered);
     if at_once {
@@ -172,32 +181,27 @@ fn both<A: Ledger + Send + Sync, S: Ledger + Send + Sync, R: Threads + Wait + Ab
 #[test]
 fn eight_senders_lose_nothing(rt: HostRuntime) {
     for _time in 0..10 {
-        at_eight_senders(&rt, rt.alloc());
+        let engine = plays(&rt, rt.alloc(), flows(&rt, 1), 9, Part::Beside, &[]);
+        assert_eq!(rt; engine.totals().accepted, 8_000);
     }
 }
 
-fn at_eight_senders<R: Threads + Wait + Abort + Sync>(rt: &R, alloc: Global) {
-    at_nine_seats::<Brand, Brand, _>(rt, alloc, Blank::new(9), Blank::new(9));
-}
-
-fn at_nine_seats<
+/// All seats but the last send a thousand packets each, and the last one is the device's. Gives all seats.
+pub(crate) fn all_send<
     A: Ledger + Send + Sync,
     S: Ledger + Send + Sync,
     R: Threads + Wait + Abort + Sync,
->(rt: &R, alloc: Global, accepted: Blank, sent: Blank)
-    requires accepted { (accepted.name ≡ A.name) × (accepted.parts ≡ A.parts) × (A.parts ≡ 9) }
-    requires sent { (sent.name ≡ S.name) × (sent.parts ≡ S.parts) × (S.parts ≡ 9) }
-{
-    let params = flows(rt, 1);
-    let (port, mut seats) = LockedPort::<A, S>::start(
-        alloc, params, SEED, 9, accepted, sent,
-    ).expect(rt, "a port");
+>(
+    rt: &R,
+    alloc: Global,
+    port: &LockedPort<A, S>,
+    seats: Vec<PortSeat<A, S>>,
+) -> Vec<PortSeat<A, S>> {
+    let mut seats = seats;
     let device = seats.pop().expect(rt, "the device's seat");
     let packets = thousand(rt, alloc);
-    let (done, device) = senders_and_device(rt, &port, seats, &packets, device);
-    let given = device.sent();
-    let seats = seats_told(rt, alloc, done.expect(rt, "memory"), &packets, device);
-    assert_eq!(rt; counted(&settled(rt, port, seats).totals()), (8_000, given));
+    let (done, device) = senders_and_device(rt, port, seats, &packets, device);
+    seats_told(rt, alloc, done.expect(rt, "memory"), &packets, device)
 }
 
 /// A thousand packets, each to a port of its own.
@@ -205,7 +209,7 @@ fn thousand<R: Abort>(rt: &R, alloc: Global) -> Vec<(u64, Packet)> {
     let mut packets = Vec::new(alloc);
     for dport in 0..1_000u16 {
         packets
-            .push((u64::from(dport), packet(rt, dport)))
+            .push((u64::from(dport), packet(rt, Form::Ip4(dport, 100))))
             .expect(rt, "memory");
     }
     packets

@@ -1,0 +1,149 @@
+//! A port with its seats, and what these do. What owns the port makes two calls, of which the first borrows it: so the
+//! proof drops it on few ways.
+
+ghost use Rattle.std.specs.Prelude.{◌≡◌, ◌<◌, ◌≤◌};
+
+use crate::calls::{Call, makes};
+use crate::together::{all_send, both_send};
+use packet_core::Params;
+use port_core::{LockedPort, MAX_SEATS, PortSeat, Stop, Unsettled, Why};
+use sched_core::Engine;
+use std::alloc::Global;
+use std::marker::Brand;
+use std::process::Abort;
+use std::sync::Wait;
+use std::sync::ledger::{Blank, Ledger};
+use std::thread::Threads;
+use test_support::SEED;
+
+/// What the seats of a port do.
+#[derive(Clone, Copy)]
+pub(crate) enum Part<'a> {
+    /// Each seat makes its calls in turn.
+    Calls(&'a [&'a [Call<'a>]]),
+    /// The one seat makes those calls.
+    Alone(&'a [Call<'a>]),
+    /// Two senders, at once or in turn, make so many calls each and stop so.
+    Gates(bool, [(u64, Stop); 2]),
+    /// All seats but the last send a thousand packets each, and the last one takes packets meanwhile.
+    Beside,
+}
+
+/// A new port with so many seats does this. Without its last seat it isn't settled then, and stays as it was. That seat
+/// makes those calls, and the port is settled with all of them.
+pub(crate) fn plays<R: Threads + Wait + Abort + Sync>(
+    rt: &R,
+    alloc: Global,
+    params: Params,
+    seats: u32,
+    part: Part<'_>,
+    later: &[Call<'_>],
+) -> Engine {
+    assert!(rt; 0 < seats && seats <= MAX_SEATS);
+    let (accepted, sent) = (Blank::new(u64::from(seats)), Blank::new(u64::from(seats)));
+    at_seats::<Brand, Brand, _>(rt, alloc, params, seats, part, later, accepted, sent)
+}
+
+fn at_seats<A: Ledger + Send + Sync, S: Ledger + Send + Sync, R: Threads + Wait + Abort + Sync>(
+    rt: &R,
+    alloc: Global,
+    params: Params,
+    number: u32,
+    part: Part<'_>,
+    later: &[Call<'_>],
+    accepted: Blank,
+    sent: Blank,
+) -> Engine
+    requires number { (0 < number) × (number ≤ MAX_SEATS) }
+    requires accepted { (accepted.name ≡ A.name) × (accepted.parts ≡ A.parts) × (A.parts ≡ number) }
+    requires sent { (sent.name ≡ S.name) × (sent.parts ≡ S.parts) × (S.parts ≡ number) }
+{
+    let (port, seats) = LockedPort::<A, S>::start(
+        alloc, params, SEED, number, accepted, sent,
+    ).expect(rt, "a port");
+    let seats = do_part(rt, alloc, &port, seats, part);
+    settles(rt, alloc, port, seats, later)
+}
+
+/// The seats do their part.
+fn do_part<A: Ledger + Send + Sync, S: Ledger + Send + Sync, R: Threads + Wait + Abort + Sync>(
+    rt: &R,
+    alloc: Global,
+    port: &LockedPort<A, S>,
+    seats: Vec<PortSeat<A, S>>,
+    part: Part<'_>,
+) -> Vec<PortSeat<A, S>> {
+    match part {
+        Part::Calls(lists) => in_turn(rt, alloc, port, seats, lists),
+        Part::Alone(calls) => alone(rt, alloc, port, seats, calls),
+        Part::Gates(at_once, wanted) => both_send(rt, port, seats, at_once, wanted),
+        Part::Beside => all_send(rt, alloc, port, seats),
+    }
+}
+
+/// Each seat makes its calls in turn.
+fn in_turn<A: Ledger, S: Ledger, R: Wait + Abort>(
+    rt: &R,
+    alloc: Global,
+    port: &LockedPort<A, S>,
+    seats: Vec<PortSeat<A, S>>,
+    lists: &[&[Call<'_>]],
+) -> Vec<PortSeat<A, S>> {
+    assert_eq!(rt; seats.len(), lists.len());
+    let mut made = Vec::new(alloc);
+    for seat in seats {
+        let calls = lists.get(made.len()).expect(rt, "calls");
+        made.push(makes(rt, alloc, port, seat, calls))
+            .expect(rt, "memory");
+    }
+    made
+}
+
+/// The one seat makes those calls.
+fn alone<A: Ledger, S: Ledger, R: Wait + Abort>(
+    rt: &R,
+    alloc: Global,
+    port: &LockedPort<A, S>,
+    seats: Vec<PortSeat<A, S>>,
+    calls: &[Call<'_>],
+) -> Vec<PortSeat<A, S>> {
+    assert_eq!(rt; seats.len(), 1);
+    let mut made = Vec::new(alloc);
+    for seat in seats {
+        made.push(makes(rt, alloc, port, seat, calls))
+            .expect(rt, "memory");
+    }
+    made
+}
+
+/// The port isn't settled without its last seat, which makes those calls then, and it is settled with all of them. All
+/// packets that were sent were given to that seat.
+fn settles<A: Ledger, S: Ledger, R: Wait + Abort>(
+    rt: &R,
+    alloc: Global,
+    port: LockedPort<A, S>,
+    seats: Vec<PortSeat<A, S>>,
+    later: &[Call<'_>],
+) -> Engine {
+    let mut seats = seats;
+    let last = seats.pop().expect(rt, "the last seat");
+    let (port, mut seats) = unsettled(rt, port, seats);
+    let last = makes(rt, alloc, &port, last, later);
+    let given = last.sent();
+    seats.push(last).expect(rt, "memory");
+    let engine = port.settle(seats).ok().expect(rt, "an engine");
+    assert_eq!(rt; engine.totals().sent, given);
+    engine
+}
+
+/// A seat is missing, so the port and the other seats are given back.
+fn unsettled<A: Ledger, S: Ledger, R: Abort>(
+    rt: &R,
+    port: LockedPort<A, S>,
+    seats: Vec<PortSeat<A, S>>,
+) -> (LockedPort<A, S>, Vec<PortSeat<A, S>>) {
+    let number = seats.len();
+    let Unsettled { why, port, seats } = port.settle(seats).err().expect(rt, "a refusal");
+    assert_eq!(rt; (why, seats.len()), (Why::NotAll, number));
+    (port, seats)
+}
