@@ -55,7 +55,9 @@ lanes_line = with_rule (senders_line (codes "lanes")) monitors_option
 
 -- A command line asks for a subcommand, and has no name of its own before the words.
 abbrev pub asked_of : App → App
-asked_of line = on_top (λ top. record top { no_binary_name = true; subcommand_required = true; arg_required_else_help = true }) line
+asked_of line =
+    on_top (λ top. record top { no_binary_name = true; subcommand_required = true; arg_required_else_help = true })
+    line
 
 -- the program's command line without its subcommands
 abbrev pub bare_line : App
@@ -63,7 +65,9 @@ bare_line = asked_of (new_app (codes "fqsim"))
 
 -- the words behind the program's name: one of three subcommands, which has to be there
 abbrev pub program_line : App
-program_line = with_subcommand (with_subcommand (with_subcommand bare_line trace_line.top) locked_line.top) lanes_line.top
+program_line =
+    with_subcommand (with_subcommand (with_subcommand bare_line trace_line.top) locked_line.top)
+    lanes_line.top
 
 -- what stands behind a subcommand, by its matches and by the words
 abbrev pub rows_of_entered : Option (Text × List Row) → List Row
