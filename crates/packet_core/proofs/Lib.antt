@@ -1,4 +1,5 @@
 pub mod NumeralLemmas
+pub mod PackedLemmas
 pub mod PowerLemmas
 pub mod TextLemmas
 pub mod WordLemmas

@@ -5,11 +5,12 @@ use Rattle.packet_core.specs.declared.packet.Ip.TheVariants.{V4, V6}
 use Rattle.packet_core.specs.declared.packet.FiveTuple.{FiveTuple}
 use Rattle.packet_core.specs.declared.packet.Ecn.{Ecn}
 
--- a packet as contracts see it; its length is in bytes
+-- a packet as contracts see it; its length is in bytes, and its tag is the caller's own
 pub record PacketParts : Type 0 where
   pub tuple : FiveTuple
   pub len : ℕ
   pub ecn : Ecn
+  pub tag : ℕ
 
 -- what the length field of an IPv4 header can say of a packet (RFC 791, section 3.1)
 abbrev pub IsLengthInRange : ℕ → Type 0

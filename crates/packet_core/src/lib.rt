@@ -4,6 +4,7 @@
 
 mod flow;
 mod numerals;
+mod packed;
 mod packet;
 mod params;
 mod words;

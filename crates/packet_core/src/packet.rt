@@ -1,8 +1,10 @@
 //! Packets, their five-tuples and their ECN fields.
 
-ghost use Rattle.std.specs.Prelude.{◌≡◌, ◌≤◌, ◌↔◌, IsOk, IfOk};
+ghost use Rattle.std.specs.Prelude.{◌≡◌, ◌≤◌, ◌↔◌, IsOk, IsTrue, IfOk};
 ghost use Rattle.packet_core.specs.Packets.{IsLengthInRange};
 
+use crate::packed::{address_in, address_words, ecn_in, fields_word, low_sixteen};
+use std::fmt::{self, Debug, Formatter, Write};
 use std::marker::Model;
 use thiserror::Error;
 
@@ -52,8 +54,6 @@ pub struct FiveTuple {
     /// The destination address.
     pub dst: Ip,
     /// The destination port, 0 where the protocol has no ports.
-    // It stands before the source port, behind 36 bytes: a packet whose destination port is read on its way is copied
-    // in pieces up to there, and 36 bytes are two of 16 and one of 4, none of which lies across another.
     pub dport: u16,
     /// The source port, 0 where the protocol has no ports.
     pub sport: u16,
@@ -72,25 +72,31 @@ pub enum Ecn {
     Ce,
 }
 
-/// A packet: its five-tuple, its length of 1 to 65,535 bytes and its ECN field.
-#[derive(Clone, Copy, Debug, PartialEq, Eq, Hash)]
+/// A packet: its five-tuple, its length of 1 to 65,535 bytes, its ECN field, and a tag of the caller's own.
+// It stands in whole words. A packet is copied on its way, and a copy of small fields is made in pieces: a later read
+// that lies across two of them waits for both.
+#[derive(Clone, Copy, PartialEq, Eq, Hash)]
 pub struct Packet {
-    tuple: FiveTuple,
-    // Two bytes are enough, and keep what waits and the journal small.
-    len: u16,
-    ecn: Ecn,
+    src: (u64, u64),
+    dst: (u64, u64),
+    fields: u64,
+    tag: u64,
 }
 
 impl Model for Packet {
-    ghost use Rattle.packet_core.specs.Packets.{PacketParts, IsLengthInRange};
+    ghost use Rattle.packet_core.specs.Packets.{PacketParts};
 
     ghost Value = { PacketParts };
 
-    ghost view = { λ p. record { tuple = p.tuple; len = p.len; ecn = p.ecn } };
+    ghost use Rattle.packet_core.specs.PackedPackets.{IsPacked, packed, parts_of};
 
-    ghost invariant = { λ p. IsLengthInRange p.len };
+    ghost view = { parts_of };
 
-    ghost inverse = { λ v. record { tuple = v.tuple; len = v.len; ecn = v.ecn } };
+    ghost invariant = { IsPacked };
+
+    ghost inverse = { packed };
+
+    ghost inverse_ok = { λ words is_packed. is_packed.whole };
 }
 
 /// A length of 0 or of more than 65,535 bytes, which no packet has.
@@ -99,37 +105,80 @@ impl Model for Packet {
 pub struct LengthOutOfRange;
 
 impl Packet {
-    /// A packet of `len` bytes. It refuses a length outside 1 to 65,535.
+    /// A packet of `len` bytes, with tag 0. It refuses a length outside 1 to 65,535.
     pub fn try_new(tuple: FiveTuple, len: u32, ecn: Ecn) -> Result<Packet, LengthOutOfRange>
         ensures range { IsOk result ↔ IsLengthInRange len }
-        ensures parts { IfOk result (λ p. p ≡ record { tuple = tuple; len = len; ecn = ecn }) }
+        ensures parts { IfOk result (λ p. p ≡ record { tuple = tuple; len = len; ecn = ecn; tag = 0 }) }
     {
         match u16::try_from(len) {
-            Ok(len) if len > 0 => Ok(Packet { tuple, len, ecn }),
+            Ok(len) if len > 0 => Ok(Packet {
+                src: address_words(&tuple.src),
+                dst: address_words(&tuple.dst),
+                fields: fields_word(&tuple, len, ecn),
+                tag: 0,
+            }),
             _ => Err(LengthOutOfRange),
         }
     }
 
+    /// The same packet with that tag: what the caller knows it by, as the address of a buffer. It comes back with the
+    /// packet, and no rule of the scheduler looks at it.
+    pub fn with_tag(self, tag: u64) -> Packet
+        ensures { result ≡ record self { tag = tag } }
+    {
+        Packet {
+            src: self.src,
+            dst: self.dst,
+            fields: self.fields,
+            tag,
+        }
+    }
+
     /// The five-tuple.
+    #[tactic(auto, unfolding(crate::specs::PackedPackets::parts_of))]
     pub fn tuple(&self) -> FiveTuple
         ensures { result ≡ self.now.tuple }
     {
-        self.tuple
+        FiveTuple {
+            proto: (low_sixteen(self.fields >> 48) % 256) as u8,
+            src: address_in((self.fields >> 58) % 2 == 1, self.src),
+            dst: address_in((self.fields >> 59) % 2 == 1, self.dst),
+            dport: self.dport(),
+            sport: low_sixteen(self.fields >> 32),
+        }
+    }
+
+    /// The five-tuple's destination port.
+    #[tactic(auto, unfolding(crate::specs::PackedPackets::parts_of))]
+    pub fn dport(&self) -> u16
+        ensures { result ≡ self.now.tuple.dport }
+    {
+        low_sixteen(self.fields)
     }
 
     /// The length in bytes, from 1 to 65,535.
+    #[tactic(auto, unfolding(crate::specs::PackedPackets::parts_of))]
     pub fn len(&self) -> u32
         ensures value { result ≡ self.now.len }
         ensures range { IsLengthInRange result }
     {
-        u32::from(self.len)
+        u32::from(low_sixteen(self.fields >> 16))
     }
 
     /// The ECN field.
+    #[tactic(auto, unfolding(crate::specs::PackedPackets::parts_of))]
     pub fn ecn(&self) -> Ecn
         ensures { result ≡ self.now.ecn }
     {
-        self.ecn
+        ecn_in((self.fields >> 56) % 4)
+    }
+
+    /// The tag: 0, or what `with_tag` set.
+    #[tactic(auto, unfolding(crate::specs::PackedPackets::parts_of))]
+    pub fn tag(&self) -> u64
+        ensures { result ≡ self.now.tag }
+    {
+        self.tag
     }
 
     /// The same packet with its ECN field at CE, as a queue marks it in place of dropping it, or since it waited past a
@@ -138,10 +187,33 @@ impl Packet {
         ensures { result ≡ record self.now { ecn = Ecn.Ce } }
     {
         Packet {
-            tuple: self.tuple,
-            len: self.len,
-            ecn: Ecn::Ce,
+            src: self.src,
+            dst: self.dst,
+            fields: self.fields | 3 << 56,
+            tag: self.tag,
         }
+    }
+
+    /// Whether the two are one packet, the tag included.
+    pub fn is_same(&self, other: &Packet) -> bool
+        ensures { IsTrue result ↔ (self.now ≡ other.now) }
+    {
+        self.src == other.src
+            && self.dst == other.dst
+            && self.fields == other.fields
+            && self.tag == other.tag
+    }
+}
+
+/// It shows the parts, and not the words.
+impl Debug for Packet {
+    fn fmt<W: Write>(&self, f: &mut Formatter<W>) -> fmt::Result {
+        f.debug_struct("Packet")
+            .field("tuple", &self.tuple())
+            .field("len", &self.len())
+            .field("ecn", &self.ecn())
+            .field("tag", &self.tag)
+            .finish()
     }
 }
 
