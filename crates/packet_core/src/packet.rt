@@ -53,10 +53,10 @@ pub struct FiveTuple {
     pub src: Ip,
     /// The destination address.
     pub dst: Ip,
-    /// The destination port, 0 where the protocol has no ports.
-    pub dport: u16,
     /// The source port, 0 where the protocol has no ports.
     pub sport: u16,
+    /// The destination port, 0 where the protocol has no ports.
+    pub dport: u16,
 }
 
 /// The two bits of explicit congestion notification (RFC 3168, section 5).

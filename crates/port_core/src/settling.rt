@@ -34,13 +34,6 @@ fn places_of<A: Ledger, S: Ledger>(seats: &[PortSeat<A, S>]) -> Option<[usize; P
     Some(places)
 }
 
-/// Whether the two are one packet.
-fn is_same_packet(one: &Packet, other: &Packet) -> bool
-    ensures { IsTrue result ↔ (one.now ≡ other.now) }
-{
-    one.tuple() == other.tuple() && one.len() == other.len() && one.ecn() == other.ecn()
-}
-
 /// Whether the two tell of one acceptance.
 fn is_same(one: &Event, other: &Event) -> bool
     ensures { IsTrue result ↔ AreOneAcceptance one.now other.now }
@@ -69,7 +62,7 @@ fn is_same(one: &Event, other: &Event) -> bool
         && moment == other_moment
         && lane == other_lane
         && flow == other_flow
-        && is_same_packet(&packet, &other_packet)
+        && packet.is_same(&other_packet)
 }
 
 /// One event more: where it is an acceptance, the seat of its lane was told of it next.

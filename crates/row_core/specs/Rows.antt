@@ -126,6 +126,7 @@ packet_of version fields =
       tuple = record { proto = proto; src = src; dst = dst; sport = sport; dport = dport };
       len = len;
       ecn = ecn;
+      tag = 0;
     })
 
 -- how many fields a row has, its first one counted

@@ -29,13 +29,6 @@ struct Walk {
     closed: bool,
 }
 
-/// Whether the two are one packet.
-fn is_same_packet(one: &Packet, other: &Packet) -> bool
-    ensures { IsTrue result → one.now ≡ other.now }
-{
-    one.tuple() == other.tuple() && one.len() == other.len() && one.ecn() == other.ecn()
-}
-
 /// The next call of the main thread from that row on, the row after it, and whether there was a close then. Where it
 /// has none left for the rows it closes, unless there was a close, and then makes dequeues, at the moment of the last
 /// step.
@@ -132,7 +125,7 @@ fn meet_sender(
     }
     let (own, call) = &calls[next];
     let own = *own;
-    if moment != own.max(walk.last) || !is_same_packet(call, packet) {
+    if moment != own.max(walk.last) || !call.is_same(packet) {
         return false;
     }
     walk.met[sender] = next + 1;

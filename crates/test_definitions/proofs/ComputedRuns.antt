@@ -306,7 +306,7 @@ module _ (p : ParamFields) (seed : Seed) (steps : List Step) where
 
 -- a packet of so many bytes to that port, and so to the flow of that number
 abbrev pub packet_to : ℕ → ℕ → PacketParts
-packet_to port len = record { tuple = record { proto = 17; src = V4 (10 ∷ 0 ∷ 0 ∷ 1 ∷ []); dst = V4 (10 ∷ 0 ∷ 0 ∷ 2 ∷ []); sport = 5000; dport = port }; len = len; ecn = NotEct }
+packet_to port len = record { tuple = record { proto = 17; src = V4 (10 ∷ 0 ∷ 0 ∷ 1 ∷ []); dst = V4 (10 ∷ 0 ∷ 0 ∷ 2 ∷ []); sport = 5000; dport = port }; len = len; ecn = NotEct; tag = 0 }
 
 -- an enqueue at moment 0 into that flow, and what it gives
 abbrev pub arrives : ℕ → ℕ → Step

@@ -12,6 +12,8 @@ mod flow_numbers;
 #[cfg(test)]
 mod flow_queues;
 #[cfg(test)]
+mod packets;
+#[cfg(test)]
 mod parameters;
 #[cfg(test)]
 mod queued;

@@ -18,7 +18,7 @@ returns c _ rows before so =
     let within : k < length list.items = search rules in
     let stands : own ≡ get_or list.items k own = search rules in
     let place : c.args.lane < length met = search rules in
-    let packet : own.1 ≡ c.args.packet.now = c.if-not-is_same_packet.ensures refl in
+    let packet : own.1 ≡ c.args.packet.now = c.if-not-is_same.ensures.0 refl in
     subst (λ (p : PacketParts). Comes lists rows (before ++ Enqueue c.args.moment c.args.lane p ∷ []) c.args.moment (set met c.args.lane (k + 1)) c.args.walk.now.row c.args.walk.now.closed) packet
     (subst (λ (m : ℕ). Comes lists rows (before ++ Enqueue m c.args.lane own.1 ∷ []) m (set met c.args.lane (k + 1)) c.args.walk.now.row c.args.walk.now.closed) (sym at)
     (comes_call lists rows before last met c.args.walk.now.row c.args.walk.now.closed own.0 c.args.lane own.1 list k there c.index-lists-sender.is refl within stands place so))
