@@ -4,17 +4,18 @@ use Rattle.std.specs.Prelude.{slice_get, option_map, IsTrue}
 use Rattle.std.proofs.Math.Seq.{take-suc}
 use Rattle.std.proofs.lemmas.List.{drop-drop, length-drop}
 use Rattle.std.proofs.lemmas.Option.{slice_get_within, get_or_from_slice_get}
-use Rattle.std.proofs.lemmas.Bool.{both_ways}
+use Rattle.std.proofs.lemmas.Bool.{both_ways, iff_false}
 use Rattle.packet_core.specs.declared.packet.Waiting.{Waiting}
 use Rattle.packet_core.specs.declared.params.ParamFields.{ParamFields}
 use Rattle.codel_core.specs.declared.served.Mark.{Mark}
+use Rattle.codel_core.specs.declared.served.Mark.TheVariants.{NoMark}
 use Rattle.codel_core.specs.declared.served.Served.{Served}
 use Rattle.codel_core.specs.declared.state.CodelState.{CodelState}
-use Rattle.codel_core.specs.Queue.{bytes_of, IsLateBefore, IsLate, HasCome, IsDroppable, IsMarkableAt, is_markable}
+use Rattle.codel_core.specs.Queue.{bytes_of, IsLateWith, IsLate, HasCome, IsDroppable, IsMarkableAt, is_markable}
 use Rattle.codel_core.specs.Schedule.{spacing_of, drop_moment, after_drops, entered}
 use Rattle.codel_core.specs.Spacing.{IsSpacing}
 use Rattle.codel_core.proofs.SpacingLemmas.{one_spacing_is}
-use Rattle.codel_core.specs.Verdict.{FirstAbove, given_up, stays, IsDropped, IsHeadOf, Verdict, served, PassesDrops, ServesLine, final_mark}
+use Rattle.codel_core.specs.Verdict.{FirstAbove, given_up, stays, waits, IsAt, IsDropped, IsHeadOf, SendsHead, Verdict, nothing, drops, served, PassesDrops, ServesLine, final_mark}
 
 -- QUEUES AND STATES
 
@@ -67,6 +68,43 @@ one_drop_more interval i k r old state is same spaced =
     ∙ (λ x. record old { count = old.count + (k + 1); drop_next = drop_moment interval old k + spacing_of (same x) (ap (λ (s : CodelState). s.count + 1) is x) })
     ∙ ap (λ (n : ℕ). record old { count = old.count + (k + 1); drop_next = drop_moment interval old n }) more
 
+-- JUDGEMENTS
+
+-- what a judgement of the packet at place k finds
+pub judged_at : (p : ParamFields) (now : ℕ) {q : List Waiting} {k : ℕ} {w : Waiting} {behind : ℕ} {droppable : Bool} {held before first_above : Option ℕ}
+    → IsAt w behind q k → before ≡ held
+    → (IsTrue droppable ↔ (IsLateWith p now w behind × HasCome before now))
+    → FirstAbove (IsLateWith p now w behind) p.interval now before first_above
+    → FirstAbove (IsLate p now q k) p.interval now held first_above × (IsTrue droppable ↔ IsDroppable p now q held k)
+judged_at p now is same judged fate = (rw (← is.head_is, ← is.bytes, ← same) fate, rw (← is.head_is, ← is.bytes, ← same) judged)
+
+-- a packet that isn't droppable is sent, and the queue stops to drop
+pub sends_undroppable : (p : ParamFields) (now : ℕ) {w : Waiting} {behind : ℕ} {droppable : Bool} {old judged : CodelState}
+    → (IsTrue droppable ↔ (IsLateWith p now w behind × HasCome old.first_above now))
+    → FirstAbove (IsLateWith p now w behind) p.interval now old.first_above judged.first_above
+    → record judged { first_above = old.first_above } ≡ old → droppable ≡ false
+    → SendsHead p now w behind old (record judged { dropping = false })
+sends_undroppable p now {old = old} {judged = judged} is fate same cannot = record {
+  first_above = fate;
+  verdict = λ q at.
+      let told = judged_at p now {q = q} {k = 0} at refl is fate in
+      subst (λ (s : CodelState). Verdict p now q old 0 NoMark s)
+      (sym (ap (λ (s : CodelState). record s { dropping = false }) same)) (nothing (iff_false told.1 cannot));
+}
+
+-- so is a droppable one while the queue drops and no drop is due yet
+pub sends_early : (p : ParamFields) (now : ℕ) {w : Waiting} {behind : ℕ} (old : CodelState)
+    → IsLateWith p now w behind → HasCome old.first_above now → old.dropping ≡ true → now < old.drop_next
+    → SendsHead p now w behind old old
+sends_early p now old late come dropping early = record {
+  first_above = fate_of_droppable old.first_above late come;
+  verdict = λ q at.
+      let is : IsDroppable p now q old.first_above 0 = rw (← at.head_is, ← at.bytes) (late, come) in
+      let none : old.count + 0 ≡ old.count = omega arith in
+      subst (λ (s : CodelState). Verdict p now q old 0 NoMark s) (λ x. record old { count = none x })
+      (drops is dropping (λ j below. absurd (omega arith)) (waits is early));
+}
+
 -- STEPS
 
 -- Behind k drops the packet at place k is in hand and was judged, and that is what became of first_above.
@@ -99,25 +137,27 @@ pub record GoesOn {A B : Type 0} (items : A → List Waiting) (pulled : A → �
 module _ {A B : Type 0} {items : A → List Waiting} {pulled : A → ℕ → A → Type 0} {taken : B → List Waiting → B → Type 0}
     {p : ParamFields} {now : ℕ} {old : CodelState} {line : A} {sink : B} where
   -- what is left behind a drop, a pull and its judgement
-  pub next_in_hand : {k : ℕ} {head next : Waiting} {droppable : Bool} {held before first_above : Option ℕ} {line' line'' : A} {sink' sink'' : B}
+  pub next_in_hand : {k : ℕ} {head next : Waiting} {behind : ℕ} {droppable : Bool} {held before first_above : Option ℕ} {line' line'' : A} {sink' sink'' : B}
       → ((a b c : A) (n : ℕ) → pulled a n b → pulled b 1 c → pulled a (n + 1) c)
       → ((a b c : B) (ws : List Waiting) (w : Waiting) → taken a ws b → taken b (w ∷ []) c → taken a (ws ++ w ∷ []) c)
       → InHand items pulled taken p now old line sink k head held line' sink'
       → taken sink' (head ∷ []) sink'' → pulled line' 1 line'' → items line'' ≡ drop 1 (items line') → Some next ≡ slice_get (items line') 0
-      → before ≡ old.first_above
-      → (IsTrue droppable ↔ (IsLateBefore p now next (items line'') × HasCome before now))
-      → FirstAbove (IsLateBefore p now next (items line'')) p.interval now before first_above
+      → behind ≡ bytes_of (items line'') → before ≡ old.first_above
+      → (IsTrue droppable ↔ (IsLateWith p now next behind × HasCome before now))
+      → FirstAbove (IsLateWith p now next behind) p.interval now before first_above
       → InHand items pulled taken p now old line sink (k + 1) next first_above line'' sink'' × (IsTrue droppable ↔ IsDroppable p now (items line) old.first_above (k + 1))
-  next_in_hand {k = k} {head = head} {line' = line'} {line'' = line''} {sink' = sink'} {sink'' = sink''} pulled_more taken_more h take' pull rest next_is same judged fate =
+  next_in_hand {k = k} {head = head} {next = next} {behind = behind} {line' = line'} {line'' = line''} {sink' = sink'} {sink'' = sink''} pulled_more taken_more h take' pull rest next_is bytes same judged fate =
       let left = rest ∙ ap (λ (q : List Waiting). drop 1 q) h.left.rest ∙ drop-drop 1 (k + 1) (items line) in
       let is = next_is ∙ ap (λ (q : List Waiting). slice_get q 0) h.left.rest ∙ at_head (items line) (k + 1) in
-      let takes = taken_more sink sink' sink'' (take k (items line)) head h.left.takes take' in (
+      let takes = taken_more sink sink' sink'' (take k (items line)) head h.left.takes take' in
+      let at : IsAt next behind (items line) (k + 1) = record { head_is = is; bytes = bytes ∙ ap bytes_of left } in
+      let told = judged_at p now {q = items line} {k = k + 1} at same judged fate in (
         record {
           left = record { pulls = pulled_more line line' line'' (k + 1) h.left.pulls pull; rest = left; takes = rw (next_taken (items line) k head h.head_is) takes };
           head_is = is;
-          fate = rw (← is, ← left, ← same) fate;
+          fate = told.0;
         },
-        rw (← is, ← left, ← same) judged,
+        told.1,
       )
 
   -- the packet in hand is given

@@ -7,7 +7,7 @@ ghost use Rattle.codel_core.specs.Queue.{HasCome, IsLateBefore};
 ghost use Rattle.codel_core.specs.Verdict.{IsHeadOf, ServesLine};
 
 use crate::control_law::spacing;
-use crate::judge::{enter, may_mark, should_drop};
+use crate::judge::{enter, may_mark, passes, should_drop};
 use crate::line::{DropSink, Pull};
 use crate::served::Served;
 use crate::state::CodelState;
@@ -126,16 +126,16 @@ fn serve_from<L: Pull, S: DropSink>(
         state.dropping = false;
         return None;
     };
-    if should_drop(state, first, line, now, params) {
-        return Some(serve_droppable(state, *first, line, now, params, sink));
+    if passes(state, first, line.bytes_left(), now, params) {
+        return Some(Served::by_threshold(first, now, params));
     }
-    state.dropping = false;
-    Some(Served::by_threshold(first, now, params))
+    Some(serve_droppable(state, *first, line, now, params, sink))
 }
 
 /// Goes on with a serve whose first packet was pulled and is droppable: that one is marked or dropped, or sent where no
 /// drop is due yet.
-// Kept out of its caller: most packets are sent without it.
+// Kept out of its caller, which sends most packets without it: those that aren't droppable, and those that are while
+// no drop is due yet.
 #[inline(never)]
 fn serve_droppable<L: Pull, S: DropSink>(
     state: &mut CodelState,
@@ -164,7 +164,7 @@ fn serve_droppable<L: Pull, S: DropSink>(
         sink.take(first);
         let second = pull_waiting(line);
         // It is sent, late or not: the next drop is due a spacing from now. The judgement keeps `first_above` right.
-        should_drop(state, &second, line, now, params);
+        should_drop(state, &second, line.bytes_left(), now, params);
         enter(state, now, params);
         return Served::by_threshold(&second, now, params);
     }
@@ -178,7 +178,7 @@ fn serve_droppable<L: Pull, S: DropSink>(
         }
         sink.take(head);
         head = pull_waiting(line);
-        if !should_drop(state, &head, line, now, params) {
+        if !should_drop(state, &head, line.bytes_left(), now, params) {
             // No further drop is due, so `drop_next` stays at the moment at which the last one was: should dropping
             // begin again, `first_count` takes the time since then for the time since that drop.
             state.dropping = false;

@@ -59,7 +59,7 @@ returns-then-not-state g c = λ whole of.
     let h = first_in_hand g (goal.at.returns-then-not-state g c).Start whole of in
     let n = next_in_hand g.met.L.Pull.pulled_more g.met.S.DropSink.taken_more h.0
     c.take.ensures.step c.pull_waiting-second.ensures.step c.pull_waiting-second.ensures.rest c.pull_waiting-second.ensures.head
-    refl c.should_drop.ensures.droppable c.should_drop.ensures.first_above in
+    c.bytes_left.ensures refl c.should_drop.ensures.droppable c.should_drop.ensures.first_above in
     gives n.0 (first_drop h.1 (cc) (unmarkable_at c.args.params.now (g.L.Pull.items whole) 0 c.args.first h.0.head_is (cc)))
     (entered_from c.args.params.now c.args.now c.args.state.now c.should_drop.new.state c.enter-then-not-state.new.state c.should_drop.ensures.rest c.enter-then-not-state.ensures)
     (ap (λ (s : CodelState). s.first_above) c.enter-then-not-state.ensures) c.by_threshold.ensures
@@ -83,7 +83,7 @@ next_judged g c whole of =
     let m = c.loop-state.invariant.midway whole of in
     next_in_hand g.met.L.Pull.pulled_more g.met.S.DropSink.taken_more m.hand
     c.take-in-loop-state.ensures.step c.pull_waiting-head.ensures.step c.pull_waiting-head.ensures.rest c.pull_waiting-head.ensures.head
-    (ap (λ (s : CodelState). s.first_above) m.state_is) c.should_drop-in-loop-state.ensures.droppable c.should_drop-in-loop-state.ensures.first_above
+    c.bytes_left-in-loop-state.ensures (ap (λ (s : CodelState). s.first_above) m.state_is) c.should_drop-in-loop-state.ensures.droppable c.should_drop-in-loop-state.ensures.first_above
 
 pub returns-then-not-should_drop : goal.returns-then-not-should_drop
 returns-then-not-should_drop g c = λ whole of.
@@ -116,7 +116,7 @@ loop-state-preserved g c =
       state_is = state_is;
       left = omega (arith, less, way.left);
       fits = omega (arith, less, way.fits, c.take-in-loop-state.ensures.room);
-      behind = judged.0.1;
+      behind = rw (← c.bytes_left-in-loop-state.ensures) judged.0.1;
       midway = λ whole of.
           let n = next_judged g at whole of in
           let m = way.midway whole of in
