@@ -1,14 +1,15 @@
 //! CoDel for one queue: what is kept of it, and the serve that drops, marks and gives.
 
-ghost use Rattle.std.specs.Prelude.{◌≡◌, ◌^◌, ◌<◌, ◌≤◌, ◌↔◌, [], drop, length, slice_get, IsNone, None, Some, false};
+ghost use Rattle.std.specs.Prelude.{◌≡◌, ◌^◌, ◌<◌, ◌≤◌, ◌↔◌, [], length, IsNone, None, Some, false};
 ghost use Rattle.packet_core.specs.Params.{IsIntervalInRange};
 ghost use Rattle.codel_core.specs.Schedule.{IsStateInRange, StaysInRange};
 ghost use Rattle.codel_core.specs.Queue.{HasCome, IsLateBefore};
 ghost use Rattle.codel_core.specs.Verdict.{IsHeadOf, ServesLine};
 
 use crate::control_law::spacing;
+use crate::in_place::serve_heads;
 use crate::judge::{enter, may_mark, passes, should_drop};
-use crate::line::{DropSink, Pull};
+use crate::line::{DropSink, Heads, Pull, pull_waiting};
 use crate::served::Served;
 use crate::state::CodelState;
 use packet_core::{Params, Waiting};
@@ -83,21 +84,27 @@ impl Codel {
     {
         serve_from(&mut self.state, line, now, params, sink)
     }
-}
 
-/// Takes the head of a line that isn't empty.
-// Kept out of its caller: merged into it, each packet taken is copied once more on its way.
-#[inline(never)]
-fn pull_waiting<L: Pull>(line: &mut L) -> Waiting
-    requires { 0 < length (L.items line.old) }
-    ensures head { Some result ≡ slice_get (L.items line.old) 0 }
-    ensures rest { L.items line.new ≡ drop 1 (L.items line.old) }
-    ensures step { L.pulled line.old 1 line.new }
-{
-    let Some(head) = line.pull() else {
-        unreachable!()
-    };
-    head
+    /// Serves as `serve` does. Each packet stays where it stands until it is dropped or given.
+    pub fn serve_in_place<L: Heads, S: DropSink>(
+        &mut self,
+        line: &mut L,
+        now: u64,
+        params: &Params,
+        sink: &mut S,
+    ) -> Option<Served>
+        requires room { length (L.items line.old) ≤ S.room sink.old }
+        requires size { length (L.items line.old) ≤ 2 ^ 40 }
+        requires moment { now < 2 ^ 60 }
+        requires numbers { IsStateInRange self.old }
+        ensures none { IsNone result ↔ (L.items line.old ≡ []) }
+        ensures served { ServesLine L.items L.pulled S.taken params.now now
+            self.old line.old sink.old result self.new line.new sink.new }
+        ensures range { StaysInRange params.now now
+            self.old (length (L.items line.old)) self.new (length (L.items line.new)) }
+    {
+        serve_heads(&mut self.state, line, now, params, sink)
+    }
 }
 
 /// Serves as `Codel::serve` does, over the numbers alone.
