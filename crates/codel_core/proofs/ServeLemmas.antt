@@ -1,20 +1,22 @@
 -- What each step of a serve makes of the state, the line and the sink, over plain variables.
-use Rattle.std.proofs.Common.{◌≡◌, ℕ, zero, suc, ◌+◌, ◌<◌, ◌≤◌, ◌↔◌, Bool, true, false, List, [], ◌∷◌, ◌++◌, length, take, drop, Option, Some, None, refl, sym, ap, subst, ◌∙◌, arith, add-one, below_more}
+use Rattle.std.proofs.Common.{◌≡◌, ℕ, zero, suc, ◌+◌, ◌-◌, ◌<◌, ◌≤◌, ◌↔◌, Bool, true, false, List, [], ◌∷◌, ◌++◌, length, take, drop, Option, Some, None, refl, sym, ap, subst, ◌∙◌, arith, add-one, below_more}
 use Rattle.std.specs.Prelude.{slice_get, option_map, IsTrue}
 use Rattle.std.proofs.Math.Seq.{take-suc}
 use Rattle.std.proofs.lemmas.List.{drop-drop, length-drop}
 use Rattle.std.proofs.lemmas.Option.{slice_get_within, get_or_from_slice_get}
-use Rattle.std.proofs.lemmas.Bool.{both_ways}
+use Rattle.std.proofs.lemmas.Bool.{both_ways, iff_false}
 use Rattle.packet_core.specs.declared.packet.Waiting.{Waiting}
 use Rattle.packet_core.specs.declared.params.ParamFields.{ParamFields}
 use Rattle.codel_core.specs.declared.served.Mark.{Mark}
+use Rattle.codel_core.specs.declared.served.Mark.TheVariants.{NoMark, CodelMark}
 use Rattle.codel_core.specs.declared.served.Served.{Served}
 use Rattle.codel_core.specs.declared.state.CodelState.{CodelState}
-use Rattle.codel_core.specs.Queue.{bytes_of, IsLateBefore, IsLate, HasCome, IsDroppable, IsMarkableAt, is_markable}
+use Rattle.codel_core.specs.Queue.{bytes_of, IsLateWith, IsLate, HasCome, IsDroppable, IsMarkableAt, is_markable}
 use Rattle.codel_core.specs.Schedule.{spacing_of, drop_moment, after_drops, entered}
 use Rattle.codel_core.specs.Spacing.{IsSpacing}
 use Rattle.codel_core.proofs.SpacingLemmas.{one_spacing_is}
-use Rattle.codel_core.specs.Verdict.{FirstAbove, given_up, stays, IsDropped, IsHeadOf, Verdict, served, PassesDrops, ServesLine, final_mark}
+use Rattle.codel_core.specs.Heads.{DropsHead, GivesHead}
+use Rattle.codel_core.specs.Verdict.{FirstAbove, given_up, stays, leaves, waits, marks, IsAt, IsDropped, IsHeadOf, SendsHead, Verdict, nothing, drops, served, PassesDrops, ServesLine, final_mark}
 
 -- QUEUES AND STATES
 
@@ -67,6 +69,122 @@ one_drop_more interval i k r old state is same spaced =
     ∙ (λ x. record old { count = old.count + (k + 1); drop_next = drop_moment interval old k + spacing_of (same x) (ap (λ (s : CodelState). s.count + 1) is x) })
     ∙ ap (λ (n : ℕ). record old { count = old.count + (k + 1); drop_next = drop_moment interval old n }) more
 
+-- a state behind one drop more, where the next packet was judged in between
+pub drop_judged : (interval i k r : ℕ) (old state judged : CodelState) → state ≡ after_drops interval old k
+    → judged.first_above ≡ state.first_above → record judged { first_above = state.first_above } ≡ record state { count = state.count + 1 }
+    → i ≡ interval → IsSpacing i judged.count r
+    → record judged { drop_next = judged.drop_next + r } ≡ after_drops interval old (k + 1)
+drop_judged interval i k r old state judged is kept same equal spaced =
+    let counted : judged ≡ record state { count = state.count + 1 } = (λ x. record judged { first_above = kept x }) ∙ same in
+    ap (λ (s : CodelState). record s { drop_next = s.drop_next + r }) counted
+    ∙ one_drop_more interval i k r old state is equal (subst (λ (n : ℕ). IsSpacing i n r) (ap (λ (s : CodelState). s.count) counted) spaced)
+
+-- JUDGEMENTS
+
+-- what a judgement of the packet at place k finds
+pub judged_at : (p : ParamFields) (now : ℕ) {q : List Waiting} {k : ℕ} {w : Waiting} {behind : ℕ} {droppable : Bool} {held before first_above : Option ℕ}
+    → IsAt w behind q k → before ≡ held
+    → (IsTrue droppable ↔ (IsLateWith p now w behind × HasCome before now))
+    → FirstAbove (IsLateWith p now w behind) p.interval now before first_above
+    → FirstAbove (IsLate p now q k) p.interval now held first_above × (IsTrue droppable ↔ IsDroppable p now q held k)
+judged_at p now is same judged fate = (rw (← is.head_is, ← is.bytes, ← same) fate, rw (← is.head_is, ← is.bytes, ← same) judged)
+
+-- a packet that isn't droppable is sent, and the queue stops to drop
+pub sends_undroppable : (p : ParamFields) (now : ℕ) {w : Waiting} {behind : ℕ} {droppable : Bool} {old judged : CodelState}
+    → (IsTrue droppable ↔ (IsLateWith p now w behind × HasCome old.first_above now))
+    → FirstAbove (IsLateWith p now w behind) p.interval now old.first_above judged.first_above
+    → record judged { first_above = old.first_above } ≡ old → droppable ≡ false
+    → SendsHead p now w behind old (record judged { dropping = false })
+sends_undroppable p now {old = old} {judged = judged} is fate same cannot = record {
+  first_above = fate;
+  verdict = λ q at.
+      let told = judged_at p now {q = q} {k = 0} at refl is fate in
+      subst (λ (s : CodelState). Verdict p now q old 0 NoMark s)
+      (sym (ap (λ (s : CodelState). record s { dropping = false }) same)) (nothing (iff_false told.1 cannot));
+}
+
+-- so is a droppable one while the queue drops and no drop is due yet
+pub sends_early : (p : ParamFields) (now : ℕ) {w : Waiting} {behind : ℕ} (old : CodelState)
+    → IsLateWith p now w behind → HasCome old.first_above now → old.dropping ≡ true → now < old.drop_next
+    → SendsHead p now w behind old old
+sends_early p now old late come dropping early = record {
+  first_above = fate_of_droppable old.first_above late come;
+  verdict = λ q at.
+      let is : IsDroppable p now q old.first_above 0 = rw (← at.head_is, ← at.bytes) (late, come) in
+      let none : old.count + 0 ≡ old.count = omega arith in
+      subst (λ (s : CodelState). Verdict p now q old 0 NoMark s) (λ x. record old { count = none x })
+      (drops is dropping (λ j below. absurd (omega arith)) (waits is early));
+}
+
+-- WHILE A QUEUE DROPS
+
+-- k packets were dropped, and the one at place k is droppable.
+pub record Dropping (p : ParamFields) (now : ℕ) (q : List Waiting) (old : CodelState) (k : ℕ) (state : CodelState) : Type 0 where
+  pub droppable : IsDroppable p now q old.first_above k
+  pub dropped : (j : ℕ) → j < k → IsDropped p now q old j
+  pub first : IsDroppable p now q old.first_above 0
+  pub dropping : old.dropping ≡ true
+  pub state_is : state ≡ after_drops p.interval old k
+
+-- none was dropped yet
+pub drops_none : (p : ParamFields) (now : ℕ) (q : List Waiting) (old : CodelState) → IsDroppable p now q old.first_above 0 → old.dropping ≡ true → Dropping p now q old 0 old
+drops_none p now q old is dropping =
+    let none : old.count ≡ old.count + 0 = omega arith in
+    record { droppable = is; dropped = λ j below. absurd (omega arith); first = is; dropping = dropping; state_is = (λ x. record old { count = none x }) }
+
+module _ {p : ParamFields} {now : ℕ} {q : List Waiting} {old : CodelState} {k : ℕ} {state : CodelState} (way : Dropping p now q old k state) where
+  -- the packet at place k is one to drop
+  is_dropped : state.drop_next ≤ now → ¬ IsMarkableAt p q k → (j : ℕ) → j < k + 1 → IsDropped p now q old j
+  is_dropped due cannot =
+      let moment = ap (λ (s : CodelState). s.drop_next) way.state_is in
+      below_more (λ j. IsDropped p now q old j) k way.dropped (record { droppable = way.droppable; due = omega (arith, moment); unmarkable = cannot })
+
+  -- so first_above stays
+  pub fate_at : FirstAbove (IsLate p now q k) p.interval now old.first_above state.first_above
+  fate_at = rw (ap (λ (s : CodelState). s.first_above) way.state_is) (fate_of_droppable old.first_above way.droppable.0 way.droppable.1)
+
+  -- it isn't due yet
+  pub waits_at : now < state.drop_next → Verdict p now q old k NoMark (record state { first_above = old.first_above })
+  waits_at early =
+      let moment = ap (λ (s : CodelState). s.drop_next) way.state_is in
+      subst (λ (s : CodelState). Verdict p now q old k NoMark s) (sym (ap (λ (s : CodelState). record s { first_above = old.first_above }) way.state_is))
+      (drops way.first way.dropping way.dropped (waits way.droppable (omega (arith, moment))))
+
+  -- it is marked
+  pub marks_at : {i : ℕ} (r : ℕ) → state.drop_next ≤ now → IsMarkableAt p q k → i ≡ p.interval → IsSpacing i (state.count + 1) r
+      → Verdict p now q old k CodelMark (record state { first_above = old.first_above; count = state.count + 1; drop_next = state.drop_next + r })
+  marks_at {i = i} r due can same spaced =
+      let moment = ap (λ (s : CodelState). s.drop_next) way.state_is in
+      let next = one_drop_more p.interval i k r old state way.state_is same spaced in
+      subst (λ (s : CodelState). Verdict p now q old k CodelMark s) (sym (ap (λ (s : CodelState). record s { first_above = old.first_above }) next))
+      (drops way.first way.dropping way.dropped (marks way.droppable (omega (arith, moment)) can))
+
+  -- it is dropped, and the next one isn't droppable
+  pub leaves_at : (judged : CodelState) → state.drop_next ≤ now → ¬ IsMarkableAt p q k → ¬ IsDroppable p now q old.first_above (k + 1)
+      → record judged { first_above = state.first_above } ≡ record state { count = state.count + 1 }
+      → Verdict p now q old (k + 1) NoMark (record judged { first_above = old.first_above; dropping = false })
+  leaves_at judged due cannot not same =
+      let counts : old.count + k + 1 ≡ old.count + (k + 1) = omega arith in
+      let place : k ≡ k + 1 - 1 = omega arith in
+      subst (λ (s : CodelState). Verdict p now q old (k + 1) NoMark s)
+      (sym ((λ x. record (same x) { first_above = old.first_above; dropping = false })
+      ∙ (λ x. record (way.state_is x) { first_above = old.first_above; dropping = false; count = (way.state_is x).count + 1 })
+      ∙ (λ x. record old { dropping = false; count = counts x; drop_next = drop_moment p.interval old (place x) })))
+      (drops way.first way.dropping (is_dropped due cannot) (leaves not))
+
+  -- it is dropped, and the next one is droppable
+  pub drops_at : (judged : CodelState) {i : ℕ} (r : ℕ) → state.drop_next ≤ now → ¬ IsMarkableAt p q k → IsDroppable p now q old.first_above (k + 1)
+      → judged.first_above ≡ state.first_above → record judged { first_above = state.first_above } ≡ record state { count = state.count + 1 }
+      → i ≡ p.interval → IsSpacing i judged.count r
+      → Dropping p now q old (k + 1) (record judged { drop_next = judged.drop_next + r })
+  drops_at judged {i = i} r due cannot is kept same equal spaced = record {
+    droppable = is;
+    dropped = is_dropped due cannot;
+    first = way.first;
+    dropping = way.dropping;
+    state_is = drop_judged p.interval i k r old state judged way.state_is kept same equal spaced;
+  }
+
 -- STEPS
 
 -- Behind k drops the packet at place k is in hand and was judged, and that is what became of first_above.
@@ -80,11 +198,7 @@ pub record InHand {A B : Type 0} (items : A → List Waiting) (pulled : A → �
 pub record Midway {A B : Type 0} (items : A → List Waiting) (pulled : A → ℕ → A → Type 0) (taken : B → List Waiting → B → Type 0)
     (p : ParamFields) (now : ℕ) (old : CodelState) (line : A) (sink : B) (k : ℕ) (head : Waiting) (state : CodelState) (line' : A) (sink' : B) : Type 0 where
   pub hand : InHand items pulled taken p now old line sink k head state.first_above line' sink'
-  pub droppable : IsDroppable p now (items line) old.first_above k
-  pub dropped : (j : ℕ) → j < k → IsDropped p now (items line) old j
-  pub first : IsDroppable p now (items line) old.first_above 0
-  pub dropping : old.dropping ≡ true
-  pub state_is : state ≡ after_drops p.interval old k
+  pub way : Dropping p now (items line) old k state
 
 -- While the queue drops, behind a head that was pulled and is droppable: so many packets were dropped with it.
 pub record GoesOn {A B : Type 0} (items : A → List Waiting) (pulled : A → ℕ → A → Type 0) (taken : B → List Waiting → B → Type 0) (room : B → ℕ)
@@ -99,25 +213,27 @@ pub record GoesOn {A B : Type 0} (items : A → List Waiting) (pulled : A → �
 module _ {A B : Type 0} {items : A → List Waiting} {pulled : A → ℕ → A → Type 0} {taken : B → List Waiting → B → Type 0}
     {p : ParamFields} {now : ℕ} {old : CodelState} {line : A} {sink : B} where
   -- what is left behind a drop, a pull and its judgement
-  pub next_in_hand : {k : ℕ} {head next : Waiting} {droppable : Bool} {held before first_above : Option ℕ} {line' line'' : A} {sink' sink'' : B}
+  pub next_in_hand : {k : ℕ} {head next : Waiting} {behind : ℕ} {droppable : Bool} {held before first_above : Option ℕ} {line' line'' : A} {sink' sink'' : B}
       → ((a b c : A) (n : ℕ) → pulled a n b → pulled b 1 c → pulled a (n + 1) c)
       → ((a b c : B) (ws : List Waiting) (w : Waiting) → taken a ws b → taken b (w ∷ []) c → taken a (ws ++ w ∷ []) c)
       → InHand items pulled taken p now old line sink k head held line' sink'
       → taken sink' (head ∷ []) sink'' → pulled line' 1 line'' → items line'' ≡ drop 1 (items line') → Some next ≡ slice_get (items line') 0
-      → before ≡ old.first_above
-      → (IsTrue droppable ↔ (IsLateBefore p now next (items line'') × HasCome before now))
-      → FirstAbove (IsLateBefore p now next (items line'')) p.interval now before first_above
+      → behind ≡ bytes_of (items line'') → before ≡ old.first_above
+      → (IsTrue droppable ↔ (IsLateWith p now next behind × HasCome before now))
+      → FirstAbove (IsLateWith p now next behind) p.interval now before first_above
       → InHand items pulled taken p now old line sink (k + 1) next first_above line'' sink'' × (IsTrue droppable ↔ IsDroppable p now (items line) old.first_above (k + 1))
-  next_in_hand {k = k} {head = head} {line' = line'} {line'' = line''} {sink' = sink'} {sink'' = sink''} pulled_more taken_more h take' pull rest next_is same judged fate =
+  next_in_hand {k = k} {head = head} {next = next} {behind = behind} {line' = line'} {line'' = line''} {sink' = sink'} {sink'' = sink''} pulled_more taken_more h take' pull rest next_is bytes same judged fate =
       let left = rest ∙ ap (λ (q : List Waiting). drop 1 q) h.left.rest ∙ drop-drop 1 (k + 1) (items line) in
       let is = next_is ∙ ap (λ (q : List Waiting). slice_get q 0) h.left.rest ∙ at_head (items line) (k + 1) in
-      let takes = taken_more sink sink' sink'' (take k (items line)) head h.left.takes take' in (
+      let takes = taken_more sink sink' sink'' (take k (items line)) head h.left.takes take' in
+      let at : IsAt next behind (items line) (k + 1) = record { head_is = is; bytes = bytes ∙ ap bytes_of left } in
+      let told = judged_at p now {q = items line} {k = k + 1} at same judged fate in (
         record {
           left = record { pulls = pulled_more line line' line'' (k + 1) h.left.pulls pull; rest = left; takes = rw (next_taken (items line) k head h.head_is) takes };
           head_is = is;
-          fate = rw (← is, ← left, ← same) fate;
+          fate = told.0;
         },
-        rw (← is, ← left, ← same) judged,
+        told.1,
       )
 
   -- the packet in hand is given
@@ -139,11 +255,74 @@ module _ {A B : Type 0} {items : A → List Waiting} {pulled : A → ℕ → A �
         left = h.left;
       }
 
-  -- the packet in hand is one to drop
-  pub is_dropped : {k : ℕ} {head : Waiting} {state : CodelState} {line' : A} {sink' : B}
-      → Midway items pulled taken p now old line sink k head state line' sink' → state.drop_next ≤ now → is_markable p.ecn head.packet.ecn ≡ false
-      → (j : ℕ) → j < k + 1 → IsDropped p now (items line) old j
-  is_dropped {k = k} {head = head} m due cannot =
-      let moment = ap (λ (s : CodelState). s.drop_next) m.state_is in
-      below_more (λ j. IsDropped p now (items line) old j) k m.dropped
-      (record { droppable = m.droppable; due = omega (arith, moment); unmarkable = unmarkable_at p (items line) k head m.hand.head_is cannot })
+-- IN PLACE
+
+-- what a judgement of the first packet of what k places leave finds
+pub judged_behind : (p : ParamFields) (now : ℕ) (q rest : List Waiting) (k : ℕ) {droppable : Bool} {held before first_above : Option ℕ}
+    → rest ≡ drop k q → before ≡ held
+    → (IsTrue droppable ↔ IsDroppable p now rest before 0)
+    → FirstAbove (IsLate p now rest 0) p.interval now before first_above
+    → FirstAbove (IsLate p now q k) p.interval now held first_above × (IsTrue droppable ↔ IsDroppable p now q held k)
+judged_behind p now q rest k left same judged fate =
+    let at = at_head q k in
+    let tail = drop-drop 1 k q in
+    (rw (← at, ← tail, ← left, ← same) fate, rw (← at, ← tail, ← left, ← same) judged)
+
+-- After k drops the packet at place k stands at the head of the line.
+pub record Stands {A B : Type 0} (items : A → List Waiting) (pulled : A → ℕ → A → Type 0) (taken : B → List Waiting → B → Type 0)
+    (line : A) (sink : B) (k : ℕ) (line' : A) (sink' : B) : Type 0 where
+  pub pulls : pulled line k line'
+  pub rest : items line' ≡ drop k (items line)
+  pub takes : taken sink (take k (items line)) sink'
+
+-- While the queue drops, in place: so many packets were dropped.
+pub record WalksOn {A B : Type 0} (items : A → List Waiting) (pulled : A → ℕ → A → Type 0) (taken : B → List Waiting → B → Type 0) (room : B → ℕ)
+    (p : ParamFields) (now : ℕ) (old : CodelState) (line : A) (sink : B) (state : CodelState) (line' : A) (sink' : B) : Type 0 where
+  pub drops : ℕ
+  pub stands : Stands items pulled taken line sink drops line' sink'
+  pub way : Dropping p now (items line) old drops state
+  pub fits : length (items line') ≤ room sink'
+
+module _ {A B : Type 0} {items : A → List Waiting} {pulled : A → ℕ → A → Type 0} {taken : B → List Waiting → B → Type 0} {line : A} {sink : B} where
+  -- nothing was dropped yet
+  pub stands_first : ((a : A) → pulled a 0 a) → ((b : B) → taken b [] b) → Stands items pulled taken line sink 0 line sink
+  stands_first pulled_none taken_none = record { pulls = pulled_none line; rest = refl; takes = taken_none sink }
+
+  -- that is the packet at the head
+  pub stands_at : {k : ℕ} {line' : A} {sink' : B} {head : Waiting} → Stands items pulled taken line sink k line' sink' → Some head ≡ slice_get (items line') 0 → Some head ≡ slice_get (items line) k
+  stands_at {k = k} s is = is ∙ ap (λ (l : List Waiting). slice_get l 0) s.rest ∙ at_head (items line) k
+
+  -- one drop more
+  pub stands_next : {k : ℕ} {line' line'' : A} {sink' sink'' : B}
+      → ((a b c : A) (n : ℕ) → pulled a n b → pulled b 1 c → pulled a (n + 1) c)
+      → ((a b c : B) (ws : List Waiting) (w : Waiting) → taken a ws b → taken b (w ∷ []) c → taken a (ws ++ w ∷ []) c)
+      → Stands items pulled taken line sink k line' sink' → DropsHead items pulled taken line' sink' line'' sink''
+      → Stands items pulled taken line sink (k + 1) line'' sink''
+  stands_next {k = k} {line' = line'} {line'' = line''} {sink' = sink'} {sink'' = sink''} pulled_more taken_more s d =
+      let q = items line in
+      let is = stands_at s d.head_is in
+      let takes = taken_more sink sink' sink'' (take k q) d.head s.takes d.takes in
+      record {
+        pulls = pulled_more line line' line'' k s.pulls d.leaves.step;
+        rest = d.leaves.rest ∙ ap (λ (l : List Waiting). drop 1 l) s.rest ∙ drop-drop 1 k q;
+        takes = rw (next_taken q k d.head is) takes;
+      }
+
+  -- the packet at the head is given
+  pub gives_head : {p : ParamFields} {now : ℕ} {old new : CodelState} {k : ℕ} {line' line'' : A} {sink' : B} (mark : Mark) {answer : Served}
+      → ((a b c : A) (n : ℕ) → pulled a n b → pulled b 1 c → pulled a (n + 1) c)
+      → Stands items pulled taken line sink k line' sink' → GivesHead items pulled (λ w. final_mark p now (Some w) mark) line' answer line''
+      → FirstAbove (IsLate p now (items line) k) p.interval now old.first_above new.first_above
+      → Verdict p now (items line) old k mark (record new { first_above = old.first_above })
+      → ServesLine items pulled taken p now old line sink (Some answer) new line'' sink'
+  gives_head {k = k} {line' = line'} {line'' = line''} mark pulled_more s g fate verdict =
+      let q = items line in
+      gives (record {
+        left = record {
+          pulls = pulled_more line line' line'' k s.pulls g.leaves.step;
+          rest = g.leaves.rest ∙ ap (λ (l : List Waiting). drop 1 l) s.rest ∙ drop-drop 1 k q;
+          takes = s.takes;
+        };
+        head_is = stands_at s g.head_is;
+        fate = fate;
+      }) verdict refl refl g.given

@@ -1,14 +1,16 @@
 -- The numbers of a state stay in range from one serve to the next.
-use Rattle.std.proofs.Common.{ℕ, zero, suc, ◌+◌, ◌-◌, ◌<◌, ◌≤◌, List, length, arith, below_more}
+use Rattle.std.proofs.Common.{ℕ, zero, suc, ◌+◌, ◌-◌, ◌<◌, ◌≤◌, ◌∙◌, List, Option, length, ap, arith, below_more}
+use Rattle.std.proofs.lemmas.List.{length-drop}
 use Rattle.std.specs.Prelude.{max}
 use Rattle.std.proofs.lemmas.Bool.Decides.{nat_tests}
 use Rattle.packet_core.specs.Params.{IsIntervalInRange}
 use Rattle.packet_core.specs.declared.packet.Waiting.{Waiting}
 use Rattle.packet_core.specs.declared.params.ParamFields.{ParamFields}
 use Rattle.codel_core.specs.declared.served.Mark.{Mark}
+use Rattle.codel_core.specs.declared.served.Served.{Served}
 use Rattle.codel_core.specs.declared.state.CodelState.{CodelState}
 use Rattle.codel_core.specs.Schedule.{drop_moment, resumed_count, entered, StaysInRange}
-use Rattle.codel_core.specs.Verdict.{Stops, leaves, waits, marks, Verdict, nothing, first_mark, first_drop, drops}
+use Rattle.codel_core.specs.Verdict.{ServesLine, Stops, leaves, waits, marks, Verdict, nothing, first_mark, first_drop, drops}
 use Rattle.codel_core.proofs.SpacingLemmas.{spacing_le}
 use Rattle.codel_core.proofs.VerdictLemmas.{one_behind, within}
 
@@ -46,3 +48,14 @@ module _ (p : ParamFields) (now : ℕ) (q : List Waiting) (old : CodelState) (in
   verdict_stays (first_mark d idle can) = entered_stays 0 (omega (arith, one_behind p now q old 0 d.0))
   verdict_stays (first_drop d idle cannot) = entered_stays 1 (omega (arith, one_behind p now q old 0 d.0))
   verdict_stays (drops {k} d dropping before stop) = stop_stays (within p now q old k d before) (λ j h. (before j h).due) stop
+
+-- the numbers of a state stay in range over a serve
+pub serves_stays : {A B : Type 0} {items : A → List Waiting} {pulled : A → ℕ → A → Type 0} {taken : B → List Waiting → B → Type 0}
+    {p : ParamFields} {now : ℕ} {old : CodelState} {line : A} {sink : B} {answer : Option Served} {new : CodelState} {line' : A} {sink' : B}
+    → IsIntervalInRange p.interval → ServesLine items pulled taken p now old line sink answer new line' sink'
+    → StaysInRange p now old (length (items line)) new (length (items line'))
+serves_stays {items = items} {p = p} {now = now} {old = old} {line = line} interval s =
+    let q = items line in
+    let kept = verdict_stays p now q old interval s.decides.verdict in
+    let left = ap (λ (l : List Waiting). length l) s.left.rest ∙ length-drop (s.drops + 1) q in
+    record { interval = kept.interval; drop_next = kept.drop_next; count = omega (arith, kept.count, left); lastcount = kept.lastcount }

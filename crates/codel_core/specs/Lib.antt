@@ -1,3 +1,4 @@
+pub mod Heads
 pub mod Queue
 pub mod Root
 pub mod Schedule

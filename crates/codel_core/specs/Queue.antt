@@ -14,6 +14,10 @@ bytes_of q = sum_by (λ w. w.packet.len) q
 abbrev pub IsLateBefore : ParamFields → ℕ → Waiting → List Waiting → Type 0
 IsLateBefore p now w behind = (w.stamp + p.target ≤ now) × (p.mtu < bytes_of behind)
 
+-- the same, with so many bytes behind it
+abbrev pub IsLateWith : ParamFields → ℕ → Waiting → ℕ → Type 0
+IsLateWith p now w behind = (w.stamp + p.target ≤ now) × (p.mtu < behind)
+
 -- place j of the queue exists, and its packet is late
 abbrev pub IsLate : ParamFields → ℕ → List Waiting → ℕ → Type 0
 IsLate p now q j = IsSomeAnd (slice_get q j) (λ w. IsLateBefore p now w (drop (j + 1) q))

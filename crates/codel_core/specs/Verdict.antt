@@ -7,7 +7,7 @@ use Rattle.codel_core.specs.declared.served.Mark.{Mark}
 use Rattle.codel_core.specs.declared.served.Mark.TheVariants.{NoMark, CodelMark, Threshold}
 use Rattle.codel_core.specs.declared.served.Served.{Served}
 use Rattle.codel_core.specs.declared.state.CodelState.{CodelState}
-use Rattle.codel_core.specs.Queue.{IsDroppable, IsLate, IsMarkableAt, is_past_threshold}
+use Rattle.codel_core.specs.Queue.{IsDroppable, IsLate, IsLateWith, IsMarkableAt, bytes_of, is_past_threshold}
 use Rattle.codel_core.specs.Schedule.{after_drops, drop_moment, entered, stopped_after}
 
 -- What becomes of first_above: it is given up where the packet isn't late. Where it is, it stays, or is set an interval
@@ -47,6 +47,19 @@ pub data Verdict (p : ParamFields) (now : ℕ) (q : List Waiting) (old : CodelSt
       → IsDroppable p now q old.first_above 0 → old.dropping ≡ true → ((j : ℕ) → j < k → IsDropped p now q old j)
       → Stops p now q old k mark new
       → Verdict p now q old k mark new
+
+-- That packet stands at place k of the queue, with so many bytes behind it.
+pub record IsAt (w : Waiting) (behind : ℕ) (q : List Waiting) (k : ℕ) : Type 0 where
+  pub head_is : Some w ≡ slice_get q k
+  pub bytes : behind ≡ bytes_of (drop (k + 1) q)
+
+-- On each queue with that head, and with so many bytes behind it, CoDel drops nothing and gives the head without a
+-- mark. The new state is that one.
+pub record SendsHead (p : ParamFields) (now : ℕ) (w : Waiting) (behind : ℕ) (old new : CodelState) : Type 0 where
+  pub first_above : FirstAbove (IsLateWith p now w behind) p.interval now old.first_above new.first_above
+  pub verdict :
+      (q : List Waiting) → IsAt w behind q 0
+      → Verdict p now q old 0 NoMark (record new { first_above = old.first_above })
 
 -- the mark of a packet that CoDel gives without one
 abbrev pub threshold_mark : ParamFields → ℕ → Waiting → Mark

@@ -1,14 +1,15 @@
 //! CoDel for one queue: what is kept of it, and the serve that drops, marks and gives.
 
-ghost use Rattle.std.specs.Prelude.{◌≡◌, ◌^◌, ◌<◌, ◌≤◌, ◌↔◌, [], drop, length, slice_get, IsNone, None, Some, false};
+ghost use Rattle.std.specs.Prelude.{◌≡◌, ◌^◌, ◌<◌, ◌≤◌, ◌↔◌, [], length, IsNone, None, Some, false};
 ghost use Rattle.packet_core.specs.Params.{IsIntervalInRange};
 ghost use Rattle.codel_core.specs.Schedule.{IsStateInRange, StaysInRange};
 ghost use Rattle.codel_core.specs.Queue.{HasCome, IsLateBefore};
 ghost use Rattle.codel_core.specs.Verdict.{IsHeadOf, ServesLine};
 
 use crate::control_law::spacing;
-use crate::judge::{enter, may_mark, should_drop};
-use crate::line::{DropSink, Pull};
+use crate::in_place::serve_heads;
+use crate::judge::{enter, may_mark, passes, should_drop};
+use crate::line::{DropSink, Heads, Pull, pull_waiting};
 use crate::served::Served;
 use crate::state::CodelState;
 use packet_core::{Params, Waiting};
@@ -83,21 +84,27 @@ impl Codel {
     {
         serve_from(&mut self.state, line, now, params, sink)
     }
-}
 
-/// Takes the head of a line that isn't empty.
-// Kept out of its caller: merged into it, each packet taken is copied once more on its way.
-#[inline(never)]
-fn pull_waiting<L: Pull>(line: &mut L) -> Waiting
-    requires { 0 < length (L.items line.old) }
-    ensures head { Some result ≡ slice_get (L.items line.old) 0 }
-    ensures rest { L.items line.new ≡ drop 1 (L.items line.old) }
-    ensures step { L.pulled line.old 1 line.new }
-{
-    let Some(head) = line.pull() else {
-        unreachable!()
-    };
-    head
+    /// Serves as `serve` does. Each packet stays where it stands until it is dropped or given.
+    pub fn serve_in_place<L: Heads, S: DropSink>(
+        &mut self,
+        line: &mut L,
+        now: u64,
+        params: &Params,
+        sink: &mut S,
+    ) -> Option<Served>
+        requires room { length (L.items line.old) ≤ S.room sink.old }
+        requires size { length (L.items line.old) ≤ 2 ^ 40 }
+        requires moment { now < 2 ^ 60 }
+        requires numbers { IsStateInRange self.old }
+        ensures none { IsNone result ↔ (L.items line.old ≡ []) }
+        ensures served { ServesLine L.items L.pulled S.taken params.now now
+            self.old line.old sink.old result self.new line.new sink.new }
+        ensures range { StaysInRange params.now now
+            self.old (length (L.items line.old)) self.new (length (L.items line.new)) }
+    {
+        serve_heads(&mut self.state, line, now, params, sink)
+    }
 }
 
 /// Serves as `Codel::serve` does, over the numbers alone.
@@ -126,16 +133,16 @@ fn serve_from<L: Pull, S: DropSink>(
         state.dropping = false;
         return None;
     };
-    if should_drop(state, first, line, now, params) {
-        return Some(serve_droppable(state, *first, line, now, params, sink));
+    if passes(state, first, line.bytes_left(), now, params) {
+        return Some(Served::by_threshold(first, now, params));
     }
-    state.dropping = false;
-    Some(Served::by_threshold(first, now, params))
+    Some(serve_droppable(state, *first, line, now, params, sink))
 }
 
 /// Goes on with a serve whose first packet was pulled and is droppable: that one is marked or dropped, or sent where no
 /// drop is due yet.
-// Kept out of its caller: most packets are sent without it.
+// Kept out of its caller, which sends most packets without it: those that aren't droppable, and those that are while
+// no drop is due yet.
 #[inline(never)]
 fn serve_droppable<L: Pull, S: DropSink>(
     state: &mut CodelState,
@@ -164,7 +171,7 @@ fn serve_droppable<L: Pull, S: DropSink>(
         sink.take(first);
         let second = pull_waiting(line);
         // It is sent, late or not: the next drop is due a spacing from now. The judgement keeps `first_above` right.
-        should_drop(state, &second, line, now, params);
+        should_drop(state, &second, line.bytes_left(), now, params);
         enter(state, now, params);
         return Served::by_threshold(&second, now, params);
     }
@@ -178,7 +185,7 @@ fn serve_droppable<L: Pull, S: DropSink>(
         }
         sink.take(head);
         head = pull_waiting(line);
-        if !should_drop(state, &head, line, now, params) {
+        if !should_drop(state, &head, line.bytes_left(), now, params) {
             // No further drop is due, so `drop_next` stays at the moment at which the last one was: should dropping
             // begin again, `first_count` takes the time since then for the time since that drop.
             state.dropping = false;

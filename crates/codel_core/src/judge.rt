@@ -1,49 +1,43 @@
 //! The judgements of a serve: whether a packet is late, droppable, markable or past the threshold, and how dropping
 //! begins.
 
-ghost use Rattle.std.specs.Prelude.{◌≡◌, ◌+◌, ◌^◌, ◌<◌, ◌≤◌, ◌↔◌, IsTrue, length};
-ghost use Rattle.codel_core.specs.Queue.{IsLateBefore, HasCome, is_markable, is_past_threshold};
+ghost use Rattle.std.specs.Prelude.{◌≡◌, ◌+◌, ◌^◌, ◌<◌, ◌≤◌, ◌↔◌, IsTrue, false};
+ghost use Rattle.codel_core.specs.Queue.{IsLateWith, HasCome, is_markable, is_past_threshold};
 ghost use Rattle.codel_core.specs.Schedule.{IsStateInRange, entered, resumed_count};
-ghost use Rattle.codel_core.specs.Verdict.{FirstAbove};
+ghost use Rattle.codel_core.specs.Verdict.{FirstAbove, SendsHead};
 
 use crate::control_law::spacing;
-use crate::line::Pull;
 use crate::state::CodelState;
 use packet_core::{Ecn, EcnUse, Params, Waiting};
 
-/// Whether a packet that was just pulled is late: it waited for the target, and more than `mtu` bytes
-/// are left behind it.
+/// Whether a packet is late: it waited for the target, and more than `mtu` bytes are left behind it.
 ///
 /// However long it waited, a packet with at most one packet's worth of bytes behind it is no sign of a standing
 /// queue: the link sends those bytes next, and then the queue is gone. A drop would only leave the link with less to
 /// send (RFC 8289, section 4.2). The packet's own bytes don't count, since it leaves the queue either way.
-fn is_late<L: Pull>(head: &Waiting, line: &L, now: u64, params: &Params) -> bool
-    requires { length (L.items line.now) ≤ 2 ^ 40 }
-    ensures { IsTrue result ↔ IsLateBefore params.now now head.now (L.items line.now) }
+fn is_late(head: &Waiting, behind: u64, now: u64, params: &Params) -> bool
+    ensures { IsTrue result ↔ IsLateWith params.now now head.now behind }
 {
-    head.stamp <= now
-        && params.target() <= now - head.stamp
-        && u64::from(params.mtu()) < line.bytes_left()
+    head.stamp <= now && params.target() <= now - head.stamp && u64::from(params.mtu()) < behind
 }
 
-/// Whether a packet that was just pulled is droppable (RFC 8289, section 5.6, `dodequeue`). It keeps
-/// `first_above`.
-pub(crate) fn should_drop<L: Pull>(
+/// Whether the head of a queue, with so many bytes behind it, is droppable (RFC 8289, section 5.6, `dodequeue`). It
+/// keeps `first_above`.
+pub(crate) fn should_drop(
     state: &mut CodelState,
     head: &Waiting,
-    line: &L,
+    behind: u64,
     now: u64,
     params: &Params,
 ) -> bool
-    requires size { length (L.items line.now) ≤ 2 ^ 40 }
-    requires moment { now < 2 ^ 60 }
+    requires { now < 2 ^ 60 }
     ensures droppable { IsTrue result
-        ↔ (IsLateBefore params.now now head.now (L.items line.now) × HasCome state.old.first_above now) }
-    ensures first_above { FirstAbove (IsLateBefore params.now now head.now (L.items line.now)) params.now.interval now
+        ↔ (IsLateWith params.now now head.now behind × HasCome state.old.first_above now) }
+    ensures first_above { FirstAbove (IsLateWith params.now now head.now behind) params.now.interval now
         state.old.first_above state.new.first_above }
     ensures rest { record state.new { first_above = state.old.first_above } ≡ state.old }
 {
-    if !is_late(head, line, now, params) {
+    if !is_late(head, behind, now, params) {
         state.first_above = None;
         return false;
     }
@@ -54,6 +48,27 @@ pub(crate) fn should_drop<L: Pull>(
         }
         Some(first_above) => first_above <= now,
     }
+}
+
+/// Whether the first packet of a serve, with so many bytes behind it, is sent without a mark of CoDel's: it isn't
+/// droppable, so that the queue stops to drop, or the queue drops and no drop is due yet.
+pub(crate) fn passes(
+    state: &mut CodelState,
+    head: &Waiting,
+    behind: u64,
+    now: u64,
+    params: &Params,
+) -> bool
+    requires { now < 2 ^ 60 }
+    ensures sent { IsTrue result → SendsHead params.now now head.now behind state.old state.new }
+    ensures droppable { result ≡ false → IsLateWith params.now now head.now behind × HasCome state.old.first_above now }
+    ensures unchanged { result ≡ false → state.new ≡ state.old }
+{
+    if !should_drop(state, head, behind, now, params) {
+        state.dropping = false;
+        return true;
+    }
+    state.dropping && now < state.drop_next
 }
 
 /// Whether a packet that would be dropped is marked and sent instead (RFC 8290, section 4.2).

@@ -4,6 +4,7 @@
 
 mod codel;
 mod control_law;
+mod in_place;
 mod judge;
 mod laws;
 mod line;
@@ -15,7 +16,7 @@ mod wide;
 pub use codel::Codel;
 pub use control_law::spacing;
 pub use laws::{one_spacing, one_verdict};
-pub use line::{DropSink, Pull};
+pub use line::{DropSink, Heads, Pull};
 pub use served::{Mark, Served};
 pub use state::CodelState;
 pub use wide::root;

@@ -1,6 +1,6 @@
 //! What CoDel takes packets from, and what takes the packets that it drops.
 
-ghost use Rattle.std.specs.Prelude.{◌≡◌, ℕ, ◌+◌, ◌^◌, ◌<◌, ◌≤◌, List, [], ◌∷◌, ◌++◌, length, drop, slice_get};
+ghost use Rattle.std.specs.Prelude.{◌≡◌, ℕ, ◌+◌, ◌^◌, ◌<◌, ◌≤◌, List, [], ◌∷◌, ◌++◌, length, drop, option_copied, slice_get};
 ghost use Rattle.packet_core.specs.declared.packet.Waiting.{Waiting};
 ghost use Rattle.codel_core.specs.Queue.{bytes_of};
 
@@ -28,6 +28,34 @@ pub trait Pull {
     ghost pulled_none: { (a : Self) → pulled a 0 a };
 
     ghost pulled_more: { (a b c : Self) (n : ℕ) → pulled a n b → pulled b 1 c → pulled a (n + 1) c };
+}
+
+/// A line whose head can be read where it stands.
+pub trait Heads: Pull {
+    /// The head. None where nothing waits.
+    fn head(&self) -> Option<&Waiting>
+        ensures { option_copied result ≡ slice_get (Self.items self.now) 0 };
+
+    /// The lengths of the packets behind the head, added up.
+    fn bytes_behind(&self) -> u64
+        requires some { 0 < length (Self.items self.now) }
+        requires size { length (Self.items self.now) ≤ 2 ^ 40 }
+        ensures { result ≡ bytes_of (drop 1 (Self.items self.now)) };
+}
+
+/// Takes the head of a line that isn't empty.
+// Kept out of its caller: merged into it, each packet taken is copied once more on its way.
+#[inline(never)]
+pub(crate) fn pull_waiting<L: Pull>(line: &mut L) -> Waiting
+    requires { 0 < length (L.items line.old) }
+    ensures head { Some result ≡ slice_get (L.items line.old) 0 }
+    ensures rest { L.items line.new ≡ drop 1 (L.items line.old) }
+    ensures step { L.pulled line.old 1 line.new }
+{
+    let Some(head) = line.pull() else {
+        unreachable!()
+    };
+    head
 }
 
 /// What takes the packets that CoDel drops.

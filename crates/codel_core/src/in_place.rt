@@ -1,0 +1,155 @@
+//! CoDel for a line that shows its head: each packet is judged where it stands, and read out once, as it leaves.
+
+ghost use Rattle.std.specs.Prelude.{◌≡◌, ◌+◌, ◌^◌, ◌<◌, ◌≤◌, ◌↔◌, [], length, slice_get, IsNone, IsTrue, None, Some};
+ghost use Rattle.packet_core.specs.Params.{IsIntervalInRange};
+ghost use Rattle.codel_core.specs.declared.served.Mark.TheVariants as marks;
+ghost use Rattle.codel_core.specs.Schedule.{IsStateInRange};
+ghost use Rattle.codel_core.specs.Queue.{IsDroppable, IsLate};
+ghost use Rattle.codel_core.specs.Verdict.{FirstAbove, ServesLine, threshold_mark};
+ghost use Rattle.codel_core.specs.Heads.{DropsHead, GivesHead};
+
+use crate::control_law::spacing;
+use crate::judge::{enter, may_mark, passes, should_drop};
+use crate::line::{DropSink, Heads, pull_waiting};
+use crate::served::Served;
+use crate::state::CodelState;
+use packet_core::{Params, Waiting};
+
+/// Serves as `Codel::serve_in_place` does, over the numbers alone.
+pub(crate) fn serve_heads<L: Heads, S: DropSink>(
+    state: &mut CodelState,
+    line: &mut L,
+    now: u64,
+    params: &Params,
+    sink: &mut S,
+) -> Option<Served>
+    requires room { length (L.items line.old) ≤ S.room sink.old }
+    requires size { length (L.items line.old) ≤ 2 ^ 40 }
+    requires moment { now < 2 ^ 60 }
+    requires numbers { IsStateInRange state.old }
+    ensures none { IsNone result ↔ (L.items line.old ≡ []) }
+    ensures served { ServesLine L.items L.pulled S.taken params.now now
+        state.old line.old sink.old result state.new line.new sink.new }
+    ensures interval { IsIntervalInRange params.now.interval }
+{
+    let _interval = params.interval();
+    let Some(first) = line.head() else {
+        // An empty line is no standing queue: the next packet that is late begins the interval anew.
+        state.first_above = None;
+        state.dropping = false;
+        let _ = line.pull();
+        return None;
+    };
+    if passes(state, first, line.bytes_behind(), now, params) {
+        let given = Served::by_threshold(first, now, params);
+        let _ = line.pull();
+        return Some(given);
+    }
+    Some(serve_droppable_head(state, line, now, params, sink))
+}
+
+/// Goes on with a serve whose first packet is droppable and still stands at the head of the line: that one is marked or
+/// dropped, or sent where no drop is due yet.
+// Kept out of its caller, which sends most packets without it: those that aren't droppable, and those that are while
+// no drop is due yet.
+#[inline(never)]
+fn serve_droppable_head<L: Heads, S: DropSink>(
+    state: &mut CodelState,
+    line: &mut L,
+    now: u64,
+    params: &Params,
+    sink: &mut S,
+) -> Served
+    requires room { length (L.items line.old) ≤ S.room sink.old }
+    requires size { length (L.items line.old) ≤ 2 ^ 40 }
+    requires moment { now < 2 ^ 60 }
+    requires numbers { IsStateInRange state.old }
+    requires droppable { IsDroppable params.now now (L.items line.old) state.old.first_above 0 }
+    ensures { ServesLine L.items L.pulled S.taken params.now now
+        state.old line.old sink.old (Some result) state.new line.new sink.new }
+{
+    let interval = params.interval();
+    if !state.dropping {
+        if may_mark(params, head_of(line)) {
+            enter(state, now, params);
+            return give_marked(line);
+        }
+        drop_head(line, sink);
+        // The next packet is sent, late or not: the next drop is due a spacing from now. The judgement keeps
+        // `first_above` right.
+        judge_head(state, line, now, params);
+        enter(state, now, params);
+        return give_head(line, now, params);
+    }
+    while state.drop_next <= now {
+        state.count += 1;
+        if may_mark(params, head_of(line)) {
+            // The mark tells the sender as a drop would. So it counts as one, and nothing has to leave in its place.
+            state.drop_next += spacing(interval, state.count);
+            return give_marked(line);
+        }
+        drop_head(line, sink);
+        if !judge_head(state, line, now, params) {
+            // No further drop is due, so `drop_next` stays at the moment at which the last one was: should dropping
+            // begin again, `first_count` takes the time since then for the time since that drop.
+            state.dropping = false;
+            return give_head(line, now, params);
+        }
+        state.drop_next += spacing(interval, state.count);
+    }
+    give_head(line, now, params)
+}
+
+/// The head of a line that isn't empty.
+fn head_of<L: Heads>(line: &L) -> &Waiting
+    requires { 0 < length (L.items line.now) }
+    ensures { Some result.now ≡ slice_get (L.items line.now) 0 }
+{
+    let Some(head) = line.head() else {
+        unreachable!()
+    };
+    head
+}
+
+/// Whether the head of a line that isn't empty is droppable. It keeps `first_above`.
+fn judge_head<L: Heads>(state: &mut CodelState, line: &L, now: u64, params: &Params) -> bool
+    requires some { 0 < length (L.items line.now) }
+    requires size { length (L.items line.now) ≤ 2 ^ 40 }
+    requires moment { now < 2 ^ 60 }
+    ensures droppable { IsTrue result ↔ IsDroppable params.now now (L.items line.now) state.old.first_above 0 }
+    ensures first_above { FirstAbove (IsLate params.now now (L.items line.now) 0) params.now.interval now
+        state.old.first_above state.new.first_above }
+    ensures rest { record state.new { first_above = state.old.first_above } ≡ state.old }
+{
+    should_drop(state, head_of(line), line.bytes_behind(), now, params)
+}
+
+/// The head of a line that isn't empty goes to the sink.
+fn drop_head<L: Heads, S: DropSink>(line: &mut L, sink: &mut S)
+    requires some { 0 < length (L.items line.old) }
+    requires room { 0 < S.room sink.old }
+    ensures dropped { DropsHead L.items L.pulled S.taken line.old sink.old line.new sink.new }
+    ensures room { S.room sink.new + 1 ≡ S.room sink.old }
+{
+    sink.take(pull_waiting(line));
+}
+
+/// Gives the head of a line that isn't empty, without a mark of CoDel's.
+fn give_head<L: Heads>(line: &mut L, now: u64, params: &Params) -> Served
+    requires { 0 < length (L.items line.old) }
+    ensures { GivesHead L.items L.pulled (threshold_mark params.now now) line.old result line.new }
+{
+    let given = Served::by_threshold(head_of(line), now, params);
+    let _ = line.pull();
+    given
+}
+
+/// Gives the head of a line that isn't empty, with CoDel's mark.
+fn give_marked<L: Heads>(line: &mut L) -> Served
+    requires { 0 < length (L.items line.old) }
+    ensures { GivesHead L.items L.pulled (λ _. marks.CodelMark) line.old result line.new }
+{
+    let given = Served::by_codel(head_of(line));
+    let _ = line.pull();
+    given
+}
