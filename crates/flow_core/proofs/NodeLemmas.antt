@@ -1,5 +1,5 @@
 -- Nodes and the flows below them.
-use Rattle.std.proofs.Common.{◌≡◌, ℕ, zero, suc, ◌+◌, ◌*◌, ◌/◌, ◌%◌, ◌^◌, ◌<◌, ◌≤◌, inl, inr, refl, sym, ap, ◌∙◌, zero-add, arith}
+use Rattle.std.proofs.Common.{◌≡◌, ℕ, zero, suc, ◌+◌, ◌-◌, ◌*◌, ◌/◌, ◌%◌, ◌^◌, ◌<◌, ◌≤◌, min, inl, inr, refl, sym, ap, ◌∙◌, zero-add, arith}
 use Rattle.std.proofs.Math.Nat.{suc-add, pow-suc}
 use Rattle.std.proofs.Math.Pow.{pow_mono}
 use Rattle.std.proofs.lemmas.Bool.{cases_lt}
@@ -119,6 +119,27 @@ not_beside {leaves} {flow} {node} some below also =
     elim (cases_lt node (beside node)) [
       | inl less ↦ omega (arith, none_between also below less)
       | inr most ↦ omega (arith, none_between below also (omega arith))
+    ]
+
+-- where the node so many levels above one is less than that above another one, so is the one
+node_above-less : (h a b : ℕ) → node_above h a < node_above h b → a < b
+node_above-less zero a b less = less
+node_above-less (suc h) a b less = let half = node_above-less h (a / 2) (b / 2) less in omega arith
+
+-- of two flows below the two nodes under one, that below the left node has the lesser number
+pub margin_beside : {leaves node a b : ℕ} (levels : ℕ) → leaves ≡ 2 ^ levels → 2 ≤ node → IsBelow leaves node a → IsBelow leaves (beside node) b → min 1 (a - b) ≡ node % 2
+margin_beside {leaves} {node} {a} {b} levels doubled some own other =
+    let twice = pow-suc 2 levels in
+    let one = below_next own in
+    let also = below_next other in
+    let same =
+    same_level (suc own.levels) (suc other.levels) levels (leaves + a) (leaves + b) (omega arith) (omega (arith, own.within)) (omega arith) (omega (arith, other.within))
+    (omega (arith, one.meets)) (omega (arith, one.meets, also.meets)) in
+    let height : other.levels ≡ own.levels = omega (arith, same) in
+    let meets : node_above own.levels (leaves + b) ≡ beside node = ap (λ (h : ℕ). node_above h (leaves + b)) (sym height) ∙ other.meets in
+    elim (cases_lt (beside node) node) [
+      | inl left ↦ let less = node_above-less own.levels (leaves + b) (leaves + a) (omega (arith, meets, own.meets)) in omega arith
+      | inr right ↦ let less = node_above-less own.levels (leaves + a) (leaves + b) (omega (arith, meets, own.meets)) in omega arith
     ]
 
 -- a node over a flow has no greater number than the flow's leaf

@@ -285,6 +285,10 @@ module _ {leaves : ℕ} {old bytes before : List ℕ} {flow top height : ℕ} (t
         climbs_grown x won few =
             climbs_next climbs some flow x (grown_wins (node / 2) (get_or winners (node / 2) 0) (below_next climbs.over) (next_was climbs some) won) few
 
+        -- it wins over who won at the top, and so at the next node
+        pub climbs_won : WinsOver bytes flow (get_or before top 0) → Climbs leaves bytes before (set winners (node / 2) flow) flow top (node / 2) 0
+        climbs_won won = climbs_next climbs some flow 0 (wins_above won (node / 2) (below_next climbs.over)) (omega arith)
+
         -- it won there already
         pub climbs_still : get_or winners (node / 2) 0 ≡ flow → Climbs leaves bytes before winners flow top (node / 2) made
         climbs_still same =

@@ -207,16 +207,24 @@ fn count(comparisons: &mut u64, made: u64)
     *comparisons = comparisons.saturating_add(made);
 }
 
-// Whether a flow's count wins over that of another one, which wins a tie where its number is less: one sum, which was
-// faster than two conditions. Each comparison of two counts is made here, and counted.
-fn wins_over(comparisons: &mut u64, flow: u32, bytes: u64, other: u32, other_bytes: u64) -> bool
+// How many bytes more than another one a flow needs to win over it: none where its number is less, since it wins a tie.
+fn margin_over(flow: u32, other: u32) -> u64
+    ensures { result ≡ min 1 (flow - other) }
+{
+    u64::from(other < flow)
+}
+
+// Whether a flow's count wins over that of another one, by a margin that a tie needs or not: one sum, which was faster
+// than two conditions. Each comparison of two counts is made here, and counted.
+fn wins_over(comparisons: &mut u64, bytes: u64, other_bytes: u64, margin: u64) -> bool
     requires few { comparisons.old < 2 ^ 32 }
     requires other { other_bytes < 2 ^ 63 }
-    ensures wins { IsTrue result ↔ (other_bytes + min 1 (flow - other) ≤ bytes) }
+    requires margin { margin ≤ 1 }
+    ensures wins { IsTrue result ↔ (other_bytes + margin ≤ bytes) }
     ensures counted { comparisons.new ≡ comparisons.old + 1 }
 {
     *comparisons += 1;
-    other_bytes + u64::from(other < flow) <= bytes
+    other_bytes + margin <= bytes
 }
 
 // The node beside one, below the same node.
@@ -227,8 +235,7 @@ fn node_beside(node: usize) -> usize
 }
 
 // A flow's count grows to that one, which isn't among the bytes yet: it wins at each node above its leaf, up to the
-// first where another flow still does, or to the top. Where it stands outside of that, the top moves: to its leaf if no
-// flow had bytes, else up. The result is how often two counts were compared.
+// first where another flow still does, or to the top. The result is how often two counts were compared.
 #[inline(always)]
 fn raise(bytes: &[u64], winners: &mut [u32], top: &mut Top, flow: u32, own: u64) -> u64
     requires flow { flow < length bytes.now }
@@ -239,35 +246,84 @@ fn raise(bytes: &[u64], winners: &mut [u32], top: &mut Top, flow: u32, own: u64)
     ensures few { (levels : ℕ) → length bytes.now ≡ 2 ^ levels → result ≤ levels }
     ensures compares { 2 ≤ length bytes.now → 1 ≤ result }
 {
-    let leaf = bytes.len() + flow as usize;
     // One flow has no node above its leaf.
-    if leaf < 2 {
+    if bytes.len() < 2 {
         return 0;
     }
+    if bytes[flow as usize] == 0 {
+        return raise_from_none(bytes, winners, top, flow, own);
+    }
+    // It has bytes, and so it stands below the top.
+    raise_below_top(bytes, winners, *top, flow, own)
+}
+
+// The same of a flow that had no bytes, which may stand outside of the top. Then the top moves: to its leaf if no flow
+// had bytes, else up. It is kept out of an enqueue, where most flows have bytes.
+#[inline(never)]
+fn raise_from_none(bytes: &[u64], winners: &mut [u32], top: &mut Top, flow: u32, own: u64) -> u64
+    requires flow { flow < length bytes.now }
+    requires several { 2 ≤ length bytes.now }
+    requires small { All (λ b. b < 2 ^ 63) bytes.now }
+    requires tree { IsTree (length bytes.now) bytes.now winners.old top.old.node top.old.height }
+    requires none { slice_index bytes.now flow ≡ 0 }
+    ensures tree { IsTree (length bytes.now) (slice_set bytes.now flow own) winners.new top.new.node top.new.height }
+    ensures few { (levels : ℕ) → length bytes.now ≡ 2 ^ levels → result ≤ levels }
+    ensures compares { 1 ≤ result }
+{
+    let leaf = bytes.len() + flow as usize;
     let most = winners[top.node];
     let most_bytes = bytes[most as usize];
-    if most_bytes > 0 && leaf >> top.height != top.node {
-        return rise(bytes, winners, top, flow, own);
-    }
-    let mut comparisons = 0;
-    let wins = wins_over(&mut comparisons, flow, own, most, most_bytes);
     if most_bytes == 0 {
+        let mut comparisons = 0;
+        let _wins = wins_over(&mut comparisons, own, most_bytes, margin_over(flow, most));
         // No flow had bytes, and so no other one has.
         *top = Top::of_leaf(leaf);
         return comparisons;
     }
-    if !wins {
-        return climb(bytes, winners, *top, flow, own);
+    if leaf >> top.height != top.node {
+        return rise(bytes, winners, top, flow, own);
     }
-    // It wins over the winner of all flows, and so over each one. Where it is that winner, no node changes.
-    if most != flow {
-        let mut node = leaf;
-        while node != top.node {
-            node /= 2;
-            winners[node] = flow;
+    raise_below_top(bytes, winners, *top, flow, own)
+}
+
+// The same of a flow below the top, where some flow has bytes.
+#[inline(always)]
+fn raise_below_top(bytes: &[u64], winners: &mut [u32], top: Top, flow: u32, own: u64) -> u64
+    requires flow { flow < length bytes.now }
+    requires several { 2 ≤ length bytes.now }
+    requires small { All (λ b. b < 2 ^ 63) bytes.now }
+    requires tree { IsTree (length bytes.now) bytes.now winners.old top.node top.height }
+    requires below { IsBelow (length bytes.now) top.node flow }
+    requires waits { 0 < slice_index bytes.now (slice_index winners.old top.node) }
+    requires grows { slice_index bytes.now flow ≤ own }
+    ensures tree { IsTree (length bytes.now) (slice_set bytes.now flow own) winners.new top.node top.height }
+    ensures few { (levels : ℕ) → length bytes.now ≡ 2 ^ levels → result ≤ levels }
+    ensures compares { 1 ≤ result }
+{
+    let most = winners[top.node];
+    let mut comparisons = 0;
+    let wins = wins_over(
+        &mut comparisons,
+        own,
+        bytes[most as usize],
+        margin_over(flow, most),
+    );
+    // The winner of all flows has no less than it had: no node changes.
+    if most == flow {
+        return comparisons;
+    }
+    if !wins {
+        return climb(bytes, winners, top, flow, own);
+    }
+    // It wins over the winner of all flows, and so over each one, up to the top.
+    let mut node = bytes.len() + flow as usize;
+    loop {
+        node /= 2;
+        winners[node] = flow;
+        if node == top.node {
+            return comparisons;
         }
     }
-    comparisons
 }
 
 // The same where another flow still wins at the top, which isn't compared again: that one comparison is in the result.
@@ -290,7 +346,8 @@ fn climb(bytes: &[u64], winners: &mut [u32], top: Top, flow: u32, own: u64) -> u
         let winner = winners[node];
         // Where it won already it still does, with nothing to compare.
         if winner != flow {
-            if !wins_over(&mut comparisons, flow, own, winner, bytes[winner as usize]) {
+            let margin = margin_over(flow, winner);
+            if !wins_over(&mut comparisons, own, bytes[winner as usize], margin) {
                 return comparisons;
             }
             winners[node] = flow;
@@ -326,16 +383,20 @@ fn rise(bytes: &[u64], winners: &mut [u32], top: &mut Top, flow: u32, own: u64) 
         }
     }
     let mut comparisons = 0;
-    let wins = wins_over(&mut comparisons, flow, own, most, bytes[most as usize]);
+    let wins = wins_over(
+        &mut comparisons,
+        own,
+        bytes[most as usize],
+        margin_over(flow, most),
+    );
     winners[node] = if wins { flow } else { most };
     comparisons
 }
 
 // A flow's count falls to that one, which isn't among the bytes yet: each node from its leaf to the top gets its
 // winner anew, up to the first where another flow won. The result is how often two counts were compared: once at each
-// node where the flow had won. Its loop wants all registers, and so it is kept out of a dequeue, which has a packet in
-// hand.
-#[inline(never)]
+// node where the flow had won.
+#[inline(always)]
 fn lower(bytes: &[u64], winners: &mut [u32], top: Top, flow: u32, own: u64) -> u64
     requires flow { flow < length bytes.now }
     requires small { All (λ b. b < 2 ^ 63) bytes.now }
@@ -345,20 +406,43 @@ fn lower(bytes: &[u64], winners: &mut [u32], top: Top, flow: u32, own: u64) -> u
     ensures tree { IsTree (length bytes.now) (slice_set bytes.now flow own) winners.new top.node top.height }
     ensures few { (levels : ℕ) → length bytes.now ≡ 2 ^ levels → result ≤ levels }
 {
-    let mut node = bytes.len() + flow as usize;
+    let leaf = bytes.len() + flow as usize;
+    // Where its leaf is the top, or another flow won at the node above it, no node changes.
+    if leaf <= top.node || winners[leaf / 2] != flow {
+        return 0;
+    }
+    lower_from(bytes, winners, top, leaf, flow, own)
+}
+
+// The same from the flow's leaf on. Its loop wants all registers, and so it is kept out of a dequeue, which has a
+// packet in hand.
+#[inline(never)]
+fn lower_from(bytes: &[u64], winners: &mut [u32], top: Top, leaf: usize, flow: u32, own: u64) -> u64
+    requires flow { flow < length bytes.now }
+    requires leaf { leaf ≡ length bytes.now + flow }
+    requires small { All (λ b. b < 2 ^ 63) bytes.now }
+    requires tree { IsTree (length bytes.now) bytes.now winners.old top.node top.height }
+    requires waits { 0 < slice_index bytes.now flow }
+    requires falls { own ≤ slice_index bytes.now flow }
+    ensures tree { IsTree (length bytes.now) (slice_set bytes.now flow own) winners.new top.node top.height }
+    ensures few { (levels : ℕ) → length bytes.now ≡ 2 ^ levels → result ≤ levels }
+{
+    let mut node = leaf;
     let mut comparisons = 0;
     // The winner so far and its bytes are carried along, so that no level waits for what the one below wrote.
     let mut winner = flow;
     let mut most = own;
     while node > top.node {
         let beside = node_beside(node);
+        // The flows below the left one of two nodes have the lesser numbers, and win each tie.
+        let margin = (node % 2) as u64;
         node /= 2;
         if winners[node] != flow {
             return comparisons;
         }
         let other = winners[beside];
         let other_bytes = bytes[other as usize];
-        if !wins_over(&mut comparisons, winner, most, other, other_bytes) {
+        if !wins_over(&mut comparisons, most, other_bytes, margin) {
             winner = other;
             most = other_bytes;
         }

@@ -28,7 +28,7 @@ loop-node-preserved-then-winner-flow c =
     let bytes = c.args.bytes.now in
     let x = get_or c.loop-node.winners (c.loop-node.node / 2) 0 in
     let more = written_more bytes c.args.flow c.args.own c.requires.flow c.requires.grows in
-    let won = wins_read bytes c.args.flow c.args.own c.requires.flow x (c.wins_over.ensures.wins.0 c.if-not-wins_over.false) in
+    let won = wins_read bytes c.args.flow c.args.own c.requires.flow x (omega (arith, c.margin_over-margin.ensures, c.wins_over.ensures.wins.0 c.if-not-wins_over.false)) in
     record {
       climbs = climbs_grown c.requires.tree (count_written bytes c.args.flow c.args.own) c.requires.below more c.loop-node.invariant.climbs (omega arith)
           (c.wins_over.new.comparisons - 1) won (omega (arith, c.wins_over.ensures.counted));

@@ -1,7 +1,7 @@
 use Rattle.std.proofs.Common.{◌≡◌, get_or, length, set}
 use Rattle.flow_core.specs.WinnerNodes.{IsWinner}
 use Rattle.flow_core.proofs.WinnerLemmas.{Climbs}
-use Rattle.flow_core.proofs.winner_tree.lower.Given as goal
+use Rattle.flow_core.proofs.winner_tree.lower_from.Given as goal
 
 -- the winner at the node has its bytes beside it
 abbrev pub invariant-loop-node : goal.invariant-loop-node
