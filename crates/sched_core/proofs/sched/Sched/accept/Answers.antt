@@ -1,9 +1,9 @@
 use Rattle.std.proofs.Common.{◌≡◌, refl, arith}
 use Rattle.packet_core.specs.FlowNumber.{flow_number}
 use Rattle.sched_core.proofs.KeptScheduler.{Accepts, advances, few_admitted, few_compared, grown, kept_admits}
-use Rattle.sched_core.proofs.sched.Sched.admit.Given as given
-use Rattle.sched_core.proofs.sched.Sched.admit.Goals.{After-overflow}
-use Rattle.sched_core.proofs.sched.Sched.admit.Goals as goal
+use Rattle.sched_core.proofs.sched.Sched.accept.Given as given
+use Rattle.sched_core.proofs.sched.Sched.accept.Goals.{After-overflow}
+use Rattle.sched_core.proofs.sched.Sched.accept.Goals as goal
 
 accepts : (g : given.Over) (c : After-overflow g) → let s = c.self.inside in
     Accepts s.params s.seed s.backlog c.arrive.new.self c.overflow.new.self s.journal c.overflow.new.journal s.last_moment c.args.moment c.args.lane s.room c.args.packet s.is_closed

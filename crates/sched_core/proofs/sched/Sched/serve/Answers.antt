@@ -1,8 +1,7 @@
-use Rattle.std.proofs.Common.{None, Some, option_map, ap, refl}
-use Rattle.journal_core.specs.declared.step.Refusal.TheVariants.{Moment}
+use Rattle.std.proofs.Common.{None, Some, refl}
 use Rattle.fair_core.specs.Turns.{service_in}
 use Rattle.sched_core.proofs.KeptScheduler.{few_served, is_served, kept_counted, kept_serves, room_for_sent, told_none, told_some}
-use Rattle.sched_core.proofs.sched.Sched.dequeue.Goals as goal
+use Rattle.sched_core.proofs.sched.Sched.serve.Goals as goal
 
 pub invariant_of-self : goal.invariant_of-self
 invariant_of-self g c =
@@ -10,7 +9,7 @@ invariant_of-self g c =
     record {
       book = kept_serves s.params s.seed (record s.backlog { comparisons = 0 }) c.serve-serving.new.self s.journal c.serve-serving.new.journal s.last_moment c.args.moment c.serve-serving.result.turns s.room s.is_closed None
           (rw (c.clear_comparisons.ensures, c.in_default.is) at c.serve-serving.ensures.chain) (rw c.clear_comparisons.ensures at c.serve-serving.ensures.arrived) (rw c.clear_comparisons.ensures at c.serve-serving.ensures.room)
-          (ap (option_map Moment) c.in_ok-test_moment.ensures) (kept_counted s.params s.seed s.backlog s.journal s.last_moment s.room 0 s.is_closed c.self.invariant.book);
+          (rw (← c.self.view_is) at c.requires) (kept_counted s.params s.seed s.backlog s.journal s.last_moment s.room 0 s.is_closed c.self.invariant.book);
       numbers = c.self.invariant.numbers;
     }
 
@@ -20,7 +19,7 @@ returns-in_default-clause-made g c =
     let chain = rw (c.clear_comparisons.ensures, c.in_default.is) at c.serve-serving.ensures.chain in
     rw (← c.self.view_is, told_none s.params s.seed c.args.moment (service_in chain.turns) chain.answered.given)
     (is_served s.params s.seed (record s.backlog { comparisons = 0 }) c.serve-serving.new.self s.journal c.serve-serving.new.journal s.last_moment c.args.moment s.turns c.serve-serving.result.turns s.backlog.comparisons c.serve-serving.new.self.comparisons s.room s.is_closed None
-    chain (rw c.clear_comparisons.ensures at c.serve-serving.ensures.arrived) (rw c.clear_comparisons.ensures at c.serve-serving.ensures.sound) c.serve-serving.ensures.quantum c.self.invariant.book.credits (ap (option_map Moment) c.in_ok-test_moment.ensures))
+    chain (rw c.clear_comparisons.ensures at c.serve-serving.ensures.arrived) (rw c.clear_comparisons.ensures at c.serve-serving.ensures.sound) c.serve-serving.ensures.quantum c.self.invariant.book.credits (rw (← c.self.view_is) at c.requires))
 
 pub send-requires : goal.send-requires
 send-requires g c =
@@ -35,7 +34,7 @@ invariant_of-self-2 g c =
       book = rw c.send.ensures
           (kept_serves s.params s.seed (record s.backlog { comparisons = 0 }) c.serve-serving.new.self s.journal c.serve-serving.new.journal s.last_moment c.args.moment c.serve-serving.result.turns s.room s.is_closed (Some c.in-Some.served)
           (rw (c.clear_comparisons.ensures, c.in-Some.is) at c.serve-serving.ensures.chain) (rw c.clear_comparisons.ensures at c.serve-serving.ensures.arrived) (rw c.clear_comparisons.ensures at c.serve-serving.ensures.room)
-          (ap (option_map Moment) c.in_ok-test_moment.ensures) (kept_counted s.params s.seed s.backlog s.journal s.last_moment s.room 0 s.is_closed c.self.invariant.book));
+          (rw (← c.self.view_is) at c.requires) (kept_counted s.params s.seed s.backlog s.journal s.last_moment s.room 0 s.is_closed c.self.invariant.book));
       numbers = c.self.invariant.numbers;
     }
 
@@ -45,7 +44,7 @@ returns-clause-made g c =
     let chain = rw (c.clear_comparisons.ensures, c.in-Some.is) at c.serve-serving.ensures.chain in
     rw (← c.self.view_is, c.send.ensures, c.sent_of-sent.ensures, told_some s.params s.seed c.args.moment (service_in chain.turns) c.in-Some.served chain.answered.given)
     (is_served s.params s.seed (record s.backlog { comparisons = 0 }) c.serve-serving.new.self s.journal c.serve-serving.new.journal s.last_moment c.args.moment s.turns c.serve-serving.result.turns s.backlog.comparisons c.serve-serving.new.self.comparisons s.room s.is_closed (Some c.in-Some.served)
-    chain (rw c.clear_comparisons.ensures at c.serve-serving.ensures.arrived) (rw c.clear_comparisons.ensures at c.serve-serving.ensures.sound) c.serve-serving.ensures.quantum c.self.invariant.book.credits (ap (option_map Moment) c.in_ok-test_moment.ensures))
+    chain (rw c.clear_comparisons.ensures at c.serve-serving.ensures.arrived) (rw c.clear_comparisons.ensures at c.serve-serving.ensures.sound) c.serve-serving.ensures.quantum c.self.invariant.book.credits (rw (← c.self.view_is) at c.requires))
 
 pub returns-in_default-clause-few_comparisons : goal.returns-in_default-clause-few_comparisons
 returns-in_default-clause-few_comparisons g c =
