@@ -6,6 +6,7 @@ ghost use Rattle.journal_core.specs.declared.outcome.Answer.TheVariants as answe
 ghost use Rattle.journal_core.specs.declared.step.Refusal.TheVariants as refusal;
 
 use crate::flow_numbers::FlowNumbers;
+use crate::spare::Spare;
 use codel_core::Served;
 use fair_core::{Backlog, FlowView};
 use journal_core::{
@@ -61,7 +62,7 @@ pub struct Sched<K: Keeps<Event> = Stored> {
     last_moment: u64,
     is_closed: bool,
     turns: u64,
-    room: u64,
+    spare: Spare,
 }
 
 impl<K: Keeps<Event>> Model for Sched<K> {
@@ -110,7 +111,7 @@ impl<K: Keeps<Event>> Sched<K> {
             last_moment: 0,
             is_closed: false,
             turns: 0,
-            room: 0,
+            spare: Spare::none(),
         })
     }
 
@@ -123,15 +124,8 @@ impl<K: Keeps<Event>> Sched<K> {
         ensures missing { OnErr result (self.old.room < enqueues) }
         ensures err { OnErr result (self.new ≡ self.old) }
     {
-        if enqueues <= self.room {
-            return Ok(());
-        }
-        // The fates of the packets that wait, the close, and each packet more with its fate.
-        let events = self.backlog.waiting() + 1 + 2 * enqueues;
-        self.journal.reserve(events as usize)?;
-        self.backlog.reserve(enqueues)?;
-        self.room = enqueues;
-        Ok(())
+        self.spare
+            .reserve(enqueues, &mut self.backlog, &mut self.journal)
     }
 
     /// Accepts a packet from a lane at a moment, in microseconds, into the queue of its flow, and takes room for
@@ -174,20 +168,7 @@ impl<K: Keeps<Event>> Sched<K> {
         ensures missing { OnErr result (self.old.room ≡ 0) }
         ensures unchanged { OnErr result (self.new ≡ self.old) }
     {
-        self.reserve(1)?;
-        Ok(self.accept(moment, lane, packet))
-    }
-
-    /// Accepts a packet that is not refused.
-    fn accept(&mut self, moment: u64, lane: u32, packet: Packet) -> Admitted
-        requires fits { refusal_of self.old.standing.state (Enqueue moment lane packet) ≡ None }
-        requires room { 0 < self.old.room }
-        ensures admitted { result ≡ admitted_at (discipline_of self.old) self.old.standing.state moment packet }
-        ensures made { IsAdvanced self.old (Enqueue moment lane packet) answer.Accepted self.new }
-        ensures room { self.new.room + 1 ≡ self.old.room }
-        ensures few_comparisons { ComparesFew self.old self.new }
-        ensures compares { 2 ≤ self.old.params.flows → 1 ≤ self.new.comparisons }
-    {
+        self.spare.provide(&mut self.backlog, &mut self.journal)?;
         let waiting = Waiting {
             id: self.backlog.arrived(),
             stamp: moment,
@@ -200,12 +181,12 @@ impl<K: Keeps<Event>> Sched<K> {
         self.backlog
             .overflow(&self.params, moment, &mut self.journal);
         self.last_moment = moment;
-        self.room -= 1;
-        Admitted {
+        self.spare.spend();
+        Ok(Admitted {
             id: waiting.id,
             moment,
             flow,
-        }
+        })
     }
 
     /// Gives the packet that is next in turn, or nothing where none waits, at a moment in microseconds (RFC 8290,
