@@ -37,6 +37,7 @@ use Rattle.journal_core.specs.JournalLaws.{JournalLaws, WaitWithoutFate}
 use Rattle.sched_core.specs.declared.sched.Sched.TheInside.{Inside}
 use Rattle.sched_core.specs.Kept.{IsBookKept, IsKept, closes_left, scheduler_of}
 use Rattle.fair_core.specs.Overflow.{Overflow}
+use Rattle.sched_core.specs.Spares.{TakesMemory}
 use Rattle.sched_core.specs.Schedulers.{ComparesFew, IsServed, Scheduler, discipline_of, flows_of}
 use Rattle.journal_core.specs.State.{State, arrival, refusal_of}
 use Rattle.journal_core.specs.Statistics.{length_named, statistics}
@@ -123,11 +124,11 @@ module _ (p : ParamFields) (seed : Seed) where
       ∙ sym (length_as_sum (without_fate events))
 
   -- A step that is made, whose events took their room and are counted: each of them is a fate, the acceptance or the close.
-  kept_on : {old new : State FairQueues} {spare spare' room room' : ℕ} {book book' : Book} (step : Step) (said : Answer) → IsBookKept p seed old spare book room
+  kept_on : {old new : State FairQueues} {places places' spare spare' : ℕ} {book book' : Book} (step : Step) (said : Answer) → IsBookKept p seed old places book spare
       → (a : Advances (fq_codel p seed) (standing_of old book) step said (standing_of new book')) → book'.room ≡ book.room - length a.made → AreCounts book'.counts book'.events
       → length a.made + old.next_id + closes_left new.closed ≡ length (fate_ids a.made) + new.next_id + closes_left old.closed → new.next_id ≤ 2 ^ 40 → new.last < 2 ^ 60
-      → room' ≤ spare' → room' + new.next_id ≡ room + old.next_id → IsBookKept p seed new spare' book' room'
-  kept_on {old} {new} {spare} {spare'} {room} {room'} {book} {book'} step said h a taken counts each few soon reserved rooms =
+      → spare' ≤ places' → spare' + new.next_id ≡ spare + old.next_id → IsBookKept p seed new places' book' spare'
+  kept_on {old} {new} {places} {places'} {spare} {spare'} {book} {book'} step said h a taken counts each few soon reserved spares =
       let d = fq_codel p seed in
       let flows = makes_as_many (fq_codel_policy p) (policy_drops p) p.flows d.flow_of old new step said a.made a.makes ∙ h.flows in
       let history : IsHistory d.flow_of (queue_of new.queues) book'.events new.next_id new.last new.closed =
@@ -159,13 +160,38 @@ module _ (p : ParamFields) (seed : Seed) where
       longer a = rw (a.journal, filter_map-append acceptance_of book.events a.made) (longest_grows (acceptances book.events) (acceptances a.made))
 
   -- a close
-  pub kept_closes : {s : State FairQueues} {spare room : ℕ} {book : Book} (moment : ℕ) → refusal_of s (Close moment) ≡ None
-      → IsBookKept p seed s spare book room → IsBookKept p seed (record s { last = moment; closed = true }) spare (with_event book (Closed moment) book.counts) room
+  pub kept_closes : {s : State FairQueues} {places spare : ℕ} {book : Book} (moment : ℕ) → refusal_of s (Close moment) ≡ None
+      → IsBookKept p seed s places book spare → IsBookKept p seed (record s { last = moment; closed = true }) places (with_event book (Closed moment) book.counts) spare
   kept_closes {s} {book = book} moment fits h =
       let open' = close_open s moment fits in
       let one : closes_left s.closed ≡ 1 = ap closes_left open'.open' in
       kept_on (Close moment) answer.Closed h (record { fits = fits; made = Closed moment ∷ []; makes = (refl, record { told = refl; state = refl }); journal = refl })
       refl (counts_close book.counts book.events moment h.counts) (omega arith) h.few open'.next.soon h.reserved refl
+
+-- one close at most is still to come
+one_close : (closed : Bool) → closes_left closed ≤ 1
+one_close true = omega arith
+one_close false = omega arith
+
+-- what is kept with the memory that is taken
+pub kept_takes : {p : ParamFields} {seed : Seed} {held held' : Held} {book book' : Book} {last spare spare' : ℕ} {closed : Bool} (m : TakesMemory spare held book spare' held' book')
+    → IsBookKept p seed (state_of held last closed) held.room book spare
+    → IsBookKept p seed (state_of held last closed) m.places (record book { room = m.events }) spare'
+kept_takes {closed = closed} m h =
+    let enough = m.enough (closes_left closed) (one_close closed) (record { places = h.reserved; events = h.space }) in
+    record {
+      some = h.some;
+      flows = h.flows;
+      space = rw (m.in_flows, m.in_journal) at enough.events;
+      reserved = rw m.in_flows at enough.places;
+      long = h.long;
+      accepted = h.accepted;
+      few = h.few;
+      soon = h.soon;
+      history = h.history;
+      counts = h.counts;
+      credits = h.credits;
+    }
 
 -- what holds at the heads of all queues holds of each batch that leaves them
 all_in_batches : (P : Waiting → Type 0) (batches : List Batch)
@@ -183,18 +209,18 @@ abbrev recorded : ParamFields → Seed → Held → Book → ℕ → ℕ → Pac
 recorded p seed held book moment lane packet = with_event book (accepted p seed held moment lane packet) (count_accepted book.counts packet.len)
 
 -- What the code does with a packet that is accepted: it arrives, which is recorded, and what overflows is dropped.
-pub record Accepts (p : ParamFields) (seed : Seed) (held mid new : Held) (book book' : Book) (last moment lane room : ℕ) (packet : PacketParts) (closed : Bool) : Type 0 where
+pub record Accepts (p : ParamFields) (seed : Seed) (held mid new : Held) (book book' : Book) (last moment lane spare : ℕ) (packet : PacketParts) (closed : Bool) : Type 0 where
   pub fits : refusal_of (state_of held last closed) (Enqueue moment lane packet) ≡ None
-  pub some : 0 < room
-  pub kept : IsBookKept p seed (state_of held last closed) held.room book room
+  pub some : 0 < spare
+  pub kept : IsBookKept p seed (state_of held last closed) held.room book spare
   pub listed : mid.queues ≡ with_arrival_listed p held.queues ((fq_codel p seed).flow_of packet.tuple) (arrival (state_of held last closed) moment packet)
   pub arrived : mid.arrived ≡ held.arrived + 1
   pub reserved : mid.room + 1 ≡ held.room
   pub few_comparisons : CountsFew (length held.queues.lists.queues) 1 0 mid.comparisons
   pub drops : DropsOverflow p moment mid (recorded p seed held book moment lane packet) new book'
 
-module _ {p : ParamFields} {seed : Seed} {held mid new : Held} {book book' : Book} {last moment lane room : ℕ} {packet : PacketParts} {closed : Bool}
-    (a : Accepts p seed held mid new book book' last moment lane room packet closed) where
+module _ {p : ParamFields} {seed : Seed} {held mid new : Held} {book book' : Book} {last moment lane spare : ℕ} {packet : PacketParts} {closed : Bool}
+    (a : Accepts p seed held mid new book book' last moment lane spare packet closed) where
   abbrev flow : ℕ
   flow = (fq_codel p seed).flow_of packet.tuple
 
@@ -234,7 +260,7 @@ module _ {p : ParamFields} {seed : Seed} {held mid new : Held} {book book' : Boo
       rw leave.1 (all_in_batches (IsNamed events) leave.0
       (λ f. (ByRecursion-parts (IsNamed events) _ (queue_of new.queues f) (subst (AllByRecursion (IsNamed events)) (leave.2 f) (waiting f))).0))
 
-  pub kept_admits : IsBookKept p seed (state_of new moment closed) new.room book' (room - 1)
+  pub kept_admits : IsBookKept p seed (state_of new moment closed) new.room book' (spare - 1)
   kept_admits =
       let h = a.kept in
       let found = all_found (acceptances book.events) held.arrived (fate_ids book.events) h.history.ids (recursion_from_All (λ id. id < held.arrived) (fate_ids book.events) h.history.known) in

@@ -1,4 +1,5 @@
 pub mod EventCounts
+pub mod SpareLemmas
 pub mod KeptScheduler
 pub mod FqCodelRuns
 pub mod ShortPackets

@@ -12,6 +12,7 @@ use Rattle.journal_core.specs.History.{AreCounts, IsHistory}
 use Rattle.sched_core.specs.FlowNumbers.{AreFlowNumbers}
 use Rattle.sched_core.specs.Schedulers.{Scheduler}
 use Rattle.sched_core.specs.Shares.{longest}
+use Rattle.sched_core.specs.Spares.{room_of}
 use Rattle.journal_core.specs.State.{State}
 
 -- what callers see of a scheduler's fields
@@ -30,22 +31,23 @@ scheduler_of s = record {
   };
   turns = s.turns;
   comparisons = s.backlog.comparisons;
-  room = s.room;
+  room = room_of s.spare;
 }
 
 -- the close that may still come
 abbrev pub closes_left : Bool → ℕ
 closes_left closed = if closed then 0 else 1
 
--- What holds of the state, of how many packets more its flows have memory for, of the journal, and of the room that is
--- reserved: the journal has room for each waiting packet's fate, for the close, and for the acceptances reserved with
--- their fates; it is a history of the state; and each flow's credits are in the range of the longest packet so far.
-pub record IsBookKept (p : ParamFields) (seed : Seed) (s : State FairQueues) (spare : ℕ) (book : Book)
-    (room : ℕ) : Type 0 where
+-- What holds of the state, of how many packets more its flows have memory for, of the journal, and of how many enqueues
+-- there is memory for: the journal has room for each waiting packet's fate, for the close, and for the acceptance and
+-- the fate of each of those enqueues; it is a history of the state; and each flow's credits are in the range of the
+-- longest packet so far.
+pub record IsBookKept (p : ParamFields) (seed : Seed) (s : State FairQueues) (places : ℕ) (book : Book)
+    (spare : ℕ) : Type 0 where
   pub some : 0 < p.flows
   pub flows : length s.queues.lists.queues ≡ p.flows
-  pub space : waiting_in s.queues.lists + closes_left s.closed + 2 * room ≤ book.room
-  pub reserved : room ≤ spare
+  pub space : waiting_in s.queues.lists + closes_left s.closed + 2 * spare ≤ book.room
+  pub reserved : spare ≤ places
   pub long : length book.events + waiting_in s.queues.lists + closes_left s.closed ≤ 2 * s.next_id + 1
   pub accepted : book.counts.accepted ≡ s.next_id
   pub few : s.next_id ≤ 2 ^ 40
@@ -56,5 +58,5 @@ pub record IsBookKept (p : ParamFields) (seed : Seed) (s : State FairQueues) (sp
 
 -- what holds of a scheduler's fields
 pub record IsKept {K : Type 0} (s : Inside K) : Type 0 where
-  pub book : IsBookKept s.params s.seed ((scheduler_of s).standing.state) s.backlog.room s.journal s.room
+  pub book : IsBookKept s.params s.seed ((scheduler_of s).standing.state) s.backlog.room s.journal s.spare.enqueues
   pub numbers : AreFlowNumbers s.params s.seed s.numbers

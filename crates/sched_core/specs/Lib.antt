@@ -2,6 +2,7 @@ pub mod Schedulers
 pub mod AnyStep
 pub mod LastSteps
 pub mod FlowNumbers
+pub mod Spares
 pub mod Kept
 pub mod Engines
 pub mod Shares

@@ -107,15 +107,14 @@ impl<K: Keeps<Event>, S: Keeps<Step>> Engine<K, S> {
             (refusal_of self.old.sched.standing.state (Enqueue moment lane packet) ≢ None) }
         ensures unchanged { OnErr result (self.new ≡ self.old) }
     {
-        let step = Step::Enqueue {
+        self.sched.test_enqueue(moment)?;
+        self.steps.reserve(1)?;
+        let admitted = self.sched.admit(moment, lane, packet)?;
+        self.steps.tell(Step::Enqueue {
             moment,
             lane,
             packet,
-        };
-        self.sched.test(&step)?;
-        self.steps.reserve(1)?;
-        let admitted = self.sched.enqueue(moment, lane, packet)?;
-        self.steps.tell(step);
+        });
         self.room = self.room.saturating_sub(1);
         Ok(admitted)
     }
@@ -133,11 +132,10 @@ impl<K: Keeps<Event>, S: Keeps<Step>> Engine<K, S> {
             → OnErr result (refusal_of self.old.sched.standing.state (Dequeue moment) ≢ None) }
         ensures unchanged { OnErr result (self.new ≡ self.old) }
     {
-        let step = Step::Dequeue { moment };
-        self.sched.test(&step)?;
+        self.sched.test_dequeue(moment)?;
         self.steps.reserve(1)?;
-        let sent = self.sched.dequeue(moment)?;
-        self.steps.tell(step);
+        let sent = self.sched.serve(moment);
+        self.steps.tell(Step::Dequeue { moment });
         self.room = self.room.saturating_sub(1);
         Ok(sent)
     }
@@ -155,11 +153,10 @@ impl<K: Keeps<Event>, S: Keeps<Step>> Engine<K, S> {
             (refusal_of self.old.sched.standing.state (Close moment) ≢ None) }
         ensures unchanged { OnErr result (self.new ≡ self.old) }
     {
-        let step = Step::Close { moment };
-        self.sched.test(&step)?;
+        self.sched.test_close(moment)?;
         self.steps.reserve(1)?;
-        self.sched.close(moment)?;
-        self.steps.tell(step);
+        self.sched.end(moment);
+        self.steps.tell(Step::Close { moment });
         self.room = self.room.saturating_sub(1);
         Ok(())
     }
@@ -196,7 +193,7 @@ impl<K: Keeps<Event>, S: Keeps<Step>> Engine<K, S> {
             return Ok(Answer::Refused(refusal));
         }
         self.steps.reserve(1)?;
-        let answer = self.sched.make(step)?;
+        let answer = self.sched.make_tested(step)?;
         self.steps.tell(*step);
         self.room = self.room.saturating_sub(1);
         Ok(answer)

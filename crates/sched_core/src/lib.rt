@@ -7,6 +7,7 @@ mod flow_numbers;
 pub mod laws;
 mod run;
 mod sched;
+mod spare;
 
 pub use codel_core::Mark;
 pub use engine::Engine;

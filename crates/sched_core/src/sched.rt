@@ -6,6 +6,7 @@ ghost use Rattle.journal_core.specs.declared.outcome.Answer.TheVariants as answe
 ghost use Rattle.journal_core.specs.declared.step.Refusal.TheVariants as refusal;
 
 use crate::flow_numbers::FlowNumbers;
+use crate::spare::Spare;
 use codel_core::Served;
 use fair_core::{Backlog, FlowView};
 use journal_core::{
@@ -13,7 +14,7 @@ use journal_core::{
     Sent, Step, Stored, Totals, TupleRow, gather_rows,
 };
 use packet_core::{Packet, Params, Seed, Waiting};
-use std::alloc::{AllocError, Global};
+use std::alloc::Global;
 use std::marker::Model;
 
 /// At most this many packets are accepted.
@@ -30,19 +31,6 @@ fn test_moment(moment: u64, last: u64) -> Result<(), MomentFault>
         return Err(MomentFault::Backwards { last });
     }
     Ok(())
-}
-
-/// The answer to a step that is refused, unless it found no memory.
-fn refused(why: Refusal) -> Result<Answer, Memory>
-    ensures answer { IfOk result (λ said. (said ≡ answer.Refused why) × (why ≢ refusal.Memory)) }
-    ensures memory { OnErr result (why ≡ refusal.Memory) }
-{
-    match why {
-        Refusal::Memory => Err(AllocError),
-        Refusal::Moment(_) | Refusal::ClosedAlready | Refusal::Exhausted => {
-            Ok(Answer::Refused(why))
-        }
-    }
 }
 
 /// What a dequeue at that moment answers of a packet that is served.
@@ -74,7 +62,7 @@ pub struct Sched<K: Keeps<Event> = Stored> {
     last_moment: u64,
     is_closed: bool,
     turns: u64,
-    room: u64,
+    spare: Spare,
 }
 
 impl<K: Keeps<Event>> Model for Sched<K> {
@@ -98,7 +86,7 @@ impl<K: Keeps<Event>> Sched<K> {
     ghost use Rattle.journal_core.specs.Runs.{Takes};
     ghost use Rattle.sched_core.specs.Schedulers.{ComparesFew, IsAdvanced, IsServed, discipline_of, flows_of, new_scheduler};
     ghost use Rattle.fair_core.specs.Shown.{flow_shown};
-    ghost use Rattle.journal_core.specs.State.{refusal_of, IsRefusal};
+    ghost use Rattle.journal_core.specs.State.{enqueue_refusal_of, refusal_of, IsRefusal};
     ghost use Rattle.journal_core.specs.Statistics.{statistics};
     ghost use Rattle.journal_core.specs.declared.step.Step.TheVariants.{Enqueue, Dequeue, Close};
 
@@ -123,7 +111,7 @@ impl<K: Keeps<Event>> Sched<K> {
             last_moment: 0,
             is_closed: false,
             turns: 0,
-            room: 0,
+            spare: Spare::none(),
         })
     }
 
@@ -136,15 +124,8 @@ impl<K: Keeps<Event>> Sched<K> {
         ensures missing { OnErr result (self.old.room < enqueues) }
         ensures err { OnErr result (self.new ≡ self.old) }
     {
-        if enqueues <= self.room {
-            return Ok(());
-        }
-        // The fates of the packets that wait, the close, and each packet more with its fate.
-        let events = self.backlog.waiting() + 1 + 2 * enqueues;
-        self.journal.reserve(events as usize)?;
-        self.backlog.reserve(enqueues)?;
-        self.room = enqueues;
-        Ok(())
+        self.spare
+            .reserve(enqueues, &mut self.backlog, &mut self.journal)
     }
 
     /// Accepts a packet from a lane at a moment, in microseconds, into the queue of its flow, and takes room for
@@ -166,25 +147,28 @@ impl<K: Keeps<Event>> Sched<K> {
             → OnErr result (refusal_of self.old.standing.state (Enqueue moment lane packet) ≢ None) }
         ensures unchanged { OnErr result (self.new ≡ self.old) }
     {
-        self.test(&Step::Enqueue {
-            moment,
-            lane,
-            packet,
-        })?;
-        self.reserve(1)?;
-        Ok(self.admit(moment, lane, packet))
+        self.test_enqueue(moment)?;
+        Ok(self.admit(moment, lane, packet)?)
     }
 
-    /// Accepts a packet that is not refused.
-    fn admit(&mut self, moment: u64, lane: u32, packet: Packet) -> Admitted
-        requires fits { refusal_of self.old.standing.state (Enqueue moment lane packet) ≡ None }
-        requires room { 0 < self.old.room }
-        ensures admitted { result ≡ admitted_at (discipline_of self.old) self.old.standing.state moment packet }
-        ensures made { IsAdvanced self.old (Enqueue moment lane packet) answer.Accepted self.new }
-        ensures room { self.new.room + 1 ≡ self.old.room }
-        ensures few_comparisons { ComparesFew self.old self.new }
-        ensures compares { 2 ≤ self.old.params.flows → 1 ≤ self.new.comparisons }
+    /// The same at a moment that isn't refused. It fails for want of memory alone, and then nothing has changed.
+    pub(crate) fn admit(
+        &mut self,
+        moment: u64,
+        lane: u32,
+        packet: Packet,
+    ) -> Result<Admitted, Memory>
+        requires { refusal_of self.old.standing.state (Enqueue moment lane packet) ≡ None }
+        ensures admitted { IfOk result
+            (λ a. a ≡ admitted_at (discipline_of self.old) self.old.standing.state moment packet) }
+        ensures made { OnOk result (IsAdvanced self.old (Enqueue moment lane packet) answer.Accepted self.new) }
+        ensures room { OnOk result (self.new.room ≡ self.old.room - 1) }
+        ensures few_comparisons { OnOk result (ComparesFew self.old self.new) }
+        ensures compares { 2 ≤ self.old.params.flows → OnOk result (1 ≤ self.new.comparisons) }
+        ensures missing { OnErr result (self.old.room ≡ 0) }
+        ensures unchanged { OnErr result (self.new ≡ self.old) }
     {
+        self.spare.provide(&mut self.backlog, &mut self.journal)?;
         let waiting = Waiting {
             id: self.backlog.arrived(),
             stamp: moment,
@@ -197,12 +181,12 @@ impl<K: Keeps<Event>> Sched<K> {
         self.backlog
             .overflow(&self.params, moment, &mut self.journal);
         self.last_moment = moment;
-        self.room -= 1;
-        Admitted {
+        self.spare.spend();
+        Ok(Admitted {
             id: waiting.id,
             moment,
             flow,
-        }
+        })
     }
 
     /// Gives the packet that is next in turn, or nothing where none waits, at a moment in microseconds (RFC 8290,
@@ -216,17 +200,26 @@ impl<K: Keeps<Event>> Sched<K> {
             (λ fault. refusal_of self.old.standing.state (Dequeue moment) ≡ Some (refusal.Moment fault)) }
         ensures unchanged { OnErr result (self.new ≡ self.old) }
     {
-        test_moment(moment, self.last_moment)?;
+        self.test_dequeue(moment)?;
+        Ok(self.serve(moment))
+    }
+
+    /// The same at a moment that isn't refused.
+    pub(crate) fn serve(&mut self, moment: u64) -> Option<Sent>
+        requires { refusal_of self.old.standing.state (Dequeue moment) ≡ None }
+        ensures made { IsServed self.old moment result self.new }
+        ensures few_comparisons { ComparesFew self.old self.new }
+    {
         self.last_moment = moment;
         self.backlog.clear_comparisons();
         let serving = self.backlog.serve(moment, &self.params, &mut self.journal);
         self.turns = serving.turns;
         let Some(served) = &serving.served else {
-            return Ok(None);
+            return None;
         };
         let sent = sent_of(served, moment);
         self.journal.send(served, moment);
-        Ok(Some(sent))
+        Some(sent)
     }
 
     /// From here on nothing is accepted; dequeues go on. The moment is in microseconds. It takes no memory. It
@@ -240,11 +233,21 @@ impl<K: Keeps<Event>> Sched<K> {
         ensures unchanged { OnErr result (self.new ≡ self.old) }
     {
         self.test_close(moment)?;
+        self.end(moment);
+        Ok(())
+    }
+
+    /// The same where the close isn't refused.
+    pub(crate) fn end(&mut self, moment: u64)
+        requires { refusal_of self.old.standing.state (Close moment) ≡ None }
+        ensures made { IsAdvanced self.old (Close moment) answer.Closed self.new }
+        ensures room { self.new.room ≡ self.old.room }
+        ensures few_comparisons { ComparesFew self.old self.new }
+    {
         self.backlog.clear_comparisons();
         self.journal.close(moment);
         self.last_moment = moment;
         self.is_closed = true;
-        Ok(())
     }
 
     /// Makes a step of any kind as the call for its kind does, and answers as a run does: where the step is refused the
@@ -260,25 +263,41 @@ impl<K: Keeps<Event>> Sched<K> {
         ensures reserved { 0 < self.old.room → IsOk result }
         ensures unchanged { OnErr result (self.new ≡ self.old) }
     {
-        match *step {
+        if let Err(refusal) = self.test(step) {
+            return Ok(Answer::Refused(refusal));
+        }
+        self.make_tested(step)
+    }
+
+    /// The same where the step isn't refused.
+    pub(crate) fn make_tested(&mut self, step: &Step) -> Result<Answer, Memory>
+        requires { refusal_of self.old.standing.state step.now ≡ None }
+        ensures made { IfOk result
+            (λ said. Takes (discipline_of self.old) self.old.standing step.now said self.new.standing) }
+        ensures params { self.new.params ≡ self.old.params }
+        ensures seed { self.new.seed ≡ self.old.seed }
+        ensures goes_on { IfOk result (λ said. GoesOn self.old step.now said self.new) }
+        ensures memory { OnErr result (WantsRoom self.old step.now) }
+        ensures unchanged { OnErr result (self.new ≡ self.old) }
+    {
+        Ok(match *step {
             Step::Enqueue {
                 moment,
                 lane,
                 packet,
-            } => match self.enqueue(moment, lane, packet) {
-                Ok(_) => Ok(Answer::Accepted),
-                Err(refusal) => refused(refusal),
+            } => {
+                self.admit(moment, lane, packet)?;
+                Answer::Accepted
+            }
+            Step::Dequeue { moment } => match self.serve(moment) {
+                Some(_) => Answer::Sent,
+                None => Answer::Idle,
             },
-            Step::Dequeue { moment } => match self.dequeue(moment) {
-                Ok(Some(_)) => Ok(Answer::Sent),
-                Ok(None) => Ok(Answer::Idle),
-                Err(fault) => refused(Refusal::from(fault)),
-            },
-            Step::Close { moment } => match self.close(moment) {
-                Ok(()) => Ok(Answer::Closed),
-                Err(fault) => refused(Refusal::from(fault)),
-            },
-        }
+            Step::Close { moment } => {
+                self.end(moment);
+                Answer::Closed
+            }
+        })
     }
 
     /// The parameters that it was made with.
@@ -400,20 +419,33 @@ impl<K: Keeps<Event>> Sched<K> {
         ensures { Tests (refusal_of self.now.standing.state step.now) result }
     {
         match *step {
-            Step::Enqueue { moment, .. } => {
-                self.test_close(moment)?;
-                if self.backlog.arrived() >= MAX_ACCEPTED {
-                    return Err(Refusal::Exhausted);
-                }
-            }
-            Step::Dequeue { moment } => test_moment(moment, self.last_moment)?,
+            Step::Enqueue { moment, .. } => self.test_enqueue(moment)?,
+            Step::Dequeue { moment } => self.test_dequeue(moment)?,
             Step::Close { moment } => self.test_close(moment)?,
         }
         Ok(())
     }
 
+    /// Why an enqueue at that moment is refused, if it is, apart from want of memory.
+    pub(crate) fn test_enqueue(&self, moment: u64) -> Result<(), Refusal>
+        ensures { Tests (enqueue_refusal_of self.now.standing.state moment) result }
+    {
+        self.test_close(moment)?;
+        if self.backlog.arrived() >= MAX_ACCEPTED {
+            return Err(Refusal::Exhausted);
+        }
+        Ok(())
+    }
+
+    /// Why a dequeue at that moment is refused, if it is.
+    pub(crate) fn test_dequeue(&self, moment: u64) -> Result<(), MomentFault>
+        ensures { Tests (moment_fault_of moment self.now.standing.state.last) result }
+    {
+        test_moment(moment, self.last_moment)
+    }
+
     /// Why a close at that moment is refused, if it is.
-    fn test_close(&self, moment: u64) -> Result<(), CloseFault>
+    pub(crate) fn test_close(&self, moment: u64) -> Result<(), CloseFault>
         ensures { MatchResult result
             (λ _. refusal_of self.now.standing.state (Close moment) ≡ None)
             (λ fault. refusal_of self.now.standing.state (Close moment) ≡ Some (close_refusal fault)) }

@@ -1,29 +1,53 @@
-use Rattle.std.proofs.Common.{◌≡◌, refl, arith}
+use Rattle.std.proofs.Common.{◌≡◌, ℕ, ◌+◌, ◌<◌, ◌≤◌, List, [], ◌∷◌, ◌++◌, get_or, length, set, sum_by, refl, arith}
+use Rattle.std.proofs.lemmas.List.{length_push}
+use Rattle.std.proofs.lemmas.List.Sums.{sum_by-set}
 use Rattle.packet_core.specs.FlowNumber.{flow_number}
-use Rattle.sched_core.proofs.KeptScheduler.{Accepts, advances, few_admitted, few_compared, grown, kept_admits}
+use Rattle.packet_core.specs.declared.packet.Waiting.{Waiting}
+use Rattle.sched_core.proofs.KeptScheduler.{Accepts, advances, few_admitted, few_compared, grown, kept_admits, kept_takes}
 use Rattle.sched_core.proofs.sched.Sched.admit.Given as given
 use Rattle.sched_core.proofs.sched.Sched.admit.Goals.{After-overflow}
 use Rattle.sched_core.proofs.sched.Sched.admit.Goals as goal
 
-accepts : (g : given.Over) (c : After-overflow g) → let s = c.self.inside in
-    Accepts s.params s.seed s.backlog c.arrive.new.self c.overflow.new.self s.journal c.overflow.new.journal s.last_moment c.args.moment c.args.lane s.room c.args.packet s.is_closed
+accepts : (g : given.Over) (c : After-overflow g) → let s = c.self.inside in let m = c.in_ok-provide.ensures.memory in
+    Accepts s.params s.seed (record (s.backlog) { room = m.places }) c.arrive.new.self c.overflow.new.self (record (s.journal) { room = m.events }) c.overflow.new.journal s.last_moment c.args.moment c.args.lane c.provide.new.self.enqueues c.args.packet s.is_closed
 accepts g c =
     let s = c.self.inside in
+    let m = c.in_ok-provide.ensures.memory in
     let flow_is : c.flow_of-flow.result ≡ flow_number s.params.classify s.params.flows s.seed c.args.packet.tuple =
     c.flow_of-flow.ensures.value in
     record {
-      fits = rw (← c.self.view_is) at c.requires.fits;
-      some = rw (← c.self.view_is) at c.requires.room;
-      kept = c.self.invariant.book;
-      listed = rw (flow_is, c.arrived.ensures, c.clear_comparisons.ensures) at c.arrive.ensures.queues;
-      arrived = rw c.clear_comparisons.ensures at c.arrive.ensures.arrived;
-      reserved = rw c.clear_comparisons.ensures at c.arrive.ensures.room;
-      few_comparisons = rw c.clear_comparisons.ensures at c.arrive.ensures.few_comparisons;
-      drops = rw (c.accept.ensures, c.arrived.ensures, flow_is) at c.overflow.ensures;
+      fits = rw (← c.self.view_is) at c.requires;
+      some = c.in_ok-provide.ensures.ok;
+      kept = kept_takes m c.self.invariant.book;
+      listed = rw (flow_is, c.arrived.ensures, c.clear_comparisons.ensures, m.in_flows) at c.arrive.ensures.queues;
+      arrived = rw (c.clear_comparisons.ensures, m.in_flows) at c.arrive.ensures.arrived;
+      reserved = rw (c.clear_comparisons.ensures, m.in_flows) at c.arrive.ensures.room;
+      few_comparisons = rw (c.clear_comparisons.ensures, m.in_flows) at c.arrive.ensures.few_comparisons;
+      drops = rw (c.accept.ensures, c.arrived.ensures, flow_is, m.in_flows, m.in_journal) at c.overflow.ensures;
     }
 
-pub invariant_of-self : goal.invariant_of-self
-invariant_of-self g c = record { book = kept_admits (accepts g (goal.at.invariant_of-self g c).After-overflow); numbers = c.flow_of-flow.ensures.kept }
+-- an arrival is one packet more
+arrival_fits : (queues : List (List Waiting)) (flow : ℕ) (w : Waiting) (room : ℕ) → flow < length queues → sum_by length queues + 1 ≤ room
+    → sum_by length (set queues flow (get_or queues flow [] ++ w ∷ [])) ≤ room
+arrival_fits queues flow w room within fits =
+    omega (arith, sum_by-set length queues flow (get_or queues flow [] ++ w ∷ []) [] within, length_push (get_or queues flow []) w)
+
+pub accept-requires : goal.accept-requires
+accept-requires g c =
+    let m = c.in_ok-provide.ensures.memory in
+    let kept = kept_takes m c.self.invariant.book in
+    rw m.in_journal (omega (arith, kept.space, c.in_ok-provide.ensures.ok))
+
+pub overflow-requires : goal.overflow-requires
+overflow-requires g c =
+    let m = c.in_ok-provide.ensures.memory in
+    let kept = kept_takes m c.self.invariant.book in
+    let within : c.flow_of-flow.result < length (c.self.inside.backlog.queues.lists.queues) = omega (arith, c.flow_of-flow.ensures.below, c.self.invariant.book.flows) in
+    rw (c.accept.ensures, c.arrive.ensures.queues, c.clear_comparisons.ensures, m.in_flows, m.in_journal)
+    (arrival_fits _ _ _ _ within (omega (arith, kept.space, c.in_ok-provide.ensures.ok)))
+
+pub invariant_of-self-2 : goal.invariant_of-self-2
+invariant_of-self-2 g c = rw c.spend.ensures (record { book = kept_admits (accepts g (goal.at.invariant_of-self-2 g c).After-overflow); numbers = c.flow_of-flow.ensures.kept })
 
 pub returns-clause-made : goal.returns-clause-made
 returns-clause-made g c =
@@ -37,6 +61,7 @@ returns-clause-few_comparisons g c =
 pub returns-clause-compares : goal.returns-clause-compares
 returns-clause-compares g c =
     let flows = c.self.invariant.book.flows in
-    let mid = rw c.clear_comparisons.ensures at c.arrive.ensures.compares in
+    let m = c.in_ok-provide.ensures.memory in
+    let mid = rw (c.clear_comparisons.ensures, m.in_flows) at c.arrive.ensures.compares in
     let lost = c.overflow.ensures.few_comparisons.none_lost in
     rw (← c.self.view_is) (λ several. omega (arith, mid (omega arith)))

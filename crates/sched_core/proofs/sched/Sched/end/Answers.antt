@@ -1,12 +1,12 @@
 use Rattle.std.proofs.lemmas.List.{length_push}
 use Rattle.fair_core.proofs.ComparisonLemmas.{counts_idle}
 use Rattle.sched_core.proofs.KeptScheduler.{few_compared, kept_closes}
-use Rattle.sched_core.proofs.sched.Sched.close.Goals as goal
+use Rattle.sched_core.proofs.sched.Sched.end.Goals as goal
 
 pub invariant_of-self : goal.invariant_of-self
 invariant_of-self g c =
     record {
-      book = rw (c.clear_comparisons.ensures, c.close.ensures) (kept_closes _ _ c.args.moment (rw (← c.self.view_is) at c.in_ok-test_close.ensures) c.self.invariant.book);
+      book = rw (c.clear_comparisons.ensures, c.close.ensures) (kept_closes _ _ c.args.moment (rw (← c.self.view_is) at c.requires) c.self.invariant.book);
       numbers = c.self.invariant.numbers;
     }
 
