@@ -377,7 +377,7 @@ fn serve_queue<K: Keeps<Event>>(
         moment: now,
         cause: Cause::Codel,
     };
-    codel.serve(&mut line, now, params, &mut fates)
+    codel.serve_in_place(&mut line, now, params, &mut fates)
 }
 
 /// Drops so many packets from the head of a flow's queue, as overflow.

@@ -1,6 +1,6 @@
 //! The waiting packets of all flows in one slab, chained flow by flow.
 
-ghost use Rattle.std.specs.Prelude.{◌≡◌, ◌+◌, ◌-◌, ◌^◌, ◌<◌, ◌≤◌, [], ◌∷◌, ◌++◌, IfOk, OnErr, OnOk, drop, get_or, length, replicate, set, slice_get, sum_by};
+ghost use Rattle.std.specs.Prelude.{◌≡◌, ◌+◌, ◌-◌, ◌^◌, ◌<◌, ◌≤◌, [], ◌∷◌, ◌++◌, IfOk, OnErr, OnOk, drop, get_or, length, option_copied, replicate, set, slice_get, sum_by};
 
 use crate::limits::{MAX_FLOWS, MAX_WAITING, Memory};
 use packet_core::Waiting;
@@ -137,6 +137,18 @@ impl Chains {
         chain.first = first.next;
         chain.len -= 1;
         Some(first.waiting)
+    }
+
+    /// The packet at the head of a flow's queue, in its slot. None where the flow is empty.
+    pub(crate) fn head(&self, flow: u32) -> Option<&Waiting>
+        requires { flow < length self.now.queues }
+        ensures { option_copied result ≡ slice_get (get_or self.now.queues flow []) 0 }
+    {
+        let chain = &self.chains[flow as usize];
+        if chain.len == 0 {
+            return None;
+        }
+        Some(&self.slots[chain.first].waiting)
     }
 
     /// How many packets wait in a flow.

@@ -1,7 +1,8 @@
 //! The flows as callers see them, and the queue of one of them as a line that CoDel pulls from.
 
-ghost use Rattle.std.specs.Prelude.{◌≡◌, ◌+◌, ◌^◌, ◌<◌, ◌≤◌, ◌↔◌, [], ◌∷◌, ◌++◌, All, Contains, IfOk, IfSome, IsNone, IsTrue, OnErr, OnOk, drop, length, min, slice_get, take};
+ghost use Rattle.std.specs.Prelude.{◌≡◌, ◌+◌, ◌^◌, ◌<◌, ◌≤◌, ◌↔◌, [], ◌∷◌, ◌++◌, All, Contains, IfOk, IfSome, IsNone, IsTrue, OnErr, OnOk, drop, length, min, option_copied, slice_get, take};
 ghost use Rattle.packet_core.specs.Packets.{IsLengthInRange};
+ghost use Rattle.codel_core.specs.Queue.{bytes_of};
 ghost use Rattle.flow_core.specs.Fattest.{IsFattest, bytes_at};
 ghost use Rattle.flow_core.specs.FlowLists.{AreListed, bytes_in, no_flows, queue_at, waiting_in, with_queue};
 ghost use Rattle.flow_core.specs.Winners.{CountsFew, IsLevels};
@@ -10,7 +11,7 @@ use crate::chains::Chains;
 use crate::limits::{MAX_FLOWS, MAX_WAITING, Memory};
 use crate::listed_flows::ListedFlows;
 use crate::winner_tree::WinnerTree;
-use codel_core::Pull;
+use codel_core::{Heads, Pull};
 use packet_core::Waiting;
 use std::alloc::Global;
 use std::marker::Model;
@@ -118,6 +119,26 @@ impl Flows {
         ensures lengths { All (λ w. IsLengthInRange w.packet.len) (queue_at self.now.lists flow) }
     {
         self.winners.bytes(flow)
+    }
+
+    /// The packet at the head of a flow's queue, where it stands. None where the flow is empty.
+    fn head(&self, flow: u32) -> Option<&Waiting>
+        requires { flow < length self.now.lists.queues }
+        ensures { option_copied result ≡ slice_get (queue_at self.now.lists flow) 0 }
+    {
+        self.chains.head(flow)
+    }
+
+    /// The lengths of the packets behind the head of a flow's queue, added up, in bytes.
+    fn bytes_behind(&self, flow: u32) -> u64
+        requires flow { flow < length self.now.lists.queues }
+        requires some { 0 < length (queue_at self.now.lists flow) }
+        ensures { result ≡ bytes_of (drop 1 (queue_at self.now.lists flow)) }
+    {
+        let Some(head) = self.chains.head(flow) else {
+            unreachable!()
+        };
+        self.winners.bytes(flow) - u64::from(head.packet.len())
     }
 
     /// How many packets wait in a flow.
@@ -307,5 +328,15 @@ impl Pull for Line<'_> {
 
     fn bytes_left(&self) -> u64 {
         self.flows.bytes(self.flow)
+    }
+}
+
+impl Heads for Line<'_> {
+    fn head(&self) -> Option<&Waiting> {
+        self.flows.head(self.flow)
+    }
+
+    fn bytes_behind(&self) -> u64 {
+        self.flows.bytes_behind(self.flow)
     }
 }

@@ -89,16 +89,30 @@ fn state(of: Phase) -> CodelState {
     }
 }
 
-/// Packets come at 0, and CoDel, which begins in a state, serves them.
-fn plays(rt: &(impl Abort + AllocGlobal), run: &Run<'_>) {
-    let params = Params::try_new(run.fields).expect(rt, "parameters");
-    let mut flows = Flows::try_new(rt.alloc(), 2).expect(rt, "memory");
-    serves_all(rt, &mut flows, &params, run);
+/// Which of CoDel's two serves is called.
+#[derive(Clone, Copy)]
+enum Way {
+    /// `Codel::serve`.
+    Pulled,
+    /// `Codel::serve_in_place`.
+    InPlace,
 }
 
-fn serves_all(rt: &impl Abort, flows: &mut Flows, params: &Params, run: &Run<'_>) {
+/// Packets come at 0, and CoDel, which begins in a state, serves them. Both serves give the same.
+fn plays(rt: &(impl Abort + AllocGlobal), run: &Run<'_>) {
+    plays_by(rt, run, Way::Pulled);
+    plays_by(rt, run, Way::InPlace);
+}
+
+fn plays_by(rt: &(impl Abort + AllocGlobal), run: &Run<'_>, way: Way) {
+    let params = Params::try_new(run.fields).expect(rt, "parameters");
+    let mut flows = Flows::try_new(rt.alloc(), 2).expect(rt, "memory");
+    serves_all(rt, &mut flows, &params, run, way);
+}
+
+fn serves_all(rt: &impl Abort, flows: &mut Flows, params: &Params, run: &Run<'_>, way: Way) {
     arrive(rt, flows, run.len, run.codes);
-    compare_serves(rt, flows, params, state(run.before), run.serves);
+    compare_serves(rt, flows, params, run, way);
     assert!(rt; 0 < flows.flows());
     assert_eq!(rt; flows.len(0), 1);
 }
@@ -114,21 +128,15 @@ fn arrive(rt: &impl Abort, flows: &mut Flows, len: u32, codes: &[Ecn]) {
 }
 
 /// CoDel begins in a state, and serves flow 1 at some moments. What it reports at each is compared.
-fn compare_serves(
-    rt: &impl Abort,
-    flows: &mut Flows,
-    params: &Params,
-    before: CodelState,
-    serves: &[Serve],
-) {
+fn compare_serves(rt: &impl Abort, flows: &mut Flows, params: &Params, run: &Run<'_>, way: Way) {
     let mut sink = Dropped {
         count: 0,
         last: None,
         room: 20,
     };
-    let mut codel = Codel::from_state(before);
-    for &(now, given, dropped, last, after) in serves {
-        let served = serve(rt, flows, &mut codel, now, params, &mut sink);
+    let mut codel = Codel::from_state(state(run.before));
+    for &(now, given, dropped, last, after) in run.serves {
+        let served = serve(rt, flows, &mut codel, now, params, &mut sink, way);
         assert_eq!(rt;
             (served, sink.count, sink.last, codel.state()),
             (given, dropped, last, state(after)),
@@ -145,6 +153,7 @@ fn serve(
     now: u64,
     params: &Params,
     sink: &mut Dropped,
+    way: Way,
 ) -> Given {
     let state = codel.state();
     assert!(rt; now < 1 << 60);
@@ -153,7 +162,11 @@ fn serve(
     assert!(rt; state.lastcount <= 1 << 61);
     assert!(rt; 1 < flows.flows());
     assert!(rt; flows.len(1) <= sink.room);
-    let served = codel.serve(&mut flows.line(1), now, params, sink)?;
+    let line = &mut flows.line(1);
+    let served = match way {
+        Way::Pulled => codel.serve(line, now, params, sink)?,
+        Way::InPlace => codel.serve_in_place(line, now, params, sink)?,
+    };
     Some((
         served.waiting.id,
         (served.waiting.packet.ecn(), served.mark),
