@@ -104,9 +104,15 @@ impl WinnerTree {
         // A flow that has none may stand outside of the top.
         if bytes > 0 {
             let own = self.bytes[flow as usize] - bytes;
-            let made = lower(&self.bytes, &mut self.winners, self.top, flow, own);
+            lower(
+                &self.bytes,
+                &mut self.winners,
+                self.top,
+                flow,
+                own,
+                &mut self.comparisons,
+            );
             self.bytes[flow as usize] = own;
-            count(&mut self.comparisons, made);
         }
     }
 
@@ -202,7 +208,8 @@ fn first_winners(alloc: Global, leaves: usize) -> Result<Vec<u32>, Memory>
 
 // So many comparisons more. At `u64::MAX` the number stays there.
 fn count(comparisons: &mut u64, made: u64)
-    ensures { comparisons.new ≡ min (comparisons.old + made) u64.MAX }
+    ensures sum { comparisons.new ≡ min (comparisons.old + made) u64.MAX }
+    ensures none_lost { comparisons.old ≤ comparisons.new }
 {
     *comparisons = comparisons.saturating_add(made);
 }
@@ -394,28 +401,29 @@ fn rise(bytes: &[u64], winners: &mut [u32], top: &mut Top, flow: u32, own: u64) 
 }
 
 // A flow's count falls to that one, which isn't among the bytes yet: each node from its leaf to the top gets its
-// winner anew, up to the first where another flow won. The result is how often two counts were compared: once at each
-// node where the flow had won.
+// winner anew, up to the first where another flow won. Two counts are compared once at each node where the flow had
+// won.
 #[inline(always)]
-fn lower(bytes: &[u64], winners: &mut [u32], top: Top, flow: u32, own: u64) -> u64
+fn lower(bytes: &[u64], winners: &mut [u32], top: Top, flow: u32, own: u64, comparisons: &mut u64)
     requires flow { flow < length bytes.now }
     requires small { All (λ b. b < 2 ^ 63) bytes.now }
     requires tree { IsTree (length bytes.now) bytes.now winners.old top.node top.height }
     requires waits { 0 < slice_index bytes.now flow }
     requires falls { own ≤ slice_index bytes.now flow }
     ensures tree { IsTree (length bytes.now) (slice_set bytes.now flow own) winners.new top.node top.height }
-    ensures few { (levels : ℕ) → length bytes.now ≡ 2 ^ levels → result ≤ levels }
+    ensures none_lost { comparisons.old ≤ comparisons.new }
+    ensures few { (levels : ℕ) → length bytes.now ≡ 2 ^ levels → comparisons.new ≤ comparisons.old + levels }
 {
     let leaf = bytes.len() + flow as usize;
     // Where its leaf is the top, or another flow won at the node above it, no node changes.
-    if leaf <= top.node || winners[leaf / 2] != flow {
-        return 0;
+    if leaf > top.node && winners[leaf / 2] == flow {
+        let made = lower_from(bytes, winners, top, leaf, flow, own);
+        count(comparisons, made);
     }
-    lower_from(bytes, winners, top, leaf, flow, own)
 }
 
-// The same from the flow's leaf on. Its loop wants all registers, and so it is kept out of a dequeue, which has a
-// packet in hand.
+// The same from the flow's leaf on. The result is how often two counts were compared. Its loop wants all registers, and
+// so it is kept out of a dequeue, which has a packet in hand.
 #[inline(never)]
 fn lower_from(bytes: &[u64], winners: &mut [u32], top: Top, leaf: usize, flow: u32, own: u64) -> u64
     requires flow { flow < length bytes.now }
