@@ -9,7 +9,7 @@ use Rattle.fair_core.specs.FairQueues.{FairQueues, queue_of}
 use Rattle.fair_core.specs.FqCodel.{fq_codel}
 use Rattle.journal_core.specs.Happened.{acceptances}
 use Rattle.journal_core.specs.History.{AreCounts, IsHistory}
-use Rattle.sched_core.specs.FlowNumbers.{AreFlowNumbers}
+use Rattle.sched_core.specs.Classifiers.{classifier_by}
 use Rattle.sched_core.specs.Schedulers.{Scheduler}
 use Rattle.sched_core.specs.Shares.{longest}
 use Rattle.sched_core.specs.Spares.{room_of}
@@ -59,4 +59,4 @@ pub record IsBookKept (p : ParamFields) (seed : Seed) (s : State FairQueues) (pl
 -- what holds of a scheduler's fields
 pub record IsKept {K : Type 0} (s : Inside K) : Type 0 where
   pub book : IsBookKept s.params s.seed ((scheduler_of s).standing.state) s.backlog.room s.journal s.spare.enqueues
-  pub numbers : AreFlowNumbers s.params s.seed s.numbers
+  pub classifier : s.classifier ≡ classifier_by s.params.classify s.params.flows s.seed

@@ -1,7 +1,9 @@
 pub mod Schedulers
 pub mod AnyStep
 pub mod LastSteps
+pub mod Hashing
 pub mod FlowNumbers
+pub mod Classifiers
 pub mod Spares
 pub mod Kept
 pub mod Engines

@@ -1,12 +1,14 @@
 //! The flow numbers of five-tuples that came before. By the hash, the digest is most of an enqueue's time, and the
 //! packets of a conversation all have the number that its first one was given.
 
-ghost use Rattle.std.specs.Prelude.{◌≡◌, ◌≢◌, ◌<◌, ◌≤◌, IfOk, IfSome, IfNone, Some, vec_len};
+ghost use Rattle.std.specs.Prelude.{◌≡◌, ◌≢◌, ◌<◌, ◌≤◌, IfOk, IfSome, IfNone, Some};
 ghost use Rattle.packet_core.specs.FlowNumber.{flow_number};
+ghost use Rattle.packet_core.specs.declared.params.Classify.TheVariants.{Hash};
 
 use journal_core::Memory;
-use packet_core::{Classify, FiveTuple, Ip, Packet, Params, Seed, flow_of};
+use packet_core::{FiveTuple, Ip, Params, Seed, flow_of};
 use std::alloc::Global;
+use std::marker::Model;
 
 /// At least as many places as this for each flow: where a few conversations share each flow, few of them share a place.
 const PLACES_PER_FLOW: usize = 4;
@@ -31,96 +33,60 @@ pub(crate) struct Place {
     earlier: Option<Numbered>,
 }
 
-/// The flow numbers of five-tuples that came before, for one scheduler's parameters and seed. Each five-tuple has one
-/// place. All memory is taken by `try_new`.
+/// The choice by the hash, with the flow numbers of five-tuples that came before. Each five-tuple has one place. All
+/// memory is taken by `try_new`.
 #[derive(Debug, Drop)]
 pub(crate) struct FlowNumbers {
-    // As many as a power of two, or none where flows are found from the port, which takes no digest.
+    params: Params,
+    seed: Seed,
+    // As many as a power of two.
     places: Vec<Place>,
     // From the seed: who doesn't know it can't pick five-tuples that share a place.
     factors: (u64, u64),
 }
 
-impl FlowNumbers {
-    ghost use Rattle.sched_core.specs.FlowNumbers.{AreFlowNumbers};
+impl Model for FlowNumbers {
+    ghost use Rattle.sched_core.specs.Hashing.{Hashing};
 
+    ghost Value = { Hashing };
+
+    ghost use Rattle.sched_core.specs.FlowNumbers.{AreFlowNumbers, hashing_of};
+
+    ghost view = { hashing_of };
+
+    ghost invariant = { AreFlowNumbers };
+}
+
+impl FlowNumbers {
     /// No five-tuple yet.
-    pub(crate) fn try_new(
-        alloc: Global,
-        params: &Params,
-        seed: &Seed,
-    ) -> Result<FlowNumbers, Memory>
-        ensures { IfOk result (λ numbers. AreFlowNumbers params.now seed.now numbers) }
+    pub(crate) fn try_new(alloc: Global, params: Params, seed: Seed) -> Result<FlowNumbers, Memory>
+        requires { params.classify ≡ Hash }
+        ensures { IfOk result (λ numbers. numbers ≡ record { flows = params.flows; seed = seed }) }
     {
-        let places = match params.classify() {
-            Classify::Hash => (PLACES_PER_FLOW * params.flows() as usize).next_power_of_two(),
-            Classify::Dport => 0,
-        };
+        let places = (PLACES_PER_FLOW * params.flows() as usize).next_power_of_two();
         let (first, second) = halves(&seed.0);
         let empty = Place {
             later: None,
             earlier: None,
         };
         Ok(FlowNumbers {
+            params,
+            seed,
             places: vec![in alloc; empty; places]?,
             // Odd ones, so that each multiplication loses nothing.
             factors: ((first ^ FIRST_FACTOR) | 1, (second ^ SECOND_FACTOR) | 1),
         })
     }
 
-    /// The number of a packet's flow.
-    // It takes the packet, and not its five-tuple: that would be copied for `dport` too, which wants the port alone.
-    pub(crate) fn flow_of(&mut self, params: &Params, seed: &Seed, packet: &Packet) -> u32
-        requires { AreFlowNumbers params.now seed.now self.old }
-        ensures value { result ≡ flow_number params.now.classify params.now.flows seed.now packet.now.tuple }
-        ensures below { result < params.now.flows }
-        ensures kept { AreFlowNumbers params.now seed.now self.new }
-    {
-        match params.classify() {
-            Classify::Hash => self.recall(params, seed, &packet.tuple()),
-            Classify::Dport => flow_of(params, seed, &packet.tuple()),
-        }
-    }
-
-    /// The same by the hash, from the five-tuple's place.
+    /// The number of a five-tuple's flow.
     // Kept out of its callers for the same reason as the digest, and so that by the port an enqueue has nothing of it.
     #[inline(never)]
-    fn recall(&mut self, params: &Params, seed: &Seed, tuple: &FiveTuple) -> u32
-        requires numbers { AreFlowNumbers params.now seed.now self.old }
-        requires places { 1 ≤ vec_len self.old.places }
-        ensures value { result ≡ flow_number params.now.classify params.now.flows seed.now tuple.now }
-        ensures below { result < params.now.flows }
-        ensures kept { AreFlowNumbers params.now seed.now self.new }
+    pub(crate) fn flow_of(&mut self, tuple: &FiveTuple) -> u32
+        ensures value { result ≡ flow_number Hash self.old.flows self.old.seed tuple.now }
+        ensures kept { self.new ≡ self.old }
     {
-        let number = self.place_of(tuple);
-        self.places[number].recall(params, seed, tuple)
-    }
-
-    /// The place of a five-tuple.
-    fn place_of(&self, tuple: &FiveTuple) -> usize
-        requires { 1 ≤ vec_len self.now.places }
-        ensures { result < vec_len self.now.places }
-    {
-        let (first, second) = self.factors;
-        let ends = self.word_of(&tuple.src).rotate_left(32) ^ self.word_of(&tuple.dst);
-        let ports = u64::from(tuple.proto) << 32
-            | u64::from(tuple.sport) << 16
-            | u64::from(tuple.dport);
-        // Of a product the high bits depend on all bits of both sides. Eighteen are enough for the most places.
-        let high = (mixed(ends, first) ^ ports).wrapping_mul(second) >> 46;
-        high as usize & (self.places.len() - 1)
-    }
-
-    /// An address as a word: what it is for IPv4, so that two of them fill a word, and mixed for IPv6.
-    fn word_of(&self, address: &Ip) -> u64 {
-        let (first, second) = self.factors;
-        match address {
-            Ip::V4(octets) => u64::from(u32::from_be_bytes(*octets)),
-            Ip::V6(octets) => {
-                let (front, back) = halves(octets);
-                mixed(mixed(front, second) ^ back, first)
-            }
-        }
+        let number = place_of(tuple, self.factors, self.places.len());
+        self.places[number].recall(&self.params, &self.seed, tuple)
     }
 }
 
@@ -163,6 +129,33 @@ fn number_of(entry: &Option<Numbered>, tuple: &FiveTuple) -> Option<u32>
     match entry {
         Some(known) if known.tuple == *tuple => Some(known.flow),
         _ => None,
+    }
+}
+
+/// The place of a five-tuple, of so many.
+fn place_of(tuple: &FiveTuple, factors: (u64, u64), places: usize) -> usize
+    requires { 1 ≤ places }
+    ensures { result < places }
+{
+    let (first, second) = factors;
+    let ends = word_of(&tuple.src, factors).rotate_left(32) ^ word_of(&tuple.dst, factors);
+    let ports = u64::from(tuple.proto) << 32
+        | u64::from(tuple.sport) << 16
+        | u64::from(tuple.dport);
+    // Of a product the high bits depend on all bits of both sides. Eighteen are enough for the most places.
+    let high = (mixed(ends, first) ^ ports).wrapping_mul(second) >> 46;
+    high as usize & (places - 1)
+}
+
+/// An address as a word: what it is for IPv4, so that two of them fill a word, and mixed for IPv6.
+fn word_of(address: &Ip, factors: (u64, u64)) -> u64 {
+    let (first, second) = factors;
+    match address {
+        Ip::V4(octets) => u64::from(u32::from_be_bytes(*octets)),
+        Ip::V6(octets) => {
+            let (front, back) = halves(octets);
+            mixed(mixed(front, second) ^ back, first)
+        }
     }
 }
 

@@ -2,6 +2,7 @@
 //! five-tuple. An engine keeps the steps that it made too, and a run makes a list of steps, with an answer to each.
 #![tactic(auto)]
 
+mod classifier;
 mod engine;
 mod flow_numbers;
 pub mod laws;

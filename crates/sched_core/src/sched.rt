@@ -5,7 +5,7 @@ ghost use Rattle.journal_core.specs.State.{moment_fault_of, Tests};
 ghost use Rattle.journal_core.specs.declared.outcome.Answer.TheVariants as answer;
 ghost use Rattle.journal_core.specs.declared.step.Refusal.TheVariants as refusal;
 
-use crate::flow_numbers::FlowNumbers;
+use crate::classifier::Classifier;
 use crate::spare::Spare;
 use codel_core::Served;
 use fair_core::{Backlog, FlowView};
@@ -56,7 +56,7 @@ fn sent_of(served: &Served, moment: u64) -> Sent
 pub struct Sched<K: Keeps<Event> = Stored> {
     params: Params,
     seed: Seed,
-    numbers: FlowNumbers,
+    classifier: Classifier,
     backlog: Backlog,
     journal: Journal<K>,
     last_moment: u64,
@@ -101,13 +101,13 @@ impl<K: Keeps<Event>> Sched<K> {
         requires { K.told keeper ≡ [] }
         ensures { IfOk result (λ s. s ≡ new_scheduler params seed) }
     {
-        let numbers = FlowNumbers::try_new(alloc, &params, &seed)?;
+        let classifier = Classifier::try_new(alloc, &params, seed)?;
         Ok(Sched {
             backlog: Backlog::try_new(alloc, params.flows())?,
             journal: Journal::try_over(keeper, 1)?,
             params,
             seed,
-            numbers,
+            classifier,
             last_moment: 0,
             is_closed: false,
             turns: 0,
@@ -174,7 +174,7 @@ impl<K: Keeps<Event>> Sched<K> {
             stamp: moment,
             packet,
         };
-        let flow = self.numbers.flow_of(&self.params, &self.seed, &packet);
+        let flow = self.classifier.flow_of(&packet);
         self.backlog.clear_comparisons();
         self.backlog.arrive(flow, waiting, &self.params);
         self.journal.accept(&waiting, lane, flow);

@@ -1,12 +1,30 @@
-use Rattle.std.proofs.Common.{◌≡◌, ℕ, ◌+◌, ◌<◌, ◌≤◌, List, [], ◌∷◌, ◌++◌, get_or, length, set, sum_by, refl, arith}
+use Rattle.std.proofs.Common.{◌≡◌, ℕ, ◌+◌, ◌<◌, ◌≤◌, List, [], ◌∷◌, ◌++◌, get_or, length, set, sum_by, refl, ap, ◌∙◌, arith}
 use Rattle.std.proofs.lemmas.List.{length_push}
 use Rattle.std.proofs.lemmas.List.Sums.{sum_by-set}
 use Rattle.packet_core.specs.FlowNumber.{flow_number}
+use Rattle.packet_core.specs.declared.flow.Seed.{Seed}
+use Rattle.packet_core.specs.declared.packet.FiveTuple.{FiveTuple}
 use Rattle.packet_core.specs.declared.packet.Waiting.{Waiting}
+use Rattle.packet_core.specs.declared.params.Classify.{Classify}
+use Rattle.packet_core.specs.declared.params.Classify.TheVariants.{Dport, Hash}
+use Rattle.sched_core.specs.Classifiers.{classifier_by, flow_by}
+use Rattle.sched_core.specs.declared.classifier.Classifier.{Classifier}
+use Rattle.sched_core.proofs.FqCodelRuns.{flow_below}
 use Rattle.sched_core.proofs.KeptScheduler.{Accepts, advances, few_admitted, few_compared, grown, kept_admits, kept_takes}
 use Rattle.sched_core.proofs.sched.Sched.admit.Given as given
 use Rattle.sched_core.proofs.sched.Sched.admit.Goals.{After-overflow}
 use Rattle.sched_core.proofs.sched.Sched.admit.Goals as goal
+
+-- the flow that the classifier gives is the one of the parameters and the seed that it was made with
+chosen_flow : (classify : Classify) (flows : ℕ) (seed : Seed) (k : Classifier) (tuple : FiveTuple) (flow : ℕ) → k ≡ classifier_by classify flows seed → flow ≡ flow_by k tuple
+    → flow ≡ flow_number classify flows seed tuple
+chosen_flow Hash flows seed k tuple flow made value = value ∙ ap (λ (x : Classifier). flow_by x tuple) made
+chosen_flow Dport flows seed k tuple flow made value = value ∙ ap (λ (x : Classifier). flow_by x tuple) made
+
+chosen_below : (classify : Classify) (flows : ℕ) (seed : Seed) (k : Classifier) (tuple : FiveTuple) (flow queues : ℕ) → k ≡ classifier_by classify flows seed → flow ≡ flow_by k tuple
+    → 0 < flows → queues ≡ flows → flow < queues
+chosen_below classify flows seed k tuple flow queues made value some many =
+    omega (arith, chosen_flow classify flows seed k tuple flow made value, flow_below classify flows seed tuple some)
 
 accepts : (g : given.Over) (c : After-overflow g) → let s = c.self.inside in let m = c.in_ok-provide.ensures.memory in
     Accepts s.params s.seed (record (s.backlog) { room = m.places }) c.arrive.new.self c.overflow.new.self (record (s.journal) { room = m.events }) c.overflow.new.journal s.last_moment c.args.moment c.args.lane c.provide.new.self.enqueues c.args.packet s.is_closed
@@ -14,7 +32,7 @@ accepts g c =
     let s = c.self.inside in
     let m = c.in_ok-provide.ensures.memory in
     let flow_is : c.flow_of-flow.result ≡ flow_number s.params.classify s.params.flows s.seed c.args.packet.tuple =
-    c.flow_of-flow.ensures.value in
+    chosen_flow _ _ _ _ _ _ c.self.invariant.classifier c.flow_of-flow.ensures.value in
     record {
       fits = rw (← c.self.view_is) at c.requires;
       some = c.in_ok-provide.ensures.ok;
@@ -42,12 +60,13 @@ pub overflow-requires : goal.overflow-requires
 overflow-requires g c =
     let m = c.in_ok-provide.ensures.memory in
     let kept = kept_takes m c.self.invariant.book in
-    let within : c.flow_of-flow.result < length (c.self.inside.backlog.queues.lists.queues) = omega (arith, c.flow_of-flow.ensures.below, c.self.invariant.book.flows) in
+    let within : c.flow_of-flow.result < length (c.self.inside.backlog.queues.lists.queues) =
+    chosen_below _ _ _ _ _ _ _ c.self.invariant.classifier c.flow_of-flow.ensures.value c.self.invariant.book.some c.self.invariant.book.flows in
     rw (c.accept.ensures, c.arrive.ensures.queues, c.clear_comparisons.ensures, m.in_flows, m.in_journal)
     (arrival_fits _ _ _ _ within (omega (arith, kept.space, c.in_ok-provide.ensures.ok)))
 
 pub invariant_of-self-2 : goal.invariant_of-self-2
-invariant_of-self-2 g c = rw c.spend.ensures (record { book = kept_admits (accepts g (goal.at.invariant_of-self-2 g c).After-overflow); numbers = c.flow_of-flow.ensures.kept })
+invariant_of-self-2 g c = rw c.spend.ensures (record { book = kept_admits (accepts g (goal.at.invariant_of-self-2 g c).After-overflow); classifier = c.flow_of-flow.ensures.kept ∙ c.self.invariant.classifier })
 
 pub returns-clause-made : goal.returns-clause-made
 returns-clause-made g c =

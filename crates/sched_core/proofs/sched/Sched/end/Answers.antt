@@ -7,7 +7,7 @@ pub invariant_of-self : goal.invariant_of-self
 invariant_of-self g c =
     record {
       book = rw (c.clear_comparisons.ensures, c.close.ensures) (kept_closes _ _ c.args.moment (rw (← c.self.view_is) at c.requires) c.self.invariant.book);
-      numbers = c.self.invariant.numbers;
+      classifier = c.self.invariant.classifier;
     }
 
 pub returns-clause-few_comparisons : goal.returns-clause-few_comparisons

@@ -11,7 +11,7 @@ invariant_of-self g c =
       book = kept_serves s.params s.seed (record s.backlog { comparisons = 0 }) c.serve-serving.new.self s.journal c.serve-serving.new.journal s.last_moment c.args.moment c.serve-serving.result.turns s.spare.enqueues s.is_closed None
           (rw (c.clear_comparisons.ensures, c.in_default.is) at c.serve-serving.ensures.chain) (rw c.clear_comparisons.ensures at c.serve-serving.ensures.arrived) (rw c.clear_comparisons.ensures at c.serve-serving.ensures.room)
           (rw (← c.self.view_is) at c.requires) (kept_counted s.params s.seed s.backlog s.journal s.last_moment s.spare.enqueues 0 s.is_closed c.self.invariant.book);
-      numbers = c.self.invariant.numbers;
+      classifier = c.self.invariant.classifier;
     }
 
 pub returns-in_default-clause-made : goal.returns-in_default-clause-made
@@ -36,7 +36,7 @@ invariant_of-self-2 g c =
           (kept_serves s.params s.seed (record s.backlog { comparisons = 0 }) c.serve-serving.new.self s.journal c.serve-serving.new.journal s.last_moment c.args.moment c.serve-serving.result.turns s.spare.enqueues s.is_closed (Some c.in-Some.served)
           (rw (c.clear_comparisons.ensures, c.in-Some.is) at c.serve-serving.ensures.chain) (rw c.clear_comparisons.ensures at c.serve-serving.ensures.arrived) (rw c.clear_comparisons.ensures at c.serve-serving.ensures.room)
           (rw (← c.self.view_is) at c.requires) (kept_counted s.params s.seed s.backlog s.journal s.last_moment s.spare.enqueues 0 s.is_closed c.self.invariant.book));
-      numbers = c.self.invariant.numbers;
+      classifier = c.self.invariant.classifier;
     }
 
 pub returns-clause-made : goal.returns-clause-made

@@ -49,5 +49,5 @@ invariant_of-result g c =
         counts = search rules;
         credits = rw (held.0, book.0) (opening_credits _ 1 c.flows.result (omega arith));
       };
-      numbers = c.in_ok-numbers.ensures {u = tt};
+      classifier = c.in_ok-classifier.ensures {u = tt};
     }

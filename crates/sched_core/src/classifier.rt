@@ -1,0 +1,88 @@
+//! The choice of a packet's flow, by one scheduler's parameters and seed.
+
+ghost use Rattle.std.specs.Prelude.{◌≡◌, ◌%◌, ◌<◌, IfOk};
+
+use crate::flow_numbers::FlowNumbers;
+use journal_core::Memory;
+use packet_core::{Classify, Packet, Params, Seed};
+use std::alloc::Global;
+use std::marker::Model;
+
+/// The choice from the destination port: the port modulo the number of flows.
+#[derive(Debug, Drop)]
+pub(crate) struct PortFlows {
+    flows: u32,
+    // A mask takes less time than a division.
+    is_power_of_two: bool,
+}
+
+impl Model for PortFlows {
+    ghost use Rattle.std.specs.Prelude.{◌≡◌, ℕ, ◌<◌, count_ones, true};
+
+    ghost Value = { ℕ };
+
+    ghost view = { λ p. p.flows };
+
+    ghost invariant = { λ p. (0 < p.flows) × (p.is_power_of_two ≡ true → count_ones p.flows ≡ 1) };
+}
+
+impl PortFlows {
+    /// The choice of so many flows.
+    fn new(flows: u32) -> PortFlows
+        requires { 0 < flows }
+        ensures { result ≡ flows }
+    {
+        PortFlows {
+            flows,
+            is_power_of_two: flows.is_power_of_two(),
+        }
+    }
+
+    /// The number of the flow of packets to that port.
+    fn flow_of(&self, port: u16) -> u32
+        ensures value { result ≡ port % self.now }
+        ensures below { result < self.now }
+    {
+        let port = u32::from(port);
+        if self.is_power_of_two {
+            return port & (self.flows - 1);
+        }
+        port % self.flows
+    }
+}
+
+/// The choice of packets' flows. It is made once, with a scheduler's parameters and seed.
+#[derive(Debug, Drop)]
+pub(crate) enum Classifier {
+    /// From the destination port, which takes no digest.
+    Port(PortFlows),
+    /// By the hash of the five-tuple.
+    Hash(FlowNumbers),
+}
+
+impl Classifier {
+    ghost use Rattle.sched_core.specs.Classifiers.{classifier_by, flow_by};
+
+    /// The choice by those parameters and that seed. All memory that it wants is taken here.
+    pub(crate) fn try_new(alloc: Global, params: &Params, seed: Seed) -> Result<Classifier, Memory>
+        ensures { IfOk result
+            (λ classifier. classifier ≡ classifier_by params.now.classify params.now.flows seed) }
+    {
+        Ok(match params.classify() {
+            Classify::Dport => Classifier::Port(PortFlows::new(params.flows())),
+            Classify::Hash => Classifier::Hash(FlowNumbers::try_new(alloc, *params, seed)?),
+        })
+    }
+
+    /// The number of a packet's flow.
+    // It takes the packet, and not its five-tuple: that would be copied for `dport` too, which wants the port alone.
+    pub(crate) fn flow_of(&mut self, packet: &Packet) -> u32
+        ensures value { result ≡ flow_by self.old packet.now.tuple }
+        ensures kept { self.new ≡ self.old }
+    {
+        match self {
+            Classifier::Port(flows) => flows.flow_of(packet.tuple().dport),
+            Classifier::Hash(numbers) => numbers.flow_of(&packet.tuple()),
+        }
+    }
+}
