@@ -81,11 +81,11 @@ marked_word word =
     let word_is : word ≡ high * 2 ^ 56 + low = omega arith in
     let high_is : high ≡ kinds * 2 ^ 2 + code = omega arith in
     let marks : bit_or high 3 ≡ kinds * 2 ^ 2 + 3 =
-        ap (λ (n : ℕ). bit_or n 3) high_is ∙ or_block 2 kinds 0 code 3 (omega arith) (omega arith)
-        ∙ ap (λ (n : ℕ). n * 2 ^ 2 + bit_or code 3) (or_zero_r kinds) ∙ ap (λ (n : ℕ). kinds * 2 ^ 2 + n) (or_three code (omega arith)) in
+    ap (λ (n : ℕ). bit_or n 3) high_is ∙ or_block 2 kinds 0 code 3 (omega arith) (omega arith)
+    ∙ ap (λ (n : ℕ). n * 2 ^ 2 + bit_or code 3) (or_zero_r kinds) ∙ ap (λ (n : ℕ). kinds * 2 ^ 2 + n) (or_three code (omega arith)) in
     let both : bit_or word (3 * 2 ^ 56) ≡ (kinds * 2 ^ 2 + 3) * 2 ^ 56 + low =
-        ap (λ (n : ℕ). bit_or n (3 * 2 ^ 56)) word_is ∙ or_block 56 high 3 low 0 (omega arith) (omega arith)
-        ∙ ap (λ (n : ℕ). bit_or high 3 * 2 ^ 56 + n) (or_zero_r low) ∙ ap (λ (n : ℕ). n * 2 ^ 56 + low) marks in
+    ap (λ (n : ℕ). bit_or n (3 * 2 ^ 56)) word_is ∙ or_block 56 high 3 low 0 (omega arith) (omega arith)
+    ∙ ap (λ (n : ℕ). bit_or high 3 * 2 ^ 56 + n) (or_zero_r low) ∙ ap (λ (n : ℕ). n * 2 ^ 56 + low) marks in
     both ∙ omega arith
 
 code_back : (code : ℕ) → code < 4 → ecn_code (ecn_in code) ≡ code
