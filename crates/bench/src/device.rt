@@ -1,5 +1,8 @@
 //! What the steps of a workload go through: a scheduler, an engine, or an engine behind a lock.
+//!
+//! Each call is merged into the loop that makes it, so that the timed rounds have the device's own calls alone.
 
+use crate::receiver::Receiver;
 use packet_core::Packet;
 use port_core::{LockedPort, PortSeat};
 use sched_core::{Engine, Event, Keeps, Sched};
@@ -13,50 +16,60 @@ pub struct Refused;
 /// What takes packets and gives them, each at a moment in microseconds.
 pub trait Device {
     /// A packet comes.
-    fn enqueue(&mut self, moment: u64, packet: Packet) -> Result<(), Refused>;
+    fn enqueue(&mut self, moment: u64, packet: &Packet) -> Result<(), Refused>;
 
-    /// A packet goes, where one waits.
-    fn dequeue(&mut self, moment: u64) -> Result<(), Refused>;
+    /// A packet goes to a receiver, where one waits.
+    fn dequeue<C: Receiver>(&mut self, moment: u64, receiver: &mut C) -> Result<(), Refused>;
 
     /// How many packets wait.
     fn queued(&mut self) -> u64;
 }
 
 impl<K: Keeps<Event>> Device for Sched<K> {
-    fn enqueue(&mut self, moment: u64, packet: Packet) -> Result<(), Refused> {
-        if self.enqueue(moment, 0, packet).is_err() {
+    #[inline(always)]
+    fn enqueue(&mut self, moment: u64, packet: &Packet) -> Result<(), Refused> {
+        if self.enqueue(moment, 0, *packet).is_err() {
             return Err(Refused);
         }
         Ok(())
     }
 
-    fn dequeue(&mut self, moment: u64) -> Result<(), Refused> {
-        if self.dequeue(moment).is_err() {
-            return Err(Refused);
+    #[inline(always)]
+    fn dequeue<C: Receiver>(&mut self, moment: u64, receiver: &mut C) -> Result<(), Refused> {
+        match &self.dequeue(moment) {
+            Ok(Some(sent)) => receiver.receive(sent),
+            Ok(None) => {}
+            Err(_) => return Err(Refused),
         }
         Ok(())
     }
 
+    #[inline(always)]
     fn queued(&mut self) -> u64 {
         Sched::queued(self)
     }
 }
 
 impl Device for Engine {
-    fn enqueue(&mut self, moment: u64, packet: Packet) -> Result<(), Refused> {
-        if self.enqueue(moment, 0, packet).is_err() {
+    #[inline(always)]
+    fn enqueue(&mut self, moment: u64, packet: &Packet) -> Result<(), Refused> {
+        if self.enqueue(moment, 0, *packet).is_err() {
             return Err(Refused);
         }
         Ok(())
     }
 
-    fn dequeue(&mut self, moment: u64) -> Result<(), Refused> {
-        if self.dequeue(moment).is_err() {
-            return Err(Refused);
+    #[inline(always)]
+    fn dequeue<C: Receiver>(&mut self, moment: u64, receiver: &mut C) -> Result<(), Refused> {
+        match &self.dequeue(moment) {
+            Ok(Some(sent)) => receiver.receive(sent),
+            Ok(None) => {}
+            Err(_) => return Err(Refused),
         }
         Ok(())
     }
 
+    #[inline(always)]
     fn queued(&mut self) -> u64 {
         Engine::queued(self)
     }
@@ -86,10 +99,11 @@ impl<A: Ledger, S: Ledger, R: Wait + Drop> OnPort<A, S, R> {
 }
 
 impl<A: Ledger, S: Ledger, R: Wait + Drop> Device for OnPort<A, S, R> {
-    fn enqueue(&mut self, moment: u64, packet: Packet) -> Result<(), Refused> {
+    #[inline(always)]
+    fn enqueue(&mut self, moment: u64, packet: &Packet) -> Result<(), Refused> {
         if self
             .port
-            .enqueue(&self.rt, &mut self.seat, moment, packet)
+            .enqueue(&self.rt, &mut self.seat, moment, *packet)
             .is_err()
         {
             return Err(Refused);
@@ -97,13 +111,17 @@ impl<A: Ledger, S: Ledger, R: Wait + Drop> Device for OnPort<A, S, R> {
         Ok(())
     }
 
-    fn dequeue(&mut self, moment: u64) -> Result<(), Refused> {
-        if self.port.dequeue(&self.rt, &mut self.seat, moment).is_err() {
-            return Err(Refused);
+    #[inline(always)]
+    fn dequeue<C: Receiver>(&mut self, moment: u64, receiver: &mut C) -> Result<(), Refused> {
+        match &self.port.dequeue(&self.rt, &mut self.seat, moment) {
+            Ok(Some(sent)) => receiver.receive(sent),
+            Ok(None) => {}
+            Err(_) => return Err(Refused),
         }
         Ok(())
     }
 
+    #[inline(always)]
     fn queued(&mut self) -> u64 {
         self.port.totals(&self.rt, &mut self.seat).queued
     }

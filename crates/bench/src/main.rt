@@ -7,6 +7,8 @@ ghost use Rattle.std.specs.Prelude.{◌<◌, ◌≤◌, IfSome};
 mod device;
 mod lanes;
 mod monitors;
+mod receiver;
+mod rounds;
 mod sending;
 mod settling;
 mod times;
@@ -19,17 +21,26 @@ use crate::monitors::{Beside, PUBLISHES, times_of_publishes, times_of_reads, tim
 use crate::sending::times_sending;
 use crate::settling::{SETTLED, times_settling};
 use crate::times::Times;
-use crate::timing::{Fault, times_of_rounds};
+use crate::timing::{Fault, Measured, times_of_rounds};
 use crate::unstored::totals_of_passing;
-use crate::workload::{Memory, ROUNDS, WORKLOADS, Workload};
+use crate::workload::{Memory, Outgoing, ROUNDS, WORKLOADS, Workload};
 use std::env::{self, Env};
 use std::process::ExitCode;
 use std::rt::Clock;
 use std::sync::Wait;
 use std::thread::Threads;
 
+/// What the words that set something begin with.
+const DASHES: &str = "--";
+
 /// The word for fresh memory.
 const COLD: &str = "--cold";
+
+/// The word for packets that are read.
+const READ: &str = "--read";
+
+/// What the word for one repetition begins with. The number of its rounds stands after it.
+const ROUNDS_ARE: &str = "--rounds=";
 
 /// The word for the settling of a locked port.
 const SETTLE: &str = "settle";
@@ -47,16 +58,76 @@ fn main(rt: HostRuntime) -> ExitCode {
     }
 }
 
+/// How the workloads that the words name are run.
+#[derive(Clone, Copy, Debug)]
+struct Settings {
+    memory: Memory,
+    outgoing: Outgoing,
+    /// The rounds of one repetition, where a word sets them.
+    rounds: Option<u32>,
+}
+
+impl Settings {
+    /// Those that the words set, wherever they stand. Words with no dashes are passed over.
+    fn of(words: &[String]) -> Result<Settings, Fault> {
+        let mut settings = Settings {
+            memory: Memory::Warm,
+            outgoing: Outgoing::Left,
+            rounds: None,
+        };
+        for word in words {
+            if is_setting(word) {
+                settings.set(word)?;
+            }
+        }
+        Ok(settings)
+    }
+
+    /// Sets what the word says.
+    fn set(&mut self, word: &str) -> Result<(), Fault> {
+        if word == COLD {
+            self.memory = Memory::Cold;
+        } else if word == READ {
+            self.outgoing = Outgoing::Read;
+        } else {
+            let rounds = word.strip_prefix(ROUNDS_ARE).ok_or(Fault::UnknownSetting)?;
+            self.rounds = Some(rounds.parse::<u32>().ok().ok_or(Fault::UnknownSetting)?);
+        }
+        Ok(())
+    }
+
+    /// A workload as it is run with them.
+    fn applied_to(self, workload: Workload) -> Workload {
+        let workload = match self.memory {
+            Memory::Warm => workload,
+            Memory::Cold => workload.cold(),
+        };
+        let workload = match self.rounds {
+            None => workload,
+            Some(rounds) => workload.once(rounds),
+        };
+        Workload {
+            outgoing: self.outgoing,
+            ..workload
+        }
+    }
+}
+
+/// Whether the word sets something, and names nothing to measure.
+fn is_setting(word: &str) -> bool {
+    word.starts_with(DASHES)
+}
+
 /// Without a name it says what it measures; else it measures what each names.
 fn bench<R: AllocGlobal + Clock + Env + Print + Threads + Wait + Sync + Clone + Drop>(
     rt: &R,
 ) -> Result<(), Fault> {
     let words: Vec<String> = env::args(rt)?.skip(1).collect(rt.alloc())?;
-    let memory = memory_of(&words);
+    let settings = Settings::of(&words)?;
     let mut is_asked = false;
     for word in &words {
-        if word.as_str() != COLD {
-            measure(rt, word, memory)?;
+        if !is_setting(word) {
+            measure(rt, word, settings)?;
             is_asked = true;
         }
     }
@@ -66,20 +137,11 @@ fn bench<R: AllocGlobal + Clock + Env + Print + Threads + Wait + Sync + Clone + 
     Ok(())
 }
 
-/// The memory that the words ask for, wherever they do.
-fn memory_of(words: &[String]) -> Memory {
-    if words.iter().any(|word| word.as_str() == COLD) {
-        Memory::Cold
-    } else {
-        Memory::Warm
-    }
-}
-
-/// Measures what that word names. The memory is a workload's: what else there is runs as ever.
+/// Measures what that word names. The settings are a workload's: what else there is runs as ever.
 fn measure<R: AllocGlobal + Clock + Print + Threads + Wait + Sync + Clone + Drop>(
     rt: &R,
     name: &str,
-    memory: Memory,
+    settings: Settings,
 ) -> Result<(), Fault> {
     if name == SETTLE {
         return measure_settling(rt);
@@ -96,14 +158,14 @@ fn measure<R: AllocGlobal + Clock + Print + Threads + Wait + Sync + Clone + Drop
     if let Some(beside) = reads_of(name) {
         return tell_each(rt, name, ROUNDS, times_of_reads(rt, beside)?);
     }
-    measure_threads(rt, name, memory)
+    measure_threads(rt, name, settings)
 }
 
 /// Measures what is told as a rate, and else a workload.
 fn measure_threads<R: AllocGlobal + Clock + Print + Threads + Wait + Sync + Clone + Drop>(
     rt: &R,
     name: &str,
-    memory: Memory,
+    settings: Settings,
 ) -> Result<(), Fault> {
     if let Some(monitors) = monitors_of(name) {
         return tell_rate(rt, name, times_while_read(rt, monitors)?);
@@ -114,29 +176,49 @@ fn measure_threads<R: AllocGlobal + Clock + Print + Threads + Wait + Sync + Clon
     if let Some(senders) = senders_of(name, "lanes_") {
         return tell_rate(rt, name, times_through_lanes(rt, senders)?);
     }
-    measure_rounds(rt, name, memory)
+    measure_rounds(rt, name, settings)
 }
 
 /// Measures the workload of that name.
 fn measure_rounds<R: AllocGlobal + Clock + Print + Wait + Clone + Drop>(
     rt: &R,
     name: &str,
-    memory: Memory,
+    settings: Settings,
 ) -> Result<(), Fault> {
     let named = named(name).ok_or(Fault::UnknownWorkload)?;
-    let workload = match memory {
-        Memory::Warm => *named,
-        Memory::Cold => named.cold(),
-    };
-    let times = times_of_rounds(rt, &workload)?;
-    tell_each(rt, name, workload.rounds, times)
+    let workload = settings.applied_to(*named);
+    let measured = times_of_rounds(rt, &workload)?;
+    match workload.outgoing {
+        Outgoing::Left => tell_each(rt, name, workload.rounds, measured.times),
+        Outgoing::Read => tell_read(rt, name, workload.rounds, measured),
+    }
 }
 
 /// Tells how long each of the rounds took, in nanoseconds: at the least, and in the median.
 fn tell_each(rt: &impl Print, name: &str, rounds: u32, times: Times) -> Result<(), Fault> {
-    let least = times.least.saturating_mul(10) / u128::from(rounds.max(1));
-    let median = times.median.saturating_mul(10) / u128::from(rounds.max(1));
+    let least = tenths_of(times.least, rounds);
+    let median = tenths_of(times.median, rounds);
     tell_tenths(rt, name, rounds, least, median)
+}
+
+/// Tells the same, with the sum of what was read.
+fn tell_read(rt: &impl Print, name: &str, rounds: u32, measured: Measured) -> Result<(), Fault> {
+    let least = tenths_of(measured.times.least, rounds);
+    let median = tenths_of(measured.times.median, rounds);
+    println!(rt;
+        "{name},{rounds},{}.{},{}.{},{}",
+        least / 10,
+        least % 10,
+        median / 10,
+        median % 10,
+        measured.sum
+    )?;
+    Ok(())
+}
+
+/// The share of each of the rounds in a time, in tenths.
+fn tenths_of(time: u128, rounds: u32) -> u128 {
+    time.saturating_mul(10) / u128::from(rounds.max(1))
 }
 
 /// Tells the least and the median, which are given in tenths.
@@ -254,13 +336,19 @@ fn named(name: &str) -> Option<&'static Workload> {
 /// Says what each word measures.
 fn tell_workloads(rt: &impl Print) -> Result<(), Fault> {
     println!(rt;
-        "bench [--cold] NAME... prints name,rounds,least,median: nanoseconds per round, of some repetitions"
+        "bench [{COLD}] [{READ}] [{ROUNDS_ARE}N] NAME... prints name,rounds,least,median: nanoseconds per round, of some repetitions"
     )?;
     println!(rt;
         "A workload has 15 of 100,000 rounds, from the third on in memory that was used before, but for what says not"
     )?;
     println!(rt;
         "{COLD}: a workload has 5 of 1,000,000 rounds, which store in fresh memory; settle and the rest are as ever"
+    )?;
+    println!(rt;
+        "{READ}: a workload's rounds read the id, the length and the ECN field of each packet that comes out; it prints name,rounds,least,median,sum: the sum is that of all they read in a repetition"
+    )?;
+    println!(rt;
+        "{ROUNDS_ARE}N: a workload has one repetition of N rounds, as to count its instructions"
     )?;
     for workload in &WORKLOADS {
         println!(rt; "{}: {}", workload.name, workload.about)?;

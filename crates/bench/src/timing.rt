@@ -1,12 +1,14 @@
 //! How long the rounds of a workload take.
 
-ghost use Rattle.std.specs.Prelude.{◌≡◌, ◌+◌, [], IfOk, IfSome, nat_lt, if◌then◌else◌, slice_get, vec_len};
+ghost use Rattle.std.specs.Prelude.{◌≡◌, [], IfOk, vec_len};
 ghost use Rattle.bench.specs.Traffic.{GoesTo, GoInTurn};
 ghost use Rattle.packet_core.specs.Params.{standard_fields};
 
 use crate::device::{Device, OnPort, Refused};
+use crate::receiver::{Reading, Unread};
+use crate::rounds::{Traffic, fill, rounds};
 use crate::times::{Times, no_times};
-use crate::workload::{Keeper, Round, Through, Workload};
+use crate::workload::{Keeper, Outgoing, Through, Workload};
 use packet_core::{
     Ecn, FiveTuple, Ip, LengthOutOfRange, Packet, ParamFields, ParamName, Params, Seed,
 };
@@ -36,6 +38,9 @@ pub enum Fault {
     /// There is no workload of that name.
     #[error("no such workload")]
     UnknownWorkload,
+    /// There is no such word with two dashes.
+    #[error("no such setting")]
+    UnknownSetting,
     /// The clock or the output failed.
     #[error("{0}")]
     Io(io::Error),
@@ -86,44 +91,21 @@ impl From<LengthOutOfRange> for Fault {
     }
 }
 
-/// The packets of a workload: one to each busy flow in turn. They are made before the clock runs.
-#[derive(Debug, Drop)]
-struct Traffic {
-    packets: Vec<Packet>,
-    next: usize,
-}
-
-impl Traffic {
-    /// The packets of that workload, the first one's flow first.
-    fn try_new(alloc: Global, workload: &Workload) -> Result<Traffic, Fault>
-        ensures count { IfOk result (λ t. vec_len t.packets ≡ workload.now.busy) }
-        ensures each { IfOk result (λ t. GoInTurn workload.now.ecn t.packets.items) }
-        ensures first { IfOk result (λ t. t.next ≡ 0) }
-    {
-        let mut packets = Vec::new(alloc);
-        for flow in 0..workload.busy {
-            let Ok(port) = u16::try_from(flow) else {
-                return Err(Fault::OutOfRange);
-            };
-            if packets.push(packet_to(port, workload.ecn)?).is_err() {
-                return Err(Fault::Memory);
-            }
+/// The packets of a workload, one to each busy flow, the first flow's first. They are made before the clock runs.
+fn packets_of(alloc: Global, workload: &Workload) -> Result<Vec<Packet>, Fault>
+    ensures count { IfOk result (λ p. vec_len p ≡ workload.now.busy) }
+    ensures each { IfOk result (λ p. GoInTurn workload.now.ecn p.items) }
+{
+    let mut packets = Vec::new(alloc);
+    for flow in 0..workload.busy {
+        let Ok(port) = u16::try_from(flow) else {
+            return Err(Fault::OutOfRange);
+        };
+        if packets.push(packet_to(port, workload.ecn)?).is_err() {
+            return Err(Fault::Memory);
         }
-        Ok(Traffic { packets, next: 0 })
     }
-
-    /// The next packet, which goes to the next flow.
-    fn packet(&mut self) -> Option<Packet>
-        ensures packet { result ≡ slice_get self.old.packets.items self.old.next }
-        ensures next { IfSome result (λ _. self.new.next
-            ≡ (if nat_lt (self.old.next + 1) (vec_len self.old.packets) then self.old.next + 1 else 0)) }
-        ensures packets { self.new.packets ≡ self.old.packets }
-    {
-        let packet = *self.packets.get(self.next)?;
-        let after = self.next + 1;
-        self.next = if after < self.packets.len() { after } else { 0 };
-        Some(packet)
-    }
+    Ok(packets)
 }
 
 /// A packet to a flow.
@@ -140,27 +122,20 @@ pub fn packet_to(flow: u16, ecn: Ecn) -> Result<Packet, LengthOutOfRange>
     Packet::try_new(tuple, PACKET_BYTES, ecn)
 }
 
-/// The moments of the rounds.
+/// What the rounds of a workload took, and what was read in them.
 #[derive(Clone, Copy, Debug)]
-struct Moments {
-    nanoseconds: u64,
-    step: u64,
+pub struct Measured {
+    /// The times of the repetitions.
+    pub times: Times,
+    /// The sum that the last repetition's receiver read.
+    pub sum: u64,
 }
 
-impl Moments {
-    /// The moments that begin at the start of a workload's rounds.
-    fn of(workload: &Workload) -> Moments {
-        Moments {
-            nanoseconds: START,
-            step: u64::from(workload.step),
-        }
-    }
-
-    /// The moment of the next round, in microseconds.
-    fn tick(&mut self) -> u64 {
-        self.nanoseconds = self.nanoseconds.saturating_add(self.step);
-        self.nanoseconds / 1_000
-    }
+/// What the rounds took once, and what was read in them.
+#[derive(Clone, Copy, Debug)]
+struct Timed {
+    nanoseconds: u128,
+    sum: u64,
 }
 
 /// What the rounds took, each time with a new scheduler.
@@ -182,53 +157,55 @@ impl Moments {
 pub fn times_of_rounds<R: AllocGlobal + Clock + Wait + Clone + Drop>(
     rt: &R,
     workload: &Workload,
-) -> Result<Times, Fault> {
+) -> Result<Measured, Fault> {
     let mut times = no_times(rt.alloc(), workload.repetitions)?;
+    let mut sum = 0;
     for _ in 0..workload.repetitions {
-        times.push(nanoseconds(rt, workload)?)?;
+        let timed = run_once(rt, workload)?;
+        times.push(timed.nanoseconds)?;
+        sum = timed.sum;
     }
-    Times::of(times).ok_or(Fault::OutOfRange)
+    let times = Times::of(times).ok_or(Fault::OutOfRange)?;
+    Ok(Measured { times, sum })
 }
 
-/// The time that the rounds took once, in nanoseconds.
-fn nanoseconds<R: AllocGlobal + Clock + Wait + Clone + Drop>(
+/// The rounds once.
+fn run_once<R: AllocGlobal + Clock + Wait + Clone + Drop>(
     rt: &R,
     workload: &Workload,
-) -> Result<u128, Fault> {
+) -> Result<Timed, Fault> {
     match workload.through {
-        Through::Sched(Keeper::Stored) => {
-            nanoseconds_over(rt, workload, Stored::new(rt.alloc()))
-        }
-        Through::Sched(Keeper::Unstored) => nanoseconds_over(rt, workload, Unstored::new()),
+        Through::Sched(Keeper::Stored) => { run_with_keeper(rt, workload, Stored::new(rt.alloc())) }
+        Through::Sched(Keeper::Unstored) => run_with_keeper(rt, workload, Unstored::new()),
         Through::Engine => {
             let mut engine = Engine::try_new(rt.alloc(), params_of(workload)?, SEED)?;
-            nanoseconds_of(rt, workload, &mut engine)
+            run_through(rt, workload, &mut engine)
         }
         Through::LockedPort => {
-            nanoseconds_locked::<Brand, Brand, _>(rt, workload, Blank::new(1), Blank::new(1))
+            run_locked::<Brand, Brand, _>(rt, workload, Blank::new(1), Blank::new(1))
         }
     }
 }
 
 /// The same with a journal that tells its events to that keeper.
-fn nanoseconds_over<R: AllocGlobal + Clock, K: Keeps<Event>>(
+fn run_with_keeper<R: AllocGlobal + Clock, K: Keeps<Event>>(
     rt: &R,
     workload: &Workload,
     keeper: K,
-) -> Result<u128, Fault>
+) -> Result<Timed, Fault>
     requires { K.told keeper ≡ [] }
 {
     let mut sched = Sched::try_with_keeper(rt.alloc(), params_of(workload)?, SEED, keeper)?;
-    nanoseconds_of(rt, workload, &mut sched)
+    run_through(rt, workload, &mut sched)
 }
 
 /// The same through a port of one seat with these ledgers.
-fn nanoseconds_locked<A: Ledger, S: Ledger, R: AllocGlobal + Clock + Wait + Clone + Drop>(
+fn run_locked<A: Ledger, S: Ledger, R: AllocGlobal + Clock + Wait + Clone + Drop>(
     rt: &R,
     workload: &Workload,
     accepted: Blank,
     sent: Blank,
-) -> Result<u128, Fault>
+) -> Result<Timed, Fault>
     requires accepted { (accepted.name ≡ A.name) × (accepted.parts ≡ A.parts) × (A.parts ≡ 1) }
     requires sent { (sent.name ≡ S.name) × (sent.parts ≡ S.parts) × (S.parts ≡ 1) }
 {
@@ -236,30 +213,30 @@ fn nanoseconds_locked<A: Ledger, S: Ledger, R: AllocGlobal + Clock + Wait + Clon
     let own = rt.clone()?;
     let (port, seats) = LockedPort::<A, S>::start(rt.alloc(), params, SEED, 1, accepted, sent)?;
     match OnPort::new(own, port, seats) {
-        Some(mut device) => nanoseconds_of(rt, workload, &mut device),
+        Some(mut device) => run_through(rt, workload, &mut device),
         None => Err(Fault::Refused),
     }
 }
 
 /// The same through a device that has made no step. What makes the packets and fills the queues before isn't counted.
-fn nanoseconds_of<R: AllocGlobal + Clock, D: Device>(
+fn run_through<R: AllocGlobal + Clock, D: Device>(
     rt: &R,
     workload: &Workload,
     device: &mut D,
-) -> Result<u128, Fault> {
-    let mut traffic = Traffic::try_new(rt.alloc(), workload)?;
-    let waiting = workload.waiting_in_all();
-    fill(device, &mut traffic, waiting)?;
-    if matches!(workload.round, Round::Enqueue | Round::TwoEnqueuesDequeue) {
-        fill(
-            device,
-            &mut traffic,
-            u64::from(workload.limit).saturating_sub(waiting),
-        )?;
-    }
+) -> Result<Timed, Fault> {
+    let packets = packets_of(rt.alloc(), workload)?;
+    let mut traffic = Traffic::over(&packets).ok_or(Fault::OutOfRange)?;
+    fill(device, &mut traffic, workload)?;
     let begun = now(rt);
-    let made = rounds(device, &mut traffic, workload);
-    nanoseconds_since(rt, begun, made.is_ok())
+    let made = match workload.outgoing {
+        Outgoing::Left => rounds::<D, Unread>(device, traffic, workload),
+        Outgoing::Read => rounds::<D, Reading>(device, traffic, workload),
+    };
+    let nanoseconds = nanoseconds_since(rt, begun, made.is_ok())?;
+    Ok(Timed {
+        nanoseconds,
+        sum: made?,
+    })
 }
 
 /// The moment, by the clock.
@@ -298,60 +275,4 @@ fn params_of(workload: &Workload) -> Result<Params, ParamName>
         classify: workload.classify,
         ..ParamFields::standard()
     })
-}
-
-/// That many packets come before the first round.
-fn fill<D: Device>(device: &mut D, traffic: &mut Traffic, packets: u64) -> Result<(), Refused> {
-    for _ in 0..packets {
-        enqueue(device, traffic, START / 1_000)?;
-    }
-    Ok(())
-}
-
-/// All rounds of a workload.
-fn rounds<D: Device>(
-    device: &mut D,
-    traffic: &mut Traffic,
-    workload: &Workload,
-) -> Result<(), Refused> {
-    let mut moments = Moments::of(workload);
-    // A loop for each kind of round, so that the kind isn't asked in the time that is measured.
-    match workload.round {
-        Round::EnqueueDequeue => {
-            for _ in 0..workload.rounds {
-                let moment = moments.tick();
-                enqueue(device, traffic, moment)?;
-                device.dequeue(moment)?;
-            }
-        }
-        Round::RefillDequeue => {
-            let waiting = workload.waiting_in_all();
-            for _ in 0..workload.rounds {
-                let moment = moments.tick();
-                for _ in device.queued()..=waiting {
-                    enqueue(device, traffic, moment)?;
-                }
-                device.dequeue(moment)?;
-            }
-        }
-        Round::Enqueue => {
-            for _ in 0..workload.rounds {
-                enqueue(device, traffic, moments.tick())?;
-            }
-        }
-        Round::TwoEnqueuesDequeue => {
-            for _ in 0..workload.rounds {
-                let moment = moments.tick();
-                enqueue(device, traffic, moment)?;
-                enqueue(device, traffic, moment)?;
-                device.dequeue(moment)?;
-            }
-        }
-    }
-    Ok(())
-}
-
-/// The next packet comes, at a moment in microseconds.
-fn enqueue<D: Device>(device: &mut D, traffic: &mut Traffic, moment: u64) -> Result<(), Refused> {
-    device.enqueue(moment, traffic.packet().ok_or(Refused)?)
 }

@@ -49,6 +49,15 @@ pub enum Through {
     LockedPort,
 }
 
+/// What becomes of the packets that come out.
+#[derive(Clone, Copy, Debug, PartialEq, Eq)]
+pub enum Outgoing {
+    /// Nothing: the rounds have the calls alone.
+    Left,
+    /// They are read, as a device that sends them has to.
+    Read,
+}
+
 /// What memory the rounds run on (`times_of_rounds` says how far).
 #[derive(Clone, Copy, Debug, PartialEq, Eq)]
 pub enum Memory {
@@ -90,6 +99,8 @@ pub struct Workload {
     pub classify: Classify,
     /// What the steps go through.
     pub through: Through,
+    /// What becomes of the packets that come out.
+    pub outgoing: Outgoing,
 }
 
 impl Workload {
@@ -107,6 +118,17 @@ impl Workload {
         Workload {
             rounds: COLD_ROUNDS,
             repetitions: COLD_REPETITIONS,
+            ..self
+        }
+    }
+
+    /// The same with one repetition of so many rounds.
+    pub fn once(self, rounds: u32) -> Workload
+        ensures { result ≡ record self { rounds = rounds; repetitions = 1 } }
+    {
+        Workload {
+            rounds,
+            repetitions: 1,
             ..self
         }
     }
@@ -128,6 +150,7 @@ const OVERLOAD: Workload = Workload {
     ecn_use: EcnUse::Drop,
     classify: Classify::Dport,
     through: Through::Sched(Keeper::Stored),
+    outgoing: Outgoing::Left,
 };
 
 /// One flow in which ten packets wait.

@@ -6,7 +6,7 @@ use Rattle.std.proofs.Math.Seq.{get_or-append_seam}
 use Rattle.packet_core.specs.declared.packet.Ecn.{Ecn}
 use Rattle.packet_core.specs.Packets.{PacketParts}
 use Rattle.bench.specs.Traffic.{GoesTo, GoInTurn}
-use Rattle.bench.proofs.timing.Traffic.try_new.Goals as goal
+use Rattle.bench.proofs.timing.packets_of.Goals as goal
 
 -- the packets go to the flows in turn where one to the next flow comes behind them
 one_more : (flow : ℕ) (ecn : Ecn) (packets : List PacketParts) (next : PacketParts) → length packets ≡ flow → GoInTurn ecn packets → GoesTo flow ecn next → GoInTurn ecn (packets ++ next ∷ [])

@@ -1,6 +1,6 @@
 use Rattle.std.proofs.Common.{◌≡◌, vec_len}
 use Rattle.bench.specs.Traffic.{GoInTurn}
-use Rattle.bench.proofs.timing.Traffic.try_new.Given as goal
+use Rattle.bench.proofs.timing.packets_of.Given as goal
 
 -- so many packets are made, to the flows in turn
 abbrev pub invariant-loop-flow : goal.invariant-loop-flow
