@@ -60,12 +60,15 @@ impl<A: Ledger, S: Ledger> Front<A, S> {
     {
         let moment = self.moment(now);
         let lane = seat.lane;
-        self.engine.test(&Step::Enqueue {
-            moment,
-            lane,
-            packet,
-        })?;
-        seat.told.reserve(1)?;
+        if seat.told.reserve(1).is_err() {
+            // Want of memory comes last.
+            self.engine.test(&Step::Enqueue {
+                moment,
+                lane,
+                packet,
+            })?;
+            return Err(Refusal::Memory);
+        }
         let admitted = self.engine.enqueue(moment, lane, packet)?;
         self.accepted.add(&mut seat.accepted_share, 1);
         seat.told.push_reserved(Event::Accepted {
