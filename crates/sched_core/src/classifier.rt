@@ -81,7 +81,7 @@ impl Classifier {
         ensures kept { self.new ≡ self.old }
     {
         match self {
-            Classifier::Port(flows) => flows.flow_of(packet.tuple().dport),
+            Classifier::Port(flows) => flows.flow_of(packet.dport()),
             Classifier::Hash(numbers) => numbers.flow_of(&packet.tuple()),
         }
     }
