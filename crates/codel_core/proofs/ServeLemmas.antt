@@ -69,7 +69,7 @@ one_drop_more interval i k r old state is same spaced =
     ∙ (λ x. record old { count = old.count + (k + 1); drop_next = drop_moment interval old k + spacing_of (same x) (ap (λ (s : CodelState). s.count + 1) is x) })
     ∙ ap (λ (n : ℕ). record old { count = old.count + (k + 1); drop_next = drop_moment interval old n }) more
 
--- a state behind one drop more, where the next packet was judged in between
+-- a state after one drop more, where the next packet was judged in between
 pub drop_judged : (interval i k r : ℕ) (old state judged : CodelState) → state ≡ after_drops interval old k
     → judged.first_above ≡ state.first_above → record judged { first_above = state.first_above } ≡ record state { count = state.count + 1 }
     → i ≡ interval → IsSpacing i judged.count r
@@ -257,7 +257,7 @@ module _ {A B : Type 0} {items : A → List Waiting} {pulled : A → ℕ → A �
 
 -- IN PLACE
 
--- what a judgement of the first packet of what k places leave finds
+-- what a judgement of the head finds, after k packets have left the queue
 pub judged_behind : (p : ParamFields) (now : ℕ) (q rest : List Waiting) (k : ℕ) {droppable : Bool} {held before first_above : Option ℕ}
     → rest ≡ drop k q → before ≡ held
     → (IsTrue droppable ↔ IsDroppable p now rest before 0)

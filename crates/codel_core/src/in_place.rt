@@ -1,4 +1,4 @@
-//! CoDel for a line that shows its head: each packet is judged where it stands, and read out once, as it leaves.
+//! CoDel for a line that shows its head: each packet is judged where it stands, and is taken out only as it leaves.
 
 ghost use Rattle.std.specs.Prelude.{◌≡◌, ◌+◌, ◌^◌, ◌<◌, ◌≤◌, ◌↔◌, [], length, slice_get, IsNone, IsTrue, None, Some};
 ghost use Rattle.packet_core.specs.Params.{IsIntervalInRange};
@@ -41,9 +41,7 @@ pub(crate) fn serve_heads<L: Heads, S: DropSink>(
         return None;
     };
     if passes(state, first, line.bytes_behind(), now, params) {
-        let given = Served::by_threshold(first, now, params);
-        let _ = line.pull();
-        return Some(given);
+        return Some(give_head(line, now, params));
     }
     Some(serve_droppable_head(state, line, now, params, sink))
 }
@@ -135,13 +133,15 @@ fn drop_head<L: Heads, S: DropSink>(line: &mut L, sink: &mut S)
 }
 
 /// Gives the head of a line that isn't empty, without a mark of CoDel's.
+// It is pulled before it is read: read first, it would be kept over the pull, and copied once more.
+#[inline(always)]
 fn give_head<L: Heads>(line: &mut L, now: u64, params: &Params) -> Served
     requires { 0 < length (L.items line.old) }
     ensures { GivesHead L.items L.pulled (threshold_mark params.now now) line.old result line.new }
 {
-    let given = Served::by_threshold(head_of(line), now, params);
-    let _ = line.pull();
-    given
+    let pulled = line.pull();
+    let Some(head) = &pulled else { unreachable!() };
+    Served::by_threshold(head, now, params)
 }
 
 /// Gives the head of a line that isn't empty, with CoDel's mark.
@@ -149,7 +149,7 @@ fn give_marked<L: Heads>(line: &mut L) -> Served
     requires { 0 < length (L.items line.old) }
     ensures { GivesHead L.items L.pulled (λ _. marks.CodelMark) line.old result line.new }
 {
-    let given = Served::by_codel(head_of(line));
-    let _ = line.pull();
-    given
+    let pulled = line.pull();
+    let Some(head) = &pulled else { unreachable!() };
+    Served::by_codel(head)
 }

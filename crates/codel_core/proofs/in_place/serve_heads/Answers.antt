@@ -22,6 +22,5 @@ returns-then-passes-clause-served g c =
     let head : Some c.in-Some.first.now ≡ slice_get q 0 = c.in-Some.ensures in
     let at : IsAt c.in-Some.first.now c.bytes_behind.result q 0 = record { head_is = head; bytes = c.bytes_behind.ensures } in
     let sent = c.passes.ensures.sent (cc) in
-    gives_head NoMark g.met.L.Pull.pulled_more (stands_first g.met.L.Pull.pulled_none g.met.S.DropSink.taken_none)
-    (record { head = c.in-Some.first.now; head_is = head; leaves = record { rest = c.pull-then-passes.ensures.rest; step = c.pull-then-passes.ensures.step }; given = c.by_threshold-given.ensures })
+    gives_head NoMark g.met.L.Pull.pulled_more (stands_first g.met.L.Pull.pulled_none g.met.S.DropSink.taken_none) c.give_head.ensures
     (rw (← at.head_is, ← at.bytes) sent.first_above) (sent.verdict q at)
