@@ -16,7 +16,7 @@ pub struct Refused;
 /// What takes packets and gives them, each at a moment in microseconds.
 pub trait Device {
     /// A packet comes.
-    fn enqueue(&mut self, moment: u64, packet: &Packet) -> Result<(), Refused>;
+    fn enqueue(&mut self, moment: u64, packet: Packet) -> Result<(), Refused>;
 
     /// A packet goes to a receiver, where one waits.
     fn dequeue<C: Receiver>(&mut self, moment: u64, receiver: &mut C) -> Result<(), Refused>;
@@ -27,8 +27,8 @@ pub trait Device {
 
 impl<K: Keeps<Event>> Device for Sched<K> {
     #[inline(always)]
-    fn enqueue(&mut self, moment: u64, packet: &Packet) -> Result<(), Refused> {
-        if self.enqueue(moment, 0, *packet).is_err() {
+    fn enqueue(&mut self, moment: u64, packet: Packet) -> Result<(), Refused> {
+        if self.enqueue(moment, 0, packet).is_err() {
             return Err(Refused);
         }
         Ok(())
@@ -52,8 +52,8 @@ impl<K: Keeps<Event>> Device for Sched<K> {
 
 impl Device for Engine {
     #[inline(always)]
-    fn enqueue(&mut self, moment: u64, packet: &Packet) -> Result<(), Refused> {
-        if self.enqueue(moment, 0, *packet).is_err() {
+    fn enqueue(&mut self, moment: u64, packet: Packet) -> Result<(), Refused> {
+        if self.enqueue(moment, 0, packet).is_err() {
             return Err(Refused);
         }
         Ok(())
@@ -100,10 +100,10 @@ impl<A: Ledger, S: Ledger, R: Wait + Drop> OnPort<A, S, R> {
 
 impl<A: Ledger, S: Ledger, R: Wait + Drop> Device for OnPort<A, S, R> {
     #[inline(always)]
-    fn enqueue(&mut self, moment: u64, packet: &Packet) -> Result<(), Refused> {
+    fn enqueue(&mut self, moment: u64, packet: Packet) -> Result<(), Refused> {
         if self
             .port
-            .enqueue(&self.rt, &mut self.seat, moment, *packet)
+            .enqueue(&self.rt, &mut self.seat, moment, packet)
             .is_err()
         {
             return Err(Refused);

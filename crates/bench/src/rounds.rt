@@ -1,6 +1,6 @@
 //! The rounds of a workload, which are what is timed.
 //!
-//! What a round has beside the device's calls is merged into its loop: the next packet is lent, and the device copies it.
+//! What a round has beside the device's calls is merged into its loop: a packet is lent, and copied once, into the call.
 
 ghost use Rattle.std.specs.Prelude.{◌≡◌, ◌+◌, ◌<◌, [], IfSome, IsNone, if◌then◌else◌, length, nat_lt, slice_get};
 
@@ -184,5 +184,5 @@ fn enqueue<D: Device>(
     traffic: &mut Traffic<'_>,
     moment: u64,
 ) -> Result<(), Refused> {
-    device.enqueue(moment, traffic.packet())
+    device.enqueue(moment, *traffic.packet())
 }
