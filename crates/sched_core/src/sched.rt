@@ -128,11 +128,12 @@ impl<K: Keeps<Event>> Sched<K> {
             .reserve(enqueues, &mut self.backlog, &mut self.journal)
     }
 
-    /// Accepts a packet from a lane at a moment, in microseconds, into the queue of its flow, and takes room for
-    /// its fate in the journal. While more packets wait than `limit`, or more bytes than `memory_limit`, where that
-    /// is set, the flow that has the most bytes then loses a batch from its head (RFC 8290, section 4.1;
-    /// tc-fq_codel(8)). It refuses a moment of 2^60 or more or before the last one, then a packet after the close,
-    /// then one after 2^40 others, and last where a growth is refused.
+    /// Accepts a packet from a lane at a moment, in microseconds, into the queue of its flow, with room for its fate in
+    /// the journal. Where there is no memory for one packet more, it takes some for several at once. While more packets
+    /// wait than `limit`, or more bytes than `memory_limit`, where that is set, the flow that has the most bytes then
+    /// loses a batch from its head (RFC 8290, section 4.1; tc-fq_codel(8)). It refuses a moment of 2^60 or more or
+    /// before the last one, then a packet after the close, then one after 2^40 others, and last where a growth for one
+    /// packet is refused.
     pub fn enqueue(&mut self, moment: u64, lane: u32, packet: Packet) -> Result<Admitted, Refusal>
         ensures admitted { IfOk result
             (λ a. a ≡ admitted_at (discipline_of self.old) self.old.standing.state moment packet) }
