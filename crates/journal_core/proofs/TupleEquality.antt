@@ -1,8 +1,7 @@
--- The equality that is derived for five-tuples, by which the rows are found, is that of all their parts. It tests the
--- parts as they stand in memory, the destination port before the source port.
+-- The equality that is derived for five-tuples, by which the rows are found, is that of all their parts.
 use Rattle.std.proofs.Common.{◌≡◌, ◌==◌, ◌&&◌, Bool, List, refl, sym, ap, ◌∙◌}
 use Rattle.std.specs.List.{list_any}
-use Rattle.std.proofs.Math.Bool.{and_assoc, and_comm}
+use Rattle.std.proofs.Math.Bool.{and_assoc}
 use Rattle.packet_core.specs.Packets.{same_ip, same_tuple}
 use Rattle.packet_core.specs.declared.packet.Ip.{Ip}
 use Rattle.packet_core.specs.declared.packet.Ip.TheVariants.{V4, V6}
@@ -21,10 +20,9 @@ five_tests a b c d e = sym (and_assoc (a && b && c) d e ∙ and_assoc (a && b) c
 
 tuples_agree : (a b : FiveTuple) → (tuple_equality.ghosts).eq a b ≡ same_tuple a b
 tuples_agree a b =
-    let ports = (a.dport == b.dport) && (a.sport == b.sport) in
+    let ports = (a.sport == b.sport) && (a.dport == b.dport) in
     ap (λ (src : Bool). (a.proto == b.proto) && (src && ((ip_equality.ghosts).eq a.dst b.dst && ports))) (addresses_agree a.src b.src)
     ∙ ap (λ (dst : Bool). (a.proto == b.proto) && (same_ip a.src b.src && (dst && ports))) (addresses_agree a.dst b.dst)
-    ∙ ap (λ (ports : Bool). (a.proto == b.proto) && (same_ip a.src b.src && (same_ip a.dst b.dst && ports))) (and_comm (a.dport == b.dport) (a.sport == b.sport))
     ∙ five_tests (a.proto == b.proto) (same_ip a.src b.src) (same_ip a.dst b.dst) (a.sport == b.sport) (a.dport == b.dport)
 
 -- A five-tuple is found among others by the one test exactly where it is by the other.
