@@ -113,6 +113,7 @@ fn first_count(state: &CodelState, now: u64, params: &Params) -> u64
     ensures range { (1 ≤ result) × (result ≤ 2 ^ 61) }
 {
     let grown = state.count.saturating_sub(state.lastcount);
+    // Sixteen intervals are RFC 8289's own bound (section 5.5): a queue that was quiet for longer has another load.
     if grown > 1 && now < state.drop_next + 16 * params.interval() {
         grown
     } else {

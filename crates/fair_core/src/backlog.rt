@@ -176,6 +176,8 @@ impl Backlog {
         self.flows.push(flow, waiting);
         self.arrived += 1;
         if !self.flows.listed(flow) {
+            // What it owed when it left the lists is forgiven: it had nothing to send while others sent. Otherwise a
+            // flow of few, long packets would wait for its turn before each of them, which new flows are spared.
             self.flows.add_new(flow);
             self.accounts[flow as usize].credits = i64::from(params.quantum());
         }
@@ -211,6 +213,8 @@ impl Backlog {
     }
 
     /// The flow with the most bytes loses half of its packets from its head, but at least one, and so many at most.
+    // The head goes, and not what arrives: its sender learns of the loss as much sooner as the queue is long. Half a
+    // queue goes, so that a flood pays for one look for the fattest flow once in many packets.
     // Kept out of an enqueue: most lose nothing.
     #[inline(never)]
     fn lose_batch<K: Keeps<Event>>(&mut self, most: u32, moment: u64, journal: &mut Journal<K>)
@@ -319,6 +323,8 @@ impl Backlog {
         requires { head_of self.old.queues ≡ Some head }
         ensures { self.new ≡ with_lists self.old (emptied_lists self.old.queues.lists head) }
     {
+        // A new flow that emptied goes once through the old list. If it left at once, its next packet would make it new
+        // again, and a flow that sends one packet at a time would always go before the old flows, which could starve.
         match head.from {
             FlowList::New => self.flows.new_to_old(),
             FlowList::Old => self.flows.leave_old(),

@@ -2,6 +2,9 @@
 //! below one node, the top: a change of one flow's bytes is at most one walk between its leaf and the top, and the
 //! winner of all flows is read there. So a few busy flows whose leaves are near each other pay only for the levels
 //! among them.
+//!
+//! It is a tree, and not a scan at an overflow: a scan looks at all flows each time, under an overload, when time is
+//! shortest. Here each packet pays for one walk at most, and an overflow for none.
 
 ghost use Rattle.std.specs.Prelude.{◌≡◌, ◌≢◌, ℕ, [], ◌+◌, ◌-◌, ◌*◌, ◌^◌, ◌<◌, ◌≤◌, ◌↔◌, All, IfOk, IfSome, IsNone, IsTrue, length, min, replicate, slice_index, slice_set, vec_len};
 ghost use Rattle.flow_core.specs.Winners.{CountsFew, HasMostBytes, IsLevels};

@@ -1,4 +1,5 @@
-use Rattle.std.proofs.Common.{ℕ, ◌∙◌, ◌<◌, Vec, Global, arith, length, rules, slice_index_or, subst}
+use Rattle.std.proofs.Common.{ℕ, ◌∙◌, ◌<◌, Vec, Global, arith, inl, length, refl, rules, slice_index_or, subst}
+use Rattle.std.proofs.lemmas.Result.{err_from_is_err_and}
 use Rattle.packet_core.specs.Packets.{PacketParts}
 use Rattle.port_core.specs.Devices.{KeepsLanes, rings_of}
 use Rattle.port_core.specs.declared.lane_sender.LaneDone.{LaneDone}
@@ -52,3 +53,8 @@ returns-clause-made g c =
       none_left = λ free none. c.in_ok-rows.ensures.none_left
           (served_open (length c.args.lists.now) c.args.device.engine.steps c.args.steps.now c.in_ok-device.device.engine.steps free none (served g at));
     })
+
+pub returns-in_err-publish-clause-fault : goal.returns-in_err-publish-clause-fault
+returns-in_err-publish-clause-fault g c =
+    let p = err_from_is_err_and c.from_residual-in_err-publish.result c.from_residual-in_err-publish.ensures.1 in
+    rw (p.1, p.2) (inl refl)
