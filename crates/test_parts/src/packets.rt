@@ -72,6 +72,8 @@ mod tests {
         assert!(&rt; marked.is_same(&greatest(&rt, LONG, SHORT, Ecn::Ce).with_tag(7)));
         assert!(&rt; !marked.is_same(&packet));
         assert!(&rt; !packet.with_tag(8).is_same(&packet));
+        let other = greatest(&rt, SHORT, LONG, Ecn::Ect1);
+        assert!(&rt; other.marked().ecn() == Ecn::Ce);
     }
 
     #[test]
