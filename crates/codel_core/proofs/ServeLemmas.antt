@@ -15,7 +15,7 @@ use Rattle.codel_core.specs.Queue.{bytes_of, IsLateWith, IsLate, HasCome, IsDrop
 use Rattle.codel_core.specs.Schedule.{spacing_of, drop_moment, after_drops, entered}
 use Rattle.codel_core.specs.Spacing.{IsSpacing}
 use Rattle.codel_core.proofs.SpacingLemmas.{one_spacing_is}
-use Rattle.codel_core.specs.Heads.{DropsHead, GivesHead}
+use Rattle.codel_core.specs.Heads.{DropsHead, JudgesLine, Stands}
 use Rattle.codel_core.specs.Verdict.{FirstAbove, given_up, stays, leaves, waits, marks, IsAt, IsDropped, IsHeadOf, SendsHead, Verdict, nothing, drops, served, PassesDrops, ServesLine, final_mark}
 
 -- QUEUES AND STATES
@@ -268,13 +268,6 @@ judged_behind p now q rest k left same judged fate =
     let tail = drop-drop 1 k q in
     (rw (← at, ← tail, ← left, ← same) fate, rw (← at, ← tail, ← left, ← same) judged)
 
--- After k drops the packet at place k stands at the head of the line.
-pub record Stands {A B : Type 0} (items : A → List Waiting) (pulled : A → ℕ → A → Type 0) (taken : B → List Waiting → B → Type 0)
-    (line : A) (sink : B) (k : ℕ) (line' : A) (sink' : B) : Type 0 where
-  pub pulls : pulled line k line'
-  pub rest : items line' ≡ drop k (items line)
-  pub takes : taken sink (take k (items line)) sink'
-
 -- While the queue drops, in place: so many packets were dropped.
 pub record WalksOn {A B : Type 0} (items : A → List Waiting) (pulled : A → ℕ → A → Type 0) (taken : B → List Waiting → B → Type 0) (room : B → ℕ)
     (p : ParamFields) (now : ℕ) (old : CodelState) (line : A) (sink : B) (state : CodelState) (line' : A) (sink' : B) : Type 0 where
@@ -308,21 +301,35 @@ module _ {A B : Type 0} {items : A → List Waiting} {pulled : A → ℕ → A �
         takes = rw (next_taken q k d.head is) takes;
       }
 
-  -- the packet at the head is given
-  pub gives_head : {p : ParamFields} {now : ℕ} {old new : CodelState} {k : ℕ} {line' line'' : A} {sink' : B} (mark : Mark) {answer : Served}
-      → ((a b c : A) (n : ℕ) → pulled a n b → pulled b 1 c → pulled a (n + 1) c)
-      → Stands items pulled taken line sink k line' sink' → GivesHead items pulled (λ w. final_mark p now (Some w) mark) line' answer line''
+  -- the packet at the head is judged
+  pub judges_head : {p : ParamFields} {now : ℕ} {old new : CodelState} {k : ℕ} {line' : A} {sink' : B} {head : Waiting} (by_codel : Mark) {mark : Mark}
+      → Stands items pulled taken line sink k line' sink' → Some head ≡ slice_get (items line') 0 → mark ≡ final_mark p now (Some head) by_codel
       → FirstAbove (IsLate p now (items line) k) p.interval now old.first_above new.first_above
-      → Verdict p now (items line) old k mark (record new { first_above = old.first_above })
-      → ServesLine items pulled taken p now old line sink (Some answer) new line'' sink'
-  gives_head {k = k} {line' = line'} {line'' = line''} mark pulled_more s g fate verdict =
+      → Verdict p now (items line) old k by_codel (record new { first_above = old.first_above })
+      → JudgesLine items pulled taken p now old line sink mark new line' sink'
+  judges_head {p = p} {now = now} {k = k} by_codel s is told fate verdict = record {
+    drops = k;
+    decides = record { by_codel = by_codel; verdict = verdict; mark_is = told ∙ ap (λ (o : Option Waiting). final_mark p now o by_codel) (stands_at s is); first_above = fate };
+    stands = s;
+  }
+
+  -- the head that was judged is pulled, if there is one
+  pub serves_judged : {p : ParamFields} {now : ℕ} {old new : CodelState} {line' line'' : A} {sink' : B} {mark : Mark} {popped : Option Waiting} {answer : Option Served}
+      → ((a b c : A) (n : ℕ) → pulled a n b → pulled b 1 c → pulled a (n + 1) c)
+      → JudgesLine items pulled taken p now old line sink mark new line' sink'
+      → popped ≡ slice_get (items line') 0 → items line'' ≡ drop 1 (items line') → pulled line' 1 line'' → answer ≡ option_map (served mark) popped
+      → ServesLine items pulled taken p now old line sink answer new line'' sink'
+  serves_judged {line' = line'} {line'' = line''} {mark = mark} pulled_more j is rest step told =
       let q = items line in
-      gives (record {
+      let s = j.stands in
+      record {
+        drops = j.drops;
+        mark = mark;
+        decides = j.decides;
+        given = told ∙ ap (option_map (served mark)) (is ∙ ap (λ (l : List Waiting). slice_get l 0) s.rest ∙ at_head q j.drops);
         left = record {
-          pulls = pulled_more line line' line'' k s.pulls g.leaves.step;
-          rest = g.leaves.rest ∙ ap (λ (l : List Waiting). drop 1 l) s.rest ∙ drop-drop 1 k q;
+          pulls = pulled_more line line' line'' j.drops s.pulls step;
+          rest = rest ∙ ap (λ (l : List Waiting). drop 1 l) s.rest ∙ drop-drop 1 j.drops q;
           takes = s.takes;
         };
-        head_is = stands_at s g.head_is;
-        fate = fate;
-      }) verdict refl refl g.given
+      }

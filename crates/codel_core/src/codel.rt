@@ -86,6 +86,7 @@ impl Codel {
     }
 
     /// Serves as `serve` does. Each packet stays where it stands until it is dropped or given.
+    #[inline(always)]
     pub fn serve_in_place<L: Heads, S: DropSink>(
         &mut self,
         line: &mut L,

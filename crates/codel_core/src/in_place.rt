@@ -1,21 +1,21 @@
-//! CoDel for a line that shows its head: each packet is judged where it stands, and is taken out only as it leaves.
+//! CoDel's judgements for a line that shows its head: each packet is judged where it stands, and taken out by a drop alone.
 
-ghost use Rattle.std.specs.Prelude.{◌≡◌, ◌+◌, ◌^◌, ◌<◌, ◌≤◌, ◌↔◌, [], length, slice_get, IsNone, IsTrue, None, Some};
+ghost use Rattle.std.specs.Prelude.{◌≡◌, ◌+◌, ◌^◌, ◌<◌, ◌≤◌, ◌↔◌, [], length, slice_get, IsNone, IsTrue, Some};
 ghost use Rattle.packet_core.specs.Params.{IsIntervalInRange};
-ghost use Rattle.codel_core.specs.declared.served.Mark.TheVariants as marks;
 ghost use Rattle.codel_core.specs.Schedule.{IsStateInRange};
 ghost use Rattle.codel_core.specs.Queue.{IsDroppable, IsLate};
 ghost use Rattle.codel_core.specs.Verdict.{FirstAbove, ServesLine, threshold_mark};
-ghost use Rattle.codel_core.specs.Heads.{DropsHead, GivesHead};
+ghost use Rattle.codel_core.specs.Heads.{DropsHead, JudgesLine, MarksHead};
 
 use crate::control_law::spacing;
 use crate::judge::{enter, may_mark, passes, should_drop};
 use crate::line::{DropSink, Heads, pull_waiting};
-use crate::served::Served;
+use crate::served::{Mark, Served, mark_by_threshold};
 use crate::state::CodelState;
 use packet_core::{Params, Waiting};
 
 /// Serves as `Codel::serve_in_place` does, over the numbers alone.
+#[inline(always)]
 pub(crate) fn serve_heads<L: Heads, S: DropSink>(
     state: &mut CodelState,
     line: &mut L,
@@ -32,70 +32,96 @@ pub(crate) fn serve_heads<L: Heads, S: DropSink>(
         state.old line.old sink.old result state.new line.new sink.new }
     ensures interval { IsIntervalInRange params.now.interval }
 {
-    let _interval = params.interval();
-    let Some(first) = line.head() else {
-        // An empty line is no standing queue: the next packet that is late begins the interval anew.
-        state.first_above = None;
-        state.dropping = false;
-        let _ = line.pull();
+    let mark = judge_heads(state, line, now, params, sink);
+    let pulled = line.pull();
+    // Only looked at: taken out of its `Some`, a packet is copied once more.
+    let Some(head) = &pulled else {
         return None;
     };
-    if passes(state, first, line.bytes_behind(), now, params) {
-        return Some(give_head(line, now, params));
-    }
-    Some(serve_droppable_head(state, line, now, params, sink))
+    Some(Served::with_mark(head, mark))
 }
 
-/// Goes on with a serve whose first packet is droppable and still stands at the head of the line: that one is marked or
-/// dropped, or sent where no drop is due yet.
-// Kept out of its caller, which sends most packets without it: those that aren't droppable, and those that are while
-// no drop is due yet.
-#[inline(never)]
-fn serve_droppable_head<L: Heads, S: DropSink>(
+/// Drops those heads of the line that CoDel drops. The packet after them stays at the head, and the answer is the mark
+/// with which it is to be given. Where the line is empty the answer says nothing.
+// Merged into a dequeue: most packets are sent by it as they came.
+#[inline(always)]
+fn judge_heads<L: Heads, S: DropSink>(
     state: &mut CodelState,
     line: &mut L,
     now: u64,
     params: &Params,
     sink: &mut S,
-) -> Served
+) -> Mark
+    requires room { length (L.items line.old) ≤ S.room sink.old }
+    requires size { length (L.items line.old) ≤ 2 ^ 40 }
+    requires moment { now < 2 ^ 60 }
+    requires numbers { IsStateInRange state.old }
+    ensures judges { JudgesLine L.items L.pulled S.taken params.now now
+        state.old line.old sink.old result state.new line.new sink.new }
+    ensures interval { IsIntervalInRange params.now.interval }
+{
+    let _interval = params.interval();
+    let Some(first) = line.head() else {
+        // An empty line is no standing queue: the next packet that is late begins the interval anew.
+        state.first_above = None;
+        state.dropping = false;
+        return Mark::NoMark;
+    };
+    if passes(state, first, line.bytes_behind(first), now, params) {
+        return mark_by_threshold(first, now, params);
+    }
+    judge_droppable_head(state, line, now, params, sink)
+}
+
+/// Goes on where the head of the line is droppable: it is marked or dropped, or sent where no drop is due yet.
+// Kept out of its caller, which sends most packets without it: those that aren't droppable, and those that are while
+// no drop is due yet.
+#[inline(never)]
+fn judge_droppable_head<L: Heads, S: DropSink>(
+    state: &mut CodelState,
+    line: &mut L,
+    now: u64,
+    params: &Params,
+    sink: &mut S,
+) -> Mark
     requires room { length (L.items line.old) ≤ S.room sink.old }
     requires size { length (L.items line.old) ≤ 2 ^ 40 }
     requires moment { now < 2 ^ 60 }
     requires numbers { IsStateInRange state.old }
     requires droppable { IsDroppable params.now now (L.items line.old) state.old.first_above 0 }
-    ensures { ServesLine L.items L.pulled S.taken params.now now
-        state.old line.old sink.old (Some result) state.new line.new sink.new }
+    ensures { JudgesLine L.items L.pulled S.taken params.now now
+        state.old line.old sink.old result state.new line.new sink.new }
 {
     let interval = params.interval();
     if !state.dropping {
         if may_mark(params, head_of(line)) {
             enter(state, now, params);
-            return give_marked(line);
+            return Mark::CodelMark;
         }
         drop_head(line, sink);
         // The next packet is sent, late or not: the next drop is due a spacing from now. The judgement keeps
         // `first_above` right.
         judge_head(state, line, now, params);
         enter(state, now, params);
-        return give_head(line, now, params);
+        return mark_head(line, now, params);
     }
     while state.drop_next <= now {
         state.count += 1;
         if may_mark(params, head_of(line)) {
             // The mark tells the sender as a drop would. So it counts as one, and nothing has to leave in its place.
             state.drop_next += spacing(interval, state.count);
-            return give_marked(line);
+            return Mark::CodelMark;
         }
         drop_head(line, sink);
         if !judge_head(state, line, now, params) {
             // No further drop is due, so `drop_next` stays at the moment at which the last one was: should dropping
             // begin again, `first_count` takes the time since then for the time since that drop.
             state.dropping = false;
-            return give_head(line, now, params);
+            return mark_head(line, now, params);
         }
         state.drop_next += spacing(interval, state.count);
     }
-    give_head(line, now, params)
+    mark_head(line, now, params)
 }
 
 /// The head of a line that isn't empty.
@@ -119,7 +145,8 @@ fn judge_head<L: Heads>(state: &mut CodelState, line: &L, now: u64, params: &Par
         state.old.first_above state.new.first_above }
     ensures rest { record state.new { first_above = state.old.first_above } ≡ state.old }
 {
-    should_drop(state, head_of(line), line.bytes_behind(), now, params)
+    let head = head_of(line);
+    should_drop(state, head, line.bytes_behind(head), now, params)
 }
 
 /// The head of a line that isn't empty goes to the sink.
@@ -132,24 +159,10 @@ fn drop_head<L: Heads, S: DropSink>(line: &mut L, sink: &mut S)
     sink.take(pull_waiting(line));
 }
 
-/// Gives the head of a line that isn't empty, without a mark of CoDel's.
-// It is pulled before it is read: read first, it would be kept over the pull, and copied once more.
-#[inline(always)]
-fn give_head<L: Heads>(line: &mut L, now: u64, params: &Params) -> Served
-    requires { 0 < length (L.items line.old) }
-    ensures { GivesHead L.items L.pulled (threshold_mark params.now now) line.old result line.new }
+/// The mark of the head of a line that isn't empty, where CoDel doesn't mark it.
+fn mark_head<L: Heads>(line: &L, now: u64, params: &Params) -> Mark
+    requires { 0 < length (L.items line.now) }
+    ensures { MarksHead L.items (threshold_mark params.now now) line.now result }
 {
-    let pulled = line.pull();
-    let Some(head) = &pulled else { unreachable!() };
-    Served::by_threshold(head, now, params)
-}
-
-/// Gives the head of a line that isn't empty, with CoDel's mark.
-fn give_marked<L: Heads>(line: &mut L) -> Served
-    requires { 0 < length (L.items line.old) }
-    ensures { GivesHead L.items L.pulled (λ _. marks.CodelMark) line.old result line.new }
-{
-    let pulled = line.pull();
-    let Some(head) = &pulled else { unreachable!() };
-    Served::by_codel(head)
+    mark_by_threshold(head_of(line), now, params)
 }

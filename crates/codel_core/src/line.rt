@@ -1,6 +1,6 @@
 //! What CoDel takes packets from, and what takes the packets that it drops.
 
-ghost use Rattle.std.specs.Prelude.{◌≡◌, ℕ, ◌+◌, ◌^◌, ◌<◌, ◌≤◌, List, [], ◌∷◌, ◌++◌, length, drop, option_copied, slice_get};
+ghost use Rattle.std.specs.Prelude.{◌≡◌, Some, ℕ, ◌+◌, ◌^◌, ◌<◌, ◌≤◌, List, [], ◌∷◌, ◌++◌, length, drop, option_copied, slice_get};
 ghost use Rattle.packet_core.specs.declared.packet.Waiting.{Waiting};
 ghost use Rattle.codel_core.specs.Queue.{bytes_of};
 
@@ -36,9 +36,9 @@ pub trait Heads: Pull {
     fn head(&self) -> Option<&Waiting>
         ensures { option_copied result ≡ slice_get (Self.items self.now) 0 };
 
-    /// The lengths of the packets behind the head, added up.
-    fn bytes_behind(&self) -> u64
-        requires some { 0 < length (Self.items self.now) }
+    /// The lengths of the packets behind the head, added up. The head is handed in, since the caller has it.
+    fn bytes_behind(&self, head: &Waiting) -> u64
+        requires head { Some head.now ≡ slice_get (Self.items self.now) 0 }
         requires size { length (Self.items self.now) ≤ 2 ^ 40 }
         ensures { result ≡ bytes_of (drop 1 (Self.items self.now)) };
 }

@@ -2,6 +2,7 @@
 
 ghost use Rattle.std.specs.Prelude.{◌≡◌};
 ghost use Rattle.packet_core.specs.declared.packet.Ecn.TheVariants.{Ce};
+ghost use Rattle.codel_core.specs.Verdict.{threshold_mark};
 
 use crate::judge::is_past_threshold;
 use packet_core::{Params, Waiting};
@@ -27,34 +28,50 @@ pub struct Served {
 }
 
 impl Served {
-    ghost use Rattle.codel_core.specs.Verdict.{served, threshold_mark};
+    ghost use Rattle.codel_core.specs.Verdict.{served};
     ghost use Rattle.codel_core.specs.declared.served.Mark.TheVariants as marks;
 
     /// A packet that CoDel doesn't mark: as it was accepted, unless the threshold marks it.
     pub(crate) fn by_threshold(waiting: &Waiting, now: u64, params: &Params) -> Served
         ensures { result ≡ served (threshold_mark params.now now waiting.now) waiting.now }
     {
-        if is_past_threshold(waiting, now, params) {
-            Served {
-                waiting: with_ce(waiting),
-                mark: Mark::Threshold,
-            }
-        } else {
-            Served {
-                waiting: *waiting,
-                mark: Mark::NoMark,
-            }
-        }
+        Served::with_mark(waiting, mark_by_threshold(waiting, now, params))
     }
 
     /// A packet that CoDel marks.
     pub(crate) fn by_codel(waiting: &Waiting) -> Served
         ensures { result ≡ served marks.CodelMark waiting.now }
     {
-        Served {
-            waiting: with_ce(waiting),
-            mark: Mark::CodelMark,
+        Served::with_mark(waiting, Mark::CodelMark)
+    }
+
+    /// A packet with that mark: with its ECN field at CE, unless it has none.
+    #[inline(always)]
+    pub(crate) fn with_mark(waiting: &Waiting, mark: Mark) -> Served
+        ensures { result ≡ served mark waiting.now }
+    {
+        match mark {
+            Mark::NoMark => Served {
+                waiting: *waiting,
+                mark,
+            },
+            Mark::CodelMark | Mark::Threshold => Served {
+                waiting: with_ce(waiting),
+                mark,
+            },
         }
+    }
+}
+
+/// The mark of a packet that CoDel doesn't mark.
+#[inline(always)]
+pub(crate) fn mark_by_threshold(waiting: &Waiting, now: u64, params: &Params) -> Mark
+    ensures { result ≡ threshold_mark params.now now waiting.now }
+{
+    if is_past_threshold(waiting, now, params) {
+        Mark::Threshold
+    } else {
+        Mark::NoMark
     }
 }
 

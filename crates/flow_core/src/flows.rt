@@ -1,6 +1,6 @@
 //! The flows as callers see them, and the queue of one of them as a line that CoDel pulls from.
 
-ghost use Rattle.std.specs.Prelude.{◌≡◌, ◌+◌, ◌^◌, ◌<◌, ◌≤◌, ◌↔◌, [], ◌∷◌, ◌++◌, All, Contains, IfOk, IfSome, IsNone, IsTrue, OnErr, OnOk, drop, length, min, option_copied, slice_get, take};
+ghost use Rattle.std.specs.Prelude.{◌≡◌, ◌+◌, ◌^◌, ◌<◌, ◌≤◌, ◌↔◌, [], ◌∷◌, ◌++◌, All, Contains, IfOk, IfSome, IsNone, IsTrue, OnErr, OnOk, Some, drop, length, min, option_copied, slice_get, take};
 ghost use Rattle.packet_core.specs.Packets.{IsLengthInRange};
 ghost use Rattle.codel_core.specs.Queue.{bytes_of};
 ghost use Rattle.flow_core.specs.Fattest.{IsFattest, bytes_at};
@@ -122,6 +122,7 @@ impl Flows {
     }
 
     /// The packet at the head of a flow's queue, where it stands. None where the flow is empty.
+    #[inline(always)]
     fn head(&self, flow: u32) -> Option<&Waiting>
         requires { flow < length self.now.lists.queues }
         ensures { option_copied result ≡ slice_get (queue_at self.now.lists flow) 0 }
@@ -129,15 +130,14 @@ impl Flows {
         self.chains.head(flow)
     }
 
-    /// The lengths of the packets behind the head of a flow's queue, added up, in bytes.
-    fn bytes_behind(&self, flow: u32) -> u64
+    /// The lengths of the packets behind the head of a flow's queue, added up, in bytes. The head is handed in: it was
+    /// looked up already.
+    #[inline(always)]
+    fn bytes_behind(&self, flow: u32, head: &Waiting) -> u64
         requires flow { flow < length self.now.lists.queues }
-        requires some { 0 < length (queue_at self.now.lists flow) }
+        requires head { Some head.now ≡ slice_get (queue_at self.now.lists flow) 0 }
         ensures { result ≡ bytes_of (drop 1 (queue_at self.now.lists flow)) }
     {
-        let Some(head) = self.chains.head(flow) else {
-            unreachable!()
-        };
         self.winners.bytes(flow) - u64::from(head.packet.len())
     }
 
@@ -285,6 +285,7 @@ impl Flows {
 
     /// A flow's queue as a line that CoDel pulls from. Once it is let go, the flow's queue is what the pulls
     /// left, and all else is as it was.
+    #[inline(always)]
     pub fn line(&mut self, flow: u32) -> Line<'_>
         requires { flow < length self.old.lists.queues }
         ensures lends { result.flows.ghost_name ≡ self.entry.ghost_name }
@@ -336,7 +337,7 @@ impl Heads for Line<'_> {
         self.flows.head(self.flow)
     }
 
-    fn bytes_behind(&self) -> u64 {
-        self.flows.bytes_behind(self.flow)
+    fn bytes_behind(&self, head: &Waiting) -> u64 {
+        self.flows.bytes_behind(self.flow, head)
     }
 }

@@ -9,9 +9,9 @@ bytes_split : (c : After-from) → c.bytes.result ≡ bytes_of (drop 1 (get_or c
 bytes_split c =
     let queues = c.self.inside.chains.queues in
     let queue = get_or queues c.args.flow [] in
-    let head : Some c.in-Some.head.now ≡ slice_get queue 0 = c.in-Some.ensures in
+    let head : Some c.args.head.now ≡ slice_get queue 0 = rw (← c.self.view_is) at c.requires.head in
     let bytes = rw c.self.invariant.bytes at c.bytes.ensures in
-    omega (arith, bytes, bytes_seen queues c.args.flow, bytes_behind queue c.in-Some.head.now head, c.from.ensures, c.len.ensures.value)
+    omega (arith, bytes, bytes_seen queues c.args.flow, bytes_behind queue c.args.head.now head, c.from.ensures, c.len.ensures.value)
 
 pub overflow_sub-result : goal.overflow_sub-result
 overflow_sub-result c = omega (arith, bytes_split (goal.at.overflow_sub-result c).After-from)

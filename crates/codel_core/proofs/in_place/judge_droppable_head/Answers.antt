@@ -6,11 +6,12 @@ use Rattle.codel_core.specs.declared.served.Mark.TheVariants.{NoMark, CodelMark}
 use Rattle.codel_core.specs.declared.state.CodelState.{CodelState}
 use Rattle.codel_core.specs.Queue.{IsDroppable, IsLate}
 use Rattle.codel_core.specs.Verdict.{FirstAbove, Verdict, first_mark, first_drop}
-use Rattle.codel_core.proofs.ServeLemmas.{Stands, drops_at, drops_none, entered_from, fate_at, fate_of_droppable, first_above_kept, gives_head, judged_behind, leaves_at, marks_at, stands_at, stands_first, stands_next, unmarkable_at, waits_at}
+use Rattle.codel_core.specs.Heads.{Stands}
+use Rattle.codel_core.proofs.ServeLemmas.{drops_at, drops_none, entered_from, fate_at, fate_of_droppable, first_above_kept, judged_behind, judges_head, leaves_at, marks_at, stands_at, stands_first, stands_next, unmarkable_at, waits_at}
 use Rattle.codel_core.proofs.VerdictLemmas.{one_behind}
-use Rattle.codel_core.proofs.in_place.serve_droppable_head.Given as given
-use Rattle.codel_core.proofs.in_place.serve_droppable_head.Goals as goal
-use Rattle.codel_core.proofs.in_place.serve_droppable_head.Goals.{Start, After-drop_head-in-loop-state, After-judge_head-in-loop-state}
+use Rattle.codel_core.proofs.in_place.judge_droppable_head.Given as given
+use Rattle.codel_core.proofs.in_place.judge_droppable_head.Goals as goal
+use Rattle.codel_core.proofs.in_place.judge_droppable_head.Goals.{Start, After-drop_head-in-loop-state, After-judge_head-in-loop-state}
 
 -- nothing was dropped yet
 unmoved : (g : given.Over) (c : Start g) → Stands g.L.Pull.items g.L.Pull.pulled g.S.DropSink.taken c.args.line.now c.args.sink.now 0 c.args.line.now c.args.sink.now
@@ -30,7 +31,7 @@ returns-then-may_mark g c =
     let q = g.L.Pull.items c.args.line.now in
     let old = c.args.state.now in
     let d = c.requires.droppable in
-    gives_head CodelMark g.met.L.Pull.pulled_more (unmoved g (goal.at.returns-then-may_mark g c).Start) c.give_marked.ensures
+    judges_head CodelMark (unmoved g (goal.at.returns-then-may_mark g c).Start) c.head_of.ensures refl
     (rw (ap (λ (s : CodelState). s.first_above) c.enter.ensures) (fate_of_droppable old.first_above d.0 d.1))
     (subst (λ (s : CodelState). Verdict p c.args.now q old 0 CodelMark s) (entered_from p c.args.now old old c.enter.new.state refl c.enter.ensures)
     (first_mark d (cc) (rw (← c.head_of.ensures) (cc))))
@@ -42,7 +43,7 @@ returns-then-not-state g c =
     let old = c.args.state.now in
     let s = stands_next g.met.L.Pull.pulled_more g.met.S.DropSink.taken_more (unmoved g (goal.at.returns-then-not-state g c).Start) c.drop_head.ensures.dropped in
     let told = judged_behind p c.args.now q (g.L.Pull.items c.drop_head.new.line) 1 s.rest refl c.judge_head.ensures.droppable c.judge_head.ensures.first_above in
-    gives_head NoMark g.met.L.Pull.pulled_more s c.give_head.ensures
+    judges_head NoMark s c.mark_head.ensures.head_is c.mark_head.ensures.mark_is
     (rw (ap (λ (s : CodelState). s.first_above) c.enter-then-not-state.ensures) told.0)
     (subst (λ (s : CodelState). Verdict p c.args.now q old 1 NoMark s)
     (entered_from p c.args.now old c.judge_head.new.state c.enter-then-not-state.new.state c.judge_head.ensures.rest c.enter-then-not-state.ensures)
@@ -52,7 +53,7 @@ pub returns-then-may_mark-2 : goal.returns-then-may_mark-2
 returns-then-may_mark-2 g c =
     let w = c.loop-state.invariant in
     let is = stands_at w.stands c.head_of-in-loop-state.ensures in
-    gives_head CodelMark g.met.L.Pull.pulled_more w.stands c.give_marked-then-may_mark-2.ensures (fate_at w.way)
+    judges_head CodelMark w.stands c.head_of-in-loop-state.ensures refl (fate_at w.way)
     (marks_at w.way c.spacing.result c.loop-state-test.true (rw (← is) (cc)) c.interval-interval.ensures.value c.spacing.ensures)
 
 -- a packet is left behind one that is dropped
@@ -67,8 +68,8 @@ one_left g c =
 pub judge_head-requires-in-loop-state-clause-some : goal.judge_head-requires-in-loop-state-clause-some
 judge_head-requires-in-loop-state-clause-some g c = one_left g (goal.at.judge_head-requires-in-loop-state-clause-some g c).After-drop_head-in-loop-state
 
-pub give_head-requires-then-not-judge_head : goal.give_head-requires-then-not-judge_head
-give_head-requires-then-not-judge_head g c = one_left g (goal.at.give_head-requires-then-not-judge_head g c).After-drop_head-in-loop-state
+pub mark_head-requires-then-not-judge_head : goal.mark_head-requires-then-not-judge_head
+mark_head-requires-then-not-judge_head g c = one_left g (goal.at.mark_head-requires-then-not-judge_head g c).After-drop_head-in-loop-state
 
 -- one packet more was dropped
 next_stands : (g : given.Over) (c : After-judge_head-in-loop-state g)
@@ -91,7 +92,7 @@ returns-then-not-judge_head g c =
     let told = next_judged g at in
     let is = stands_at w.stands c.head_of-in-loop-state.ensures in
     let cannot = unmarkable_at c.args.params.now (g.L.Pull.items c.args.line.now) w.drops c.head_of-in-loop-state.result.now is (cc) in
-    gives_head NoMark g.met.L.Pull.pulled_more (next_stands g at) c.give_head-then-not-judge_head.ensures told.0
+    judges_head NoMark (next_stands g at) c.mark_head-then-not-judge_head.ensures.head_is c.mark_head-then-not-judge_head.ensures.mark_is told.0
     (leaves_at w.way c.judge_head-in-loop-state.new.state c.loop-state-test.true cannot (iff_false told.1 (cc)) c.judge_head-in-loop-state.ensures.rest)
 
 pub loop-state-preserved : goal.loop-state-preserved
@@ -115,4 +116,4 @@ loop-state-preserved g c =
 pub returns : goal.returns
 returns g c =
     let w = c.loop-state.invariant in
-    gives_head NoMark g.met.L.Pull.pulled_more w.stands c.give_head-2.ensures (fate_at w.way) (waits_at w.way c.loop-state-test.false)
+    judges_head NoMark w.stands c.mark_head-2.ensures.head_is c.mark_head-2.ensures.mark_is (fate_at w.way) (waits_at w.way c.loop-state-test.false)
