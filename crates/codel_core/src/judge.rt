@@ -52,6 +52,8 @@ pub(crate) fn should_drop(
 
 /// Whether the first packet of a serve, with so many bytes behind it, is sent without a mark of CoDel's: it isn't
 /// droppable, so that the queue stops to drop, or the queue drops and no drop is due yet.
+// Merged into a dequeue: most packets are judged by it alone.
+#[inline(always)]
 pub(crate) fn passes(
     state: &mut CodelState,
     head: &Waiting,

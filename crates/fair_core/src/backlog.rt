@@ -232,6 +232,8 @@ impl Backlog {
 
     /// A chain of turns, up to the first one that serves a flow, or to where both lists are empty (RFC 8290,
     /// section 4.2). What CoDel drops goes to the journal.
+    // Merged into a dequeue, as the turn that serves a flow is, so that the packet served is copied out of its slot once.
+    #[inline(always)]
     pub fn serve<K: Keeps<Event>>(
         &mut self,
         now: u64,
@@ -265,6 +267,7 @@ impl Backlog {
     }
 
     /// One turn of the flow at the head (RFC 8290, section 4.2).
+    #[inline(always)]
     fn turn<K: Keeps<Event>>(
         &mut self,
         head: Head,
@@ -308,6 +311,8 @@ impl Backlog {
     }
 
     /// The flow at the head of the lists goes to the end of the list of old flows.
+    // Kept out of a dequeue, and `leave` too: most turns serve a flow.
+    #[inline(never)]
     fn move_to_old(&mut self, head: Head)
         requires { head_of self.old.queues ≡ Some head }
         ensures { self.new ≡ with_lists self.old (to_old self.old.queues.lists head) }
@@ -319,6 +324,7 @@ impl Backlog {
     }
 
     /// The flow at the head of the lists has no packet: a new flow becomes an old one, and an old flow leaves.
+    #[inline(never)]
     fn leave(&mut self, head: Head)
         requires { head_of self.old.queues ≡ Some head }
         ensures { self.new ≡ with_lists self.old (emptied_lists self.old.queues.lists head) }
@@ -332,6 +338,7 @@ impl Backlog {
     }
 
     /// CoDel serves a flow, which has credits above 0. The length of the packet that is given is taken from them.
+    #[inline(always)]
     fn serve_flow<K: Keeps<Event>>(
         &mut self,
         flow: u32,
@@ -363,6 +370,7 @@ impl Backlog {
 }
 
 /// CoDel serves the queue of a flow.
+#[inline(always)]
 fn serve_queue<K: Keeps<Event>>(
     flows: &mut Flows,
     flow: u32,

@@ -134,6 +134,9 @@ impl<K: Keeps<Event>> Sched<K> {
     /// loses a batch from its head (RFC 8290, section 4.1; tc-fq_codel(8)). It refuses a moment of 2^60 or more or
     /// before the last one, then a packet after the close, then one after 2^40 others, and last where a growth for one
     /// packet is refused.
+    // Merged into its callers, as all that most packets pass through is: the packet is then written into its slot from
+    // where the caller has it.
+    #[inline(always)]
     pub fn enqueue(&mut self, moment: u64, lane: u32, packet: Packet) -> Result<Admitted, Refusal>
         ensures admitted { IfOk result
             (λ a. a ≡ admitted_at (discipline_of self.old) self.old.standing.state moment packet) }
@@ -153,6 +156,7 @@ impl<K: Keeps<Event>> Sched<K> {
     }
 
     /// The same at a moment that isn't refused. It fails for want of memory alone, and then nothing has changed.
+    #[inline(always)]
     pub(crate) fn admit(
         &mut self,
         moment: u64,
@@ -194,6 +198,9 @@ impl<K: Keeps<Event>> Sched<K> {
     /// section 4.2). CoDel may drop packets before it, or mark it (RFC 8289, section 5), and one that CoDel doesn't
     /// mark may be marked for the threshold (RFC 8290, section 5.2.7). It takes no memory. It refuses a moment of
     /// 2^60 or more or before the last one.
+    // Merged into its callers, as all that most packets pass through is: the packet is then copied once, from its slot to
+    // where the caller wants it, and only the parts that the caller reads.
+    #[inline(always)]
     pub fn dequeue(&mut self, moment: u64) -> Result<Option<Sent>, MomentFault>
         ensures made { IfOk result (λ sent. IsServed self.old moment sent self.new) }
         ensures few_comparisons { OnOk result (ComparesFew self.old self.new) }
@@ -206,6 +213,7 @@ impl<K: Keeps<Event>> Sched<K> {
     }
 
     /// The same at a moment that isn't refused.
+    #[inline(always)]
     pub(crate) fn serve(&mut self, moment: u64) -> Option<Sent>
         requires { refusal_of self.old.standing.state (Dequeue moment) ≡ None }
         ensures made { IsServed self.old moment result self.new }
