@@ -12,6 +12,7 @@ pub mod CountLemmas
 pub mod KnownPackets
 pub mod LossLemmas
 pub mod WaitingPackets
+pub mod PacketsGivenBack
 pub mod RunLemmas
 pub mod StepTotals
 pub mod RunsWithoutRefused
