@@ -1,9 +1,11 @@
 -- The packets that a journal names: those accepted, those sent and those lost.
-use Rattle.std.specs.Prelude.{ℕ, List, ◌++◌, map, Option, option_map}
+use Rattle.std.specs.Prelude.{◌≡◌, ℕ, List, ◌++◌, map, Option, option_map, IsSomeAnd}
 use Rattle.std.specs.List.{filter_map, flat_map}
 use Rattle.std.specs.List.Sorted.{IsPermutation}
 use Rattle.packet_core.specs.declared.packet.Waiting.{Waiting}
+use Rattle.codel_core.specs.Verdict.{sent_ecn}
 use Rattle.journal_core.specs.declared.event.Event.{Event}
+use Rattle.journal_core.specs.declared.step.Sent.{Sent}
 use Rattle.journal_core.specs.Happened.{Acceptance, acceptances, named, waiting_of}
 use Rattle.journal_core.specs.Statistics.{dropped_of, sent_of}
 
@@ -32,3 +34,10 @@ lost_packets events = packets_named (acceptances events) (filter_map dropped_of 
 abbrev pub AreGivenBackOnce : List (List Waiting) → List Waiting → List Event → Type 0
 AreGivenBackOnce queues lost events =
     IsPermutation (accepted_packets events) (sent_packets events ++ lost ++ flat_map (λ q. q) queues)
+
+-- What a dequeue answers is the packet that was accepted under its id, but for the ECN field: that is the accepted one
+-- too, or CE where the packet has a mark.
+abbrev pub IsOfAccepted : List Event → Sent → Type 0
+IsOfAccepted events sent =
+    IsSomeAnd (named (acceptances events) sent.id)
+    (λ a. sent.packet ≡ record a.packet { ecn = sent_ecn sent.mark a.packet.ecn })
