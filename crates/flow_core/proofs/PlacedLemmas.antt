@@ -1,18 +1,19 @@
 -- Packets that stand in slots of their own, each with the key of the one behind it.
-use Rattle.std.proofs.Common.{◌≡◌, ◌≢◌, ◌⊎◌, ℕ, suc, ◌+◌, ◌-◌, None, Some, List, [], ◌∷◌, ◌++◌, length, map, refl, sym, ap, subst, ◌∙◌, inl, inr, arith, length-append}
+use Rattle.std.proofs.Common.{◌≡◌, ◌≢◌, ◌⊎◌, ℕ, suc, ◌+◌, ◌-◌, ◌<◌, None, Some, List, [], ◌∷◌, ◌++◌, length, map, refl, sym, ap, subst, ◌∙◌, inl, inr, arith, length-append}
 use Rattle.packet_core.specs.declared.packet.Waiting.{Waiting}
 use Rattle.slab.specs.Slab.{ContainsKey, Slab, Updates, get, with_value}
 use Rattle.slab.proofs.SlabLemmas.{Updates-with_value}
 use Rattle.flow_core.specs.declared.chains.Chain.{Chain}
+use Rattle.flow_core.specs.declared.chains.FreeSlots.{FreeSlots}
 use Rattle.flow_core.specs.declared.chains.Link.{Link}
-use Rattle.flow_core.specs.Chains.{AreApart, AreLinked, HasEnds, HasKey, Placed, first_key, last_key, packets_from, packets_of}
+use Rattle.flow_core.specs.Chains.{AreApart, AreFree, AreLinked, HasEnds, HasKey, Placed, first_key, last_key, next_of, packets_from, packets_of}
 
 -- the packets alone
 abbrev pub waitings : List Placed → List Waiting
 waitings ps = map (λ p. p.waiting) ps
 
 -- each one's slot is filled
-has_slot : (slots : Slab Link) (ps : List Placed) (key : ℕ) → AreLinked slots ps → HasKey ps key → ContainsKey slots key
+pub has_slot : (slots : Slab Link) (ps : List Placed) (key : ℕ) → AreLinked slots ps → HasKey ps key → ContainsKey slots key
 has_slot slots [] key linked has = absurd has
 has_slot slots (p ∷ ps) key linked has =
     elim has [
@@ -99,7 +100,29 @@ ends_split slots (p ∷ rest) chain first ends some linked found =
     ends_left p [] any = refl
     ends_left p (q ∷ rest) any = let len : length (p ∷ q ∷ rest) - 1 ≡ length (q ∷ rest) = omega arith in rw len refl
 
--- A slot that was empty has one more packet, which is the last of these, and no slot but theirs has changed.
+-- The first one of the free slots, and the other ones.
+pub record HasFirstFree (slots : Slab Link) (free : FreeSlots) (left : List Placed) : Type 0 where
+  pub has : HasKey left free.first
+  pub others : AreFree slots (record { first = next_of (get slots free.first); len = free.len - 1 })
+  pub among : (key : ℕ) → HasKey others.left key → HasKey left key
+  pub apart : HasKey others.left free.first → ⊥
+
+pub first_free : (slots : Slab Link) (free : FreeSlots) (left : List Placed) → free.first ≡ first_key left free.first → free.len ≡ length left → AreLinked slots left → AreApart left → 0 < free.len → HasFirstFree slots free left
+first_free slots free [] first len linked once some = absurd (omega arith)
+first_free slots free (p ∷ rest) first len linked once some =
+    let link = ap (get slots) first ∙ linked.0.1 in
+    record {
+      has = inl (sym first);
+      others = record { left = rest; first = rw link (first_again rest linked.0.0); len = omega arith; linked = linked.1; once = once.1 };
+      among = λ key has. inr has;
+      apart = λ has. once.0 (subst (λ (k : ℕ). HasKey rest k) first has);
+    }
+  where
+    first_again : (rest : List Placed) (any : ℕ) → first_key rest any ≡ first_key rest (first_key rest any)
+    first_again [] any = refl
+    first_again (q ∷ rest) any = refl
+
+-- A slot that had none of these has one more packet, which is the last of these, and no slot but theirs has changed.
 pub record Extends (old new : Slab Link) (ps : List Placed) (added : Placed) : Type 0 where
   pub linked : AreLinked new (ps ++ added ∷ [])
   pub others : (key : ℕ) → key ≢ added.key → (HasKey ps key → ⊥) → get new key ≡ get old key
@@ -126,33 +149,33 @@ comes_first old new added updates = record {
   others = λ key other _. updates.others key other;
 }
 
--- the last one's slot is another than one that was empty
-last_apart : (old : Slab Link) (ps : List Placed) (chain : Chain) (key : ℕ) → HasEnds ps chain → chain.len ≢ 0 → AreLinked old ps → get old key ≡ None → HasKey ps chain.last × (chain.last ≢ key)
-last_apart old [] chain key ends some linked empty = absurd (some ends)
-last_apart old (p ∷ rest) chain key ends some linked empty =
+-- the last one's slot is another than one that none of them has
+last_apart : (ps : List Placed) (chain : Chain) (key : ℕ) → HasEnds ps chain → chain.len ≢ 0 → (HasKey ps key → ⊥) → HasKey ps chain.last × (chain.last ≢ key)
+last_apart [] chain key ends some absent = absurd (some ends)
+last_apart (p ∷ rest) chain key ends some absent =
     let last : last_key p rest ≡ chain.last = sym (ap (λ (c : Chain). c.last) ends) in
     let has = subst (λ (k : ℕ). HasKey (p ∷ rest) k) last (has_last p rest) in
-    (has, λ (same : chain.last ≡ key). empty_slot old (p ∷ rest) chain.last (ap (get old) same ∙ empty) linked has)
+    (has, λ (same : chain.last ≡ key). absent (subst (λ (k : ℕ). HasKey (p ∷ rest) k) same has))
 
-pub last_there : (old mid : Slab Link) (ps : List Placed) (chain : Chain) (added : Placed) → HasEnds ps chain → chain.len ≢ 0 → AreLinked old ps → get old added.key ≡ None
+pub last_there : (old mid : Slab Link) (ps : List Placed) (chain : Chain) (added : Placed) → HasEnds ps chain → chain.len ≢ 0 → AreLinked old ps → (HasKey ps added.key → ⊥)
     → Updates old mid added.key (Some (record { waiting = added.waiting; next = 0 })) → ContainsKey mid chain.last
-last_there old mid ps chain added ends some linked empty updates =
-    let last = last_apart old ps chain added.key ends some linked empty in
+last_there old mid ps chain added ends some linked absent updates =
+    let last = last_apart ps chain added.key ends some absent in
     rw (updates.others chain.last last.1) (has_slot old ps chain.last linked last.0)
 
 -- a packet comes behind the last one, whose slot gets its key
-pub comes_behind : (old mid : Slab Link) (ps : List Placed) (chain : Chain) (added : Placed) (link : Link) → HasEnds ps chain → chain.len ≢ 0 → AreLinked old ps → AreApart ps → get old added.key ≡ None
+pub comes_behind : (old mid : Slab Link) (ps : List Placed) (chain : Chain) (added : Placed) (link : Link) → HasEnds ps chain → chain.len ≢ 0 → AreLinked old ps → AreApart ps → (HasKey ps added.key → ⊥)
     → Updates old mid added.key (Some (record { waiting = added.waiting; next = 0 })) → get mid chain.last ≡ Some link
     → Extends old (with_value mid chain.last (record { waiting = link.waiting; next = added.key })) ps added
-comes_behind old mid [] chain added link ends some linked apart empty updates found = absurd (some ends)
-comes_behind old mid (p ∷ rest) chain added link ends some linked apart empty updates found =
-    let last = last_apart old (p ∷ rest) chain added.key ends some linked empty in
+comes_behind old mid [] chain added link ends some linked apart absent updates found = absurd (some ends)
+comes_behind old mid (p ∷ rest) chain added link ends some linked apart absent updates found =
+    let last = last_apart (p ∷ rest) chain added.key ends some absent in
     let joined : Link = record { waiting = link.waiting; next = added.key } in
     let written : Updates mid (with_value mid chain.last joined) chain.last (Some joined) = Updates-with_value mid chain.last joined (rw found refl) in
     let stays : (key : ℕ) → key ≢ chain.last → key ≢ added.key → get (with_value mid chain.last joined) key ≡ get old key = λ key one two. written.others key one ∙ updates.others key two in
     record {
       linked =
-          extended old (with_value mid chain.last joined) p rest added 0 chain.last (ap (λ (c : Chain). c.last) ends) linked apart (empty_slot old (p ∷ rest) added.key empty linked)
+          extended old (with_value mid chain.last joined) p rest added 0 chain.last (ap (λ (c : Chain). c.last) ends) linked apart absent
           (written.others added.key (λ (same : added.key ≡ chain.last). last.1 (sym same)) ∙ updates.changed)
           (λ w next was.
           let before = updates.others chain.last last.1 in

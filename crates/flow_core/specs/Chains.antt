@@ -1,9 +1,10 @@
 -- How one slab and the ends of each flow's chain give the queues, and what they keep.
-use Rattle.std.specs.Prelude.{◌≡◌, ◌⊎◌, ℕ, zero, suc, ◌≤◌, List, [], ◌∷◌, ◌++◌, Option, Some, None, get_or, length, map, sum_by, vec_len}
-use Rattle.slab.specs.Slab.{Slab, HasRoomFor, get, slab_len}
+use Rattle.std.specs.Prelude.{◌≡◌, ◌⊎◌, ℕ, zero, suc, ◌+◌, ◌-◌, ◌≤◌, List, [], ◌∷◌, ◌++◌, Option, Some, None, get_or, length, map, sum_by, vec_len}
+use Rattle.slab.specs.Slab.{Slab, HasRoomFor, Updates, get, slab_len, with_value}
 use Rattle.packet_core.specs.declared.packet.Waiting.{Waiting}
 use Rattle.flow_core.specs.declared.chains.Chain.{Chain}
 use Rattle.flow_core.specs.declared.chains.Chains.TheInside.{Inside}
+use Rattle.flow_core.specs.declared.chains.FreeSlots.{FreeSlots}
 use Rattle.flow_core.specs.declared.chains.Link.{Link}
 use Rattle.flow_core.specs.declared.limits.TheConstants.{MAX_FLOWS, MAX_WAITING}
 use Rattle.flow_core.specs.Queues.{Queues}
@@ -85,13 +86,38 @@ pub record IsChain (slots : Slab Link) (ends : Chain) : Type 0 where
   pub linked : AreLinked slots placed
   pub once : AreApart placed
 
--- Each flow has a chain, no two of them share a slot, and nothing else stands in the slab. There are few enough flows
--- and packets, and there is memory for the next pushes.
+-- The free slots, first the one that was left last. Each has the packet that left it, which isn't read, and the key of
+-- the one that was left before it.
+pub record AreFree (slots : Slab Link) (free : FreeSlots) : Type 0 where
+  pub left : List Placed
+  pub first : free.first ≡ first_key left free.first
+  pub len : free.len ≡ length left
+  pub linked : AreLinked slots left
+  pub once : AreApart left
+
+-- A link comes into a slot that was empty. No slot becomes free, and none was.
+pub record IsInserted (old new : Slab Link) (free after : FreeSlots) (link : Link) (key : ℕ) : Type 0 where
+  pub was_vacant : get old key ≡ None
+  pub updates : Updates old new key (Some link)
+  pub counted : slab_len new ≡ slab_len old + 1
+  pub capacity : new.capacity ≡ old.capacity
+  pub none : after ≡ free
+
+-- A link comes into the first one of the free slots, and the other ones stay free.
+pub record IsReused (old new : Slab Link) (free after : FreeSlots) (link : Link) (key : ℕ) : Type 0 where
+  pub was_first : key ≡ free.first
+  pub written : new ≡ with_value old free.first link
+  pub others : after ≡ record { first = next_of (get old free.first); len = free.len - 1 }
+
+-- Each flow has a chain, and the free slots are one more. No two of them share a slot, and nothing else stands in the
+-- slab. There are few enough flows and packets, and there is memory for the next pushes beside the free slots.
 pub record AreChained (c : Inside) : Type 0 where
   pub each : (flow : ℕ) → IsChain c.slots (get_or c.chains.items flow no_packets)
   pub apart :
       (flow other key : ℕ) → HasKey (each flow).placed key → HasKey (each other).placed key → flow ≡ other
-  pub counted : slab_len c.slots ≡ sum_by length (queues_of c).queues
+  pub freed : AreFree c.slots c.free
+  pub unused : (flow key : ℕ) → HasKey (each flow).placed key → ¬ HasKey freed.left key
+  pub counted : slab_len c.slots ≡ sum_by length (queues_of c).queues + c.free.len
   pub flows : vec_len c.chains ≤ MAX_FLOWS
   pub few : slab_len c.slots ≤ MAX_WAITING
-  pub room : HasRoomFor c.slots c.room
+  pub room : HasRoomFor c.slots (c.room - c.free.len)

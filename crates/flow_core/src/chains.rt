@@ -1,6 +1,7 @@
 //! The waiting packets of all flows in one slab, chained flow by flow.
 
 ghost use Rattle.std.specs.Prelude.{◌≡◌, ◌+◌, ◌-◌, ◌^◌, ◌<◌, ◌≤◌, [], ◌∷◌, ◌++◌, IfOk, OnErr, OnOk, drop, get_or, length, option_copied, replicate, set, slice_get, sum_by};
+ghost use Rattle.slab.specs.Slab.{ContainsKey, HasRoomFor};
 
 use crate::limits::{MAX_FLOWS, MAX_WAITING, Memory};
 use packet_core::Waiting;
@@ -38,13 +39,48 @@ impl Chain {
     }
 }
 
+/// The slots that packets left, as a chain: the key of the one that was left last, and how many there are. Where there
+/// are none, the key isn't read.
+#[derive(Clone, Copy, Debug)]
+struct FreeSlots {
+    first: usize,
+    len: u64,
+}
+
+impl FreeSlots {
+    ghost use Rattle.flow_core.specs.Chains.{IsInserted, IsReused};
+
+    /// Puts a link into the slot that was left last, or into a new one where no slot is free. It returns the key.
+    // The slab removes nothing, and inserts only where no slot is free: it replaces a whole entry for each value that
+    // it takes in or gives out, and tests what stood there.
+    #[inline(always)]
+    fn place(&mut self, slots: &mut Slab<Link>, link: Link) -> usize
+        requires filled { 0 < self.old.len → ContainsKey slots.old self.old.first }
+        requires room { self.old.len ≡ 0 → HasRoomFor slots.old 1 }
+        ensures inserted { self.old.len ≡ 0 → IsInserted slots.old slots.new self.old self.new link result }
+        ensures reused { 0 < self.old.len → IsReused slots.old slots.new self.old self.new link result }
+    {
+        if self.len == 0 {
+            return slots.insert_reserved(link);
+        }
+        let key = self.first;
+        let slot = &mut slots[key];
+        self.first = slot.next;
+        self.len -= 1;
+        *slot = link;
+        key
+    }
+}
+
 /// The queues of all flows. A flow is called by its number, from 0. All packets stand in one slab, and each has
 /// the key of the next one of its flow. So a push and a pop touch their own flow's ends alone, whatever waits.
-/// Room for pushes is taken ahead: only `try_new` and `reserve` take memory.
+/// A slot that a packet leaves is written again by a later push. Room for pushes is taken ahead: only `try_new` and
+/// `reserve` take memory.
 #[derive(Debug, Drop)]
 pub(crate) struct Chains {
     slots: Slab<Link>,
     chains: Vec<Chain>,
+    free: FreeSlots,
     room: u64,
 }
 
@@ -75,6 +111,7 @@ impl Chains {
         Ok(Chains {
             slots: Slab::new(alloc),
             chains,
+            free: FreeSlots { first: 0, len: 0 },
             room: 0,
         })
     }
@@ -89,7 +126,8 @@ impl Chains {
         ensures err { OnErr result (self.new ≡ self.old) }
         ensures missing { OnErr result (self.old.room < pushes) }
     {
-        self.slots.reserve(pushes as usize)?;
+        self.slots
+            .reserve(pushes.saturating_sub(self.free.len) as usize)?;
         if self.room < pushes {
             self.room = pushes;
         }
@@ -108,7 +146,7 @@ impl Chains {
         ensures room { self.new.room + 1 ≡ self.old.room }
     {
         self.room -= 1;
-        let key = self.slots.insert_reserved(Link { waiting, next: 0 });
+        let key = self.free.place(&mut self.slots, Link { waiting, next: 0 });
         let chain = &mut self.chains[flow as usize];
         if chain.len == 0 {
             *chain = Chain::of_one(key);
@@ -122,6 +160,7 @@ impl Chains {
 
     /// Takes the packet at the head of a flow's queue. None where the flow is empty. The room stays, since it
     /// counts the pushes that were asked for.
+    #[inline(always)]
     pub(crate) fn pop(&mut self, flow: u32) -> Option<Waiting>
         requires { flow < length self.old.queues }
         ensures head { result ≡ slice_get (get_or self.old.queues flow []) 0 }
@@ -133,13 +172,18 @@ impl Chains {
         if chain.len == 0 {
             return None;
         }
-        let first = self.slots.remove(chain.first);
-        chain.first = first.next;
+        let key = chain.first;
+        let slot = &mut self.slots[key];
+        chain.first = slot.next;
         chain.len -= 1;
-        Some(first.waiting)
+        slot.next = self.free.first;
+        self.free.first = key;
+        self.free.len += 1;
+        Some(slot.waiting)
     }
 
     /// The packet at the head of a flow's queue, in its slot. None where the flow is empty.
+    #[inline(always)]
     pub(crate) fn head(&self, flow: u32) -> Option<&Waiting>
         requires { flow < length self.now.queues }
         ensures { option_copied result ≡ slice_get (get_or self.now.queues flow []) 0 }
@@ -152,6 +196,7 @@ impl Chains {
     }
 
     /// How many packets wait in a flow.
+    #[inline(always)]
     pub(crate) fn len(&self, flow: u32) -> u64
         requires { flow < length self.now.queues }
         ensures value { result ≡ length (get_or self.now.queues flow []) }
@@ -165,7 +210,7 @@ impl Chains {
         ensures value { result ≡ sum_by length self.now.queues }
         ensures size { result ≤ MAX_WAITING }
     {
-        self.slots.len() as u64
+        self.slots.len() as u64 - self.free.len
     }
 
     /// How many flows there are.

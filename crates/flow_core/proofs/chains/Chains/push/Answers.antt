@@ -3,27 +3,19 @@ use Rattle.std.specs.Vec.{with_item}
 use Rattle.slab.specs.Slab.{get, with_value}
 use Rattle.flow_core.specs.declared.chains.Link.{Link}
 use Rattle.flow_core.specs.Chains.{HasEnds, Placed, queues_of}
-use Rattle.flow_core.proofs.ChainLemmas.{AreSeenAs, Arrives, ends_read, few_held, pushed_behind, pushed_first}
+use Rattle.flow_core.proofs.ChainLemmas.{AreSeenAs, Arrives, arrives, ends_read, few_held, pushed_behind, pushed_first}
 use Rattle.flow_core.proofs.PlacedLemmas.{ends_len, last_there}
 use Rattle.flow_core.proofs.chains.Chains.push.Goals.{After-index_mut-chain}
 use Rattle.flow_core.proofs.chains.Chains.push.Goals as goal
 
 -- the packet and its slot
 abbrev added : After-index_mut-chain → Placed
-added c = record { key = c.insert_reserved-key.result; waiting = c.args.waiting }
+added c = record { key = c.place-key.result; waiting = c.args.waiting }
 
-arrives : (c : After-index_mut-chain) → Arrives c.self.inside c.insert_reserved-key.new.self (added c)
-arrives c =
-    let there = c.insert_reserved-key.ensures in
-    let size = rw (← c.self.view_is) at c.requires.size in
-    record {
-      empty = there.was_vacant;
-      updates = there.updates;
-      counted = there.len;
-      capacity = there.capacity;
-      few = omega (arith, size, c.self.invariant.counted);
-      room = rw (← c.self.view_is) at c.requires.room;
-    }
+placed : (c : After-index_mut-chain) → Arrives c.self.inside c.self.invariant c.place-key.new.slots c.place-key.new.self (added c)
+placed c =
+    arrives c.self.inside c.self.invariant c.place-key.new.slots c.place-key.new.self (added c) c.place-key.ensures.inserted c.place-key.ensures.reused
+    (rw (← c.self.view_is) at c.requires.size) (rw (← c.self.view_is) at c.requires.room)
 
 within : (c : After-index_mut-chain) → c.args.flow < length (queues_of c.self.inside).queues
 within c = rw (← c.self.view_is) at c.requires.flow
@@ -41,31 +33,33 @@ pub index_mut-requires : goal.index_mut-requires
 index_mut-requires c =
     let before = (goal.at.index_mut-requires c).After-index_mut-chain in
     let own = c.self.invariant.each c.args.flow in
-    let there = c.insert_reserved-key.ensures in
-    last_there c.self.inside.slots c.insert_reserved-key.new.self own.placed c.index_mut-chain.result.now (added before) (ends before) c.if-chain-eq0.false own.linked there.was_vacant there.updates
+    let there = placed before in
+    last_there c.self.inside.slots c.place-key.new.slots own.placed c.index_mut-chain.result.now (added before) (ends before) c.if-chain-eq0.false own.linked (there.absent c.args.flow) there.updates
 
 -- it comes behind the last one, or to an empty flow
-behind : (c : After-index_mut-chain) (link : Link) → c.index_mut-chain.result.now.len ≢ 0 → get c.insert_reserved-key.new.self c.index_mut-chain.result.now.last ≡ Some link
+behind : (c : After-index_mut-chain) (link : Link) → c.index_mut-chain.result.now.len ≢ 0 → get c.place-key.new.slots c.index_mut-chain.result.now.last ≡ Some link
     → AreSeenAs
     (record {
-      slots = with_value c.insert_reserved-key.new.self c.index_mut-chain.result.now.last (record { waiting = link.waiting; next = c.insert_reserved-key.result });
-      chains = with_item c.self.inside.chains c.args.flow (record { first = c.index_mut-chain.result.now.first; last = c.insert_reserved-key.result; len = c.index_mut-chain.result.now.len + 1 });
+      slots = with_value c.place-key.new.slots c.index_mut-chain.result.now.last (record { waiting = link.waiting; next = c.place-key.result });
+      chains = with_item c.self.inside.chains c.args.flow (record { first = c.index_mut-chain.result.now.first; last = c.place-key.result; len = c.index_mut-chain.result.now.len + 1 });
+      free = c.place-key.new.self;
       room = c.self.inside.room - 1;
     })
     (set (queues_of c.self.inside).queues c.args.flow (get_or (queues_of c.self.inside).queues c.args.flow [] ++ c.args.waiting ∷ []))
 behind c link some found =
-    pushed_behind c.self.inside c.self.invariant c.args.flow (within c) c.insert_reserved-key.new.self (added c) c.index_mut-chain.result.now link (arrives c) (ends c) some found
+    pushed_behind c.self.inside c.self.invariant c.args.flow (within c) c.place-key.new.slots c.place-key.new.self (added c) c.index_mut-chain.result.now link (placed c) (ends c) some found
 
 first : (c : After-index_mut-chain) → c.index_mut-chain.result.now.len ≡ 0
     → AreSeenAs
     (record {
-      slots = c.insert_reserved-key.new.self;
-      chains = with_item c.self.inside.chains c.args.flow (record { first = c.insert_reserved-key.result; last = c.insert_reserved-key.result; len = 1 });
+      slots = c.place-key.new.slots;
+      chains = with_item c.self.inside.chains c.args.flow (record { first = c.place-key.result; last = c.place-key.result; len = 1 });
+      free = c.place-key.new.self;
       room = c.self.inside.room - 1;
     })
     (set (queues_of c.self.inside).queues c.args.flow (get_or (queues_of c.self.inside).queues c.args.flow [] ++ c.args.waiting ∷ []))
 first c empty =
-    pushed_first c.self.inside c.self.invariant c.args.flow (within c) c.insert_reserved-key.new.self (added c) c.index_mut-chain.result.now (arrives c) (ends c) empty
+    pushed_first c.self.inside c.self.invariant c.args.flow (within c) c.place-key.new.slots c.place-key.new.self (added c) c.index_mut-chain.result.now (placed c) (ends c) empty
 
 pub invariant_of-self : goal.invariant_of-self
 invariant_of-self c = rw c.of_one.ensures (first (goal.at.invariant_of-self c).After-index_mut-chain c.if-chain-eq0.true).kept

@@ -14,5 +14,5 @@ invariant_of-self-else-self-pushes c =
 
 pub invariant_of-self-then-self-pushes : goal.invariant_of-self-then-self-pushes
 invariant_of-self-then-self-pushes c =
-    let room = c.in_ok-reserve.ensures.room in
-    rw c.reserve.ensures.rest_kept (grown c.self.inside c.self.invariant c.reserve.new.self.capacity c.args.pushes (rw c.reserve.ensures.rest_kept at room))
+    let room = rw c.reserve.ensures.rest_kept at c.in_ok-reserve.ensures.room in
+    rw c.reserve.ensures.rest_kept (grown c.self.inside c.self.invariant c.reserve.new.self.capacity c.args.pushes (omega (arith, room, c.saturating_sub.ensures)))
