@@ -177,10 +177,8 @@ impl Chains {
         chain.first = slot.next;
         chain.len -= 1;
         slot.next = self.free.first;
-        self.free = FreeSlots {
-            first: key,
-            len: self.free.len + 1,
-        };
+        self.free.first = key;
+        self.free.len += 1;
         Some(slot.waiting)
     }
 
