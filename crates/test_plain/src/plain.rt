@@ -169,12 +169,11 @@ impl Plain {
                 let len = i64::from(sent.waiting.packet.len());
                 flow.credits = flow.credits.wrapping_sub(len);
                 // A flow that was served stays where it was.
-                let list = if is_new {
-                    &mut self.new_flows
+                if is_new {
+                    self.new_flows.push_front(number).expect(rt, "memory");
                 } else {
-                    &mut self.old_flows
-                };
-                list.push_front(number).expect(rt, "memory");
+                    self.old_flows.push_front(number).expect(rt, "memory");
+                }
                 return served;
             }
             if is_new {
@@ -234,7 +233,7 @@ fn sent(waiting: Waiting, now: u64, params: &Params) -> PlainSent {
 /// The moment of the next drop.
 fn next_drop(rt: &impl Abort, moment: u64, count: u64, params: &Params) -> u64 {
     let interval = params.interval();
-    assert!(rt; 1 <= count);
+    assert!(rt; 1 <= count && count <= 1 << 62);
     moment.wrapping_add(spacing(interval, count))
 }
 

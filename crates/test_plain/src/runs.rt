@@ -60,7 +60,8 @@ fn compare_with(
             goes_alike(rt, sched, &mut plain, now)
         };
         assert!(rt; is_same, "step {step} is answered otherwise");
-        let flow = random.below(u64::from(params.flows())) as u32;
+        let number = random.below(u64::from(params.flows()));
+        let flow = u32::try_from(number).expect(rt, "a flow");
         assert!(rt;
             shows_alike(rt, sched, &plain, flow),
             "after step {step} flow {flow} is otherwise"
@@ -84,7 +85,7 @@ fn a_packet(rt: &impl Abort, random: &mut Random) -> Packet {
         2 => Ecn::Ce,
         _ => Ecn::NotEct,
     };
-    let port = random.below(40) as u16;
+    let port = (random.below(40) % 40) as u16;
     let tag = random.below(1 << 31);
     Packet::try_new(tuple(port), len, ecn)
         .expect(rt, "a packet")
