@@ -1,0 +1,5 @@
+pub mod Links
+pub mod Arrivals
+pub mod LinkLaw
+pub mod LinkRuns
+pub mod Fifo
