@@ -1,5 +1,5 @@
 use Rattle.std.specs.Prelude.{ℕ, ◌<◌, ◌≤◌, List, All, length, map, get_or}
-use Rattle.std.specs.List.Sorted.{IsNonDecreasing}
+use Rattle.std.specs.List.Sorted.{IsNonDecreasingBy}
 use Rattle.link_core.specs.declared.arrival.Arrival.{Arrival}
 use Rattle.link_core.specs.declared.arrival.TheConstants.{MAX_ARRIVALS, MAX_ARRIVAL_MOMENT}
 
@@ -13,7 +13,7 @@ arrival_length a = a.packet.len
 pub record AreArrivals (arrivals : List Arrival) : Type 0 where
   pub few : length arrivals ≤ MAX_ARRIVALS
   pub soon : All (λ (a : Arrival). a.moment < MAX_ARRIVAL_MOMENT) arrivals
-  pub rise : IsNonDecreasing (map arrival_moment arrivals)
+  pub rise : IsNonDecreasingBy arrival_moment arrivals
 
 -- the length of the packet that came in that place, from 0; a packet's id is its place
 abbrev pub length_at : List Arrival → ℕ → ℕ

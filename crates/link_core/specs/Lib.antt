@@ -3,3 +3,4 @@ pub mod Arrivals
 pub mod LinkLaw
 pub mod LinkRuns
 pub mod Fifo
+pub mod Underway

@@ -97,7 +97,8 @@ impl Link {
 
     /// How many bytes a packet of that length has on the wire.
     pub fn wire(&self, len: u32) -> u64
-        ensures { result ≡ wire self.now len }
+        ensures value { result ≡ wire self.now len }
+        ensures most { len ≤ 65535 → result ≤ 66535 }
     {
         (u64::from(len) + u64::from(self.fields.overhead)).max(u64::from(self.fields.mpu))
     }

@@ -1,10 +1,15 @@
 //! FQ-CoDel at the head of a link.
 
-ghost use Rattle.std.specs.Prelude.{◌≡◌, IfOk};
+ghost use Rattle.std.specs.Prelude.{◌≡◌, ◌<◌, ◌≤◌, ◌∷◌, [], ◌++◌, None, IfOk, OnOk, IfSome, drop, length};
+ghost use Rattle.journal_core.specs.State.{refusal_of};
+ghost use Rattle.journal_core.specs.declared.outcome.Answer.TheVariants as answer;
+ghost use Rattle.journal_core.specs.declared.step.Step.TheVariants.{Enqueue, Dequeue};
 ghost use Rattle.link_core.specs.Arrivals.{AreArrivals};
 ghost use Rattle.link_core.specs.LinkRuns.{HasRunLink};
+ghost use Rattle.link_core.specs.Underway.{ComesBy, HasAsked, IsOnLink, KeepsParams};
+ghost use Rattle.sched_core.specs.Schedulers.{IsAdvanced};
 
-use crate::arrival::Arrival;
+use crate::arrival::{Arrival, MAX_ARRIVALS};
 use crate::free_at::FreeAt;
 use crate::link::Link;
 use packet_core::{Params, Seed};
@@ -27,15 +32,34 @@ pub fn run_link(
 {
     let mut engine = Engine::try_new(alloc, params, seed)?;
     let mut busy = None;
-    for (i, arrival) in arrivals.iter().enumerate() {
-        busy = ask_before(&mut engine, link, arrivals, busy, &arrivals[i..])?;
-        take_in(&mut engine, arrival)?;
-        if busy.is_none() {
-            busy = ask(&mut engine, link, arrivals, FreeAt::at(arrival.moment))?;
-        }
+    for i in 0..arrivals.len() {
+        busy = meet_next(&mut engine, link, arrivals, busy, &arrivals[i..])?;
     }
     ask_before(&mut engine, link, arrivals, busy, &[])?;
     Ok(engine)
+}
+
+/// The link asks for packets until the next one comes, takes that in, and asks for one at once where it is idle.
+fn meet_next(
+    engine: &mut Engine,
+    link: &Link,
+    arrivals: &[Arrival],
+    busy: Option<FreeAt>,
+    coming: &[Arrival],
+) -> Result<Option<FreeAt>, Memory>
+    requires few { length arrivals.now ≤ MAX_ARRIVALS }
+    requires on_link { IsOnLink link.now arrivals.now engine.old busy coming.now }
+    requires some { 0 < length coming.now }
+    ensures on_link { IfOk result (λ left. IsOnLink link.now arrivals.now engine.new left (drop 1 coming.now)) }
+    ensures params { OnOk result (KeepsParams engine.old engine.new) }
+{
+    let busy = ask_before(engine, link, arrivals, busy, coming)?;
+    let next = &coming[0];
+    take_in(engine, next)?;
+    match busy {
+        Some(free) => Ok(Some(free)),
+        None => ask(engine, link, arrivals, FreeAt::at(next.moment)),
+    }
 }
 
 /// Asks for packets as long as the link gets free before the next one comes, or none is to come.
@@ -45,19 +69,33 @@ fn ask_before(
     arrivals: &[Arrival],
     busy: Option<FreeAt>,
     coming: &[Arrival],
-) -> Result<Option<FreeAt>, Memory> {
+) -> Result<Option<FreeAt>, Memory>
+    requires few { length arrivals.now ≤ MAX_ARRIVALS }
+    requires on_link { IsOnLink link.now arrivals.now engine.old busy coming.now }
+    ensures on_link { IfOk result (λ left. IsOnLink link.now arrivals.now engine.new left coming.now) }
+    ensures waits { IfOk result (λ left. IfSome left (λ free. ComesBy free.moment coming.now)) }
+    ensures params { OnOk result (KeepsParams engine.old engine.new) }
+{
     let mut busy = busy;
     while let Some(free) = busy {
-        if coming.first().is_some_and(|next| next.moment <= free.moment) {
-            break;
+        if let Some(next) = coming.first()
+            && next.moment <= free.moment
+        {
+            return Ok(Some(free));
         }
         busy = ask(engine, link, arrivals, free)?;
     }
-    Ok(busy)
+    Ok(None)
 }
 
 /// The packet comes in, by lane 0.
-fn take_in(engine: &mut Engine, arrival: &Arrival) -> Result<(), Memory> {
+fn take_in(engine: &mut Engine, arrival: &Arrival) -> Result<(), Memory>
+    requires { refusal_of engine.old.sched.standing.state (Enqueue arrival.now.moment 0 arrival.now.packet) ≡ None }
+    ensures made { OnOk result (IsAdvanced engine.old.sched
+        (Enqueue arrival.now.moment 0 arrival.now.packet) answer.Accepted engine.new.sched) }
+    ensures steps { OnOk result
+        (engine.new.steps ≡ engine.old.steps ++ Enqueue arrival.now.moment 0 arrival.now.packet ∷ []) }
+{
     match engine.enqueue(arrival.moment, 0, arrival.packet) {
         Ok(_) => Ok(()),
         Err(Refusal::Memory) => Err(AllocError),
@@ -71,12 +109,19 @@ fn ask(
     link: &Link,
     arrivals: &[Arrival],
     now: FreeAt,
-) -> Result<Option<FreeAt>, Memory> {
+) -> Result<Option<FreeAt>, Memory>
+    requires few { length arrivals.now ≤ MAX_ARRIVALS }
+    requires fits { refusal_of engine.old.sched.standing.state (Dequeue now.moment) ≡ None }
+    requires rest { now.rest < link.now.rate }
+    requires known { engine.old.sched.standing.state.next_id ≤ length arrivals.now }
+    ensures { IfOk result (λ busy. HasAsked link.now arrivals.now now engine.old busy engine.new) }
+{
     let sent = match engine.dequeue(now.moment) {
         Ok(sent) => sent,
         Err(Refusal::Memory) => return Err(AllocError),
         Err(_) => unreachable!(),
     };
+    engine.run_of_steps();
     Ok(match sent {
         Some(sent) => Some(now.after(link, arrivals[sent.id as usize].packet.len())),
         None => None,
