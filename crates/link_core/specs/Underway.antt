@@ -105,7 +105,17 @@ abbrev pub ComesBy : ℕ → List Arrival → Type 0
 ComesBy moment [] = ⊥
 ComesBy moment (a ∷ rest) = a.moment ≤ moment
 
+-- Where a packet is to come, the next one comes after that moment.
+abbrev pub ComesAfter : ℕ → List Arrival → Type 0
+ComesAfter moment [] = Unit {0}
+ComesAfter moment (a ∷ rest) = moment < a.moment
+
 -- the parameters and the seed stay
 pub record KeepsParams (old new : Running) : Type 0 where
   pub params : new.sched.params ≡ old.sched.params
   pub seed : new.sched.seed ≡ old.sched.seed
+
+-- whether the link is busy, as a number
+abbrev pub busy_count : Option FreeAt → ℕ
+busy_count None = 0
+busy_count (Some f) = 1

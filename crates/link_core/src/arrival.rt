@@ -1,5 +1,7 @@
 //! The packets that come to a link.
 
+ghost use Rattle.std.specs.Prelude.{◌↔◌, IsTrue};
+
 use packet_core::Packet;
 
 /// A packet comes before this moment, in microseconds. So the last packet is sent before the greatest moment of a step.
@@ -15,4 +17,18 @@ pub struct Arrival {
     pub moment: u64,
     /// The packet.
     pub packet: Packet,
+}
+
+impl Arrival {
+    ghost use Rattle.link_core.specs.Underway.{ComesBy};
+
+    /// Whether one of these is to come, and the first comes at that moment at the latest.
+    pub(crate) fn comes_by(coming: &[Arrival], moment: u64) -> bool
+        ensures { IsTrue result ↔ ComesBy moment coming.now }
+    {
+        match coming {
+            [] => false,
+            [next, ..] => next.moment <= moment,
+        }
+    }
 }

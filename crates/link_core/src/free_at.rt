@@ -27,7 +27,7 @@ impl FreeAt {
     /// When the link gets free that sends a packet of that length from this time on.
     pub(crate) fn after(self, link: &Link, len: u32) -> FreeAt
         requires len { len ≤ 65535 }
-        requires rest { self.rest < link.now.rate }
+        requires rest { self.rest ≤ link.now.rate }
         requires soon { self.moment < 2 ^ 60 }
         ensures { IsFreeAfter link.now self len result }
     {

@@ -53,10 +53,10 @@ fn meet_next(
     ensures on_link { IfOk result (λ left. IsOnLink link.now arrivals.now engine.new left (drop 1 coming.now)) }
     ensures params { OnOk result (KeepsParams engine.old engine.new) }
 {
-    let busy = ask_before(engine, link, arrivals, busy, coming)?;
+    let left = ask_before(engine, link, arrivals, busy, coming)?;
     let next = &coming[0];
     take_in(engine, next)?;
-    match busy {
+    match left {
         Some(free) => Ok(Some(free)),
         None => ask(engine, link, arrivals, FreeAt::at(next.moment)),
     }
@@ -78,9 +78,7 @@ fn ask_before(
 {
     let mut busy = busy;
     while let Some(free) = busy {
-        if let Some(next) = coming.first()
-            && next.moment <= free.moment
-        {
+        if Arrival::comes_by(coming, free.moment) {
             return Ok(Some(free));
         }
         busy = ask(engine, link, arrivals, free)?;
@@ -112,7 +110,7 @@ fn ask(
 ) -> Result<Option<FreeAt>, Memory>
     requires few { length arrivals.now ≤ MAX_ARRIVALS }
     requires fits { refusal_of engine.old.sched.standing.state (Dequeue now.moment) ≡ None }
-    requires rest { now.rest < link.now.rate }
+    requires rest { now.rest ≤ link.now.rate }
     requires known { engine.old.sched.standing.state.next_id ≤ length arrivals.now }
     ensures { IfOk result (λ busy. HasAsked link.now arrivals.now now engine.old busy engine.new) }
 {
