@@ -4,3 +4,4 @@ pub mod LinkLaw
 pub mod LinkRuns
 pub mod Fifo
 pub mod Underway
+pub mod Lines

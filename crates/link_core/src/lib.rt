@@ -6,6 +6,7 @@
 mod arrival;
 mod fifo;
 mod free_at;
+mod line;
 mod link;
 mod run;
 
