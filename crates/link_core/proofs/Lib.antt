@@ -5,4 +5,5 @@ pub mod LinkEngines
 pub mod LineLemmas
 pub mod OneLinkRun
 pub mod IdleLinks
+pub mod Causality
 pub mod LinkRunLaws
