@@ -6,4 +6,5 @@ pub mod LineLemmas
 pub mod OneLinkRun
 pub mod IdleLinks
 pub mod Causality
+pub mod Throughput
 pub mod LinkRunLaws

@@ -1,7 +1,7 @@
 //! What holds of every run of a link over FQ-CoDel, whatever its parameters and its seed, as contracts of functions that
 //! do nothing.
 
-ghost use Rattle.std.specs.Prelude.{◌≡◌, ℕ, ◌≤◌, All, List, []};
+ghost use Rattle.std.specs.Prelude.{◌≡◌, ℕ, ◌+◌, ◌*◌, ◌<◌, ◌≤◌, ◌++◌, ◌∷◌, All, List, [], sum_by};
 ghost use Rattle.packet_core.specs.Params.{AreInRange};
 ghost use Rattle.packet_core.specs.declared.flow.Seed.{Seed};
 ghost use Rattle.packet_core.specs.declared.params.ParamFields.{ParamFields};
@@ -13,8 +13,10 @@ ghost use Rattle.fair_core.specs.FairQueues.{FairQueues};
 ghost use Rattle.fair_core.specs.FqCodel.{fq_codel};
 ghost use Rattle.link_core.specs.declared.arrival.Arrival.{Arrival};
 ghost use Rattle.link_core.specs.declared.link.LinkFields.{LinkFields};
+ghost use Rattle.link_core.specs.Arrivals.{AreArrivals};
 ghost use Rattle.link_core.specs.LinkLaw.LinkState.{idle};
-ghost use Rattle.link_core.specs.LinkLaws.{FollowsArrival};
+ghost use Rattle.link_core.specs.LinkLaws.{AreApart, FollowsArrival, Sending, sendings, work_of};
+ghost use Rattle.link_core.specs.Links.{IsLink};
 ghost use Rattle.link_core.specs.LinkRuns.{IsLinkRun, IsLinkRunTo};
 
 use codel_core::one_verdict;
@@ -50,4 +52,22 @@ pub fn causal()
         → (steps : List Step) (made : List Made) (last : State FairQueues)
         → IsLinkRun p seed link arrivals steps made last
         → All (FollowsArrival arrivals) (journal_of made) }
+{}
+
+/// Packets are sent one after another, never faster than the rate: each starts at an exact time, not before the one
+/// before it ends, and its moment is that time in whole microseconds. So from one packet sent to a later one, the work of
+/// all but the later takes less than the time between their moments and one microsecond more.
+pub fn throughput()
+    ensures apart { (p : ParamFields) (seed : Seed) (link : LinkFields) → IsLink link
+        → (arrivals : List Arrival) → AreArrivals arrivals
+        → (steps : List Step) (made : List Made) (last : State FairQueues)
+        → IsLinkRun p seed link arrivals steps made last
+        → AreApart link arrivals 0 (sendings (journal_of made)) }
+    ensures rate { (p : ParamFields) (seed : Seed) (link : LinkFields) → IsLink link
+        → (arrivals : List Arrival) → AreArrivals arrivals
+        → (steps : List Step) (made : List Made) (last : State FairQueues)
+        → IsLinkRun p seed link arrivals steps made last
+        → (before between behind : List Sending) (one later : Sending)
+        → sendings (journal_of made) ≡ before ++ (one ∷ between ++ later ∷ behind)
+        → sum_by (work_of link arrivals) (one ∷ between) + link.rate * one.moment < link.rate * (later.moment + 1) }
 {}

@@ -1,4 +1,5 @@
-use Rattle.std.proofs.Common.{◌≡◌, ◌≤◌, [], ◌∷◌, length, refl, inr, arith, append_assoc}
+use Rattle.std.proofs.Common.{◌≡◌, ◌≤◌, [], ◌∷◌, length, List, refl, inr, arith, append_assoc}
+use Rattle.journal_core.specs.declared.event.Event.{Event}
 use Rattle.link_core.specs.Lines.{waiting_next}
 use Rattle.link_core.proofs.line.Line.take_in.Goals as goal
 
@@ -10,7 +11,7 @@ returns-in_ok-push-2 c =
     record {
       lost = waiting_next c.args.self.now c.args.arrival.now ∷ [];
       takes = inr (full, refl, refl);
-      journal = rw (second.items, first.items, append_assoc, c.flow_of.ensures.value, c.tuple.ensures) refl;
+      journal = rw (second.items, first.items, append_assoc, c.flow_of.ensures.value, c.tuple.ensures) (refl {A = List Event});
       arrived = refl;
       kept = record { params = refl; seed = refl };
     }
