@@ -1,8 +1,7 @@
 -- While a link is idle, nothing waits.
-use Rattle.std.proofs.Common.{◌≡◌, ℕ, ◌+◌, ◌<◌, ◌≤◌, true, false, All, List, [], ◌∷◌, ◌++◌, length, map, filter, eqb, Option, Some, None, MatchOption, refl, sym, ap, subst, ◌∙◌, inl, inr, arith}
+use Rattle.std.proofs.Common.{◌≡◌, ℕ, ◌<◌, ◌≤◌, true, false, List, [], ◌∷◌, ◌++◌, length, map, filter, eqb, Option, Some, None, MatchOption, refl, sym, ap, subst, ◌∙◌, inl, inr, arith}
 use Rattle.std.specs.List.{AllByRecursion, filter_map}
 use Rattle.std.proofs.lemmas.Bool.{eq-eqb}
-use Rattle.packet_core.specs.Packets.{PacketParts}
 use Rattle.packet_core.specs.declared.flow.Seed.{Seed}
 use Rattle.packet_core.specs.declared.packet.Waiting.{Waiting}
 use Rattle.packet_core.specs.declared.params.ParamFields.{ParamFields}
@@ -12,17 +11,17 @@ use Rattle.journal_core.specs.declared.outcome.Answer.{Answer}
 use Rattle.journal_core.specs.declared.outcome.Answer.TheVariants as answer
 use Rattle.journal_core.specs.declared.step.Refusal.{Refusal}
 use Rattle.journal_core.specs.declared.step.Step.{Step}
-use Rattle.journal_core.specs.declared.step.Step.TheVariants.{Enqueue, Dequeue}
+use Rattle.journal_core.specs.declared.step.Step.TheVariants.{Dequeue}
 use Rattle.journal_core.specs.Disciplines.{Given}
 use Rattle.journal_core.specs.Happened.{Acceptance, waiting_of}
 use Rattle.journal_core.specs.Runs.{Made, Runs, is_refused}
-use Rattle.journal_core.specs.State.{State, opening_state, refusal_of}
+use Rattle.journal_core.specs.State.{State, refusal_of}
 use Rattle.journal_core.specs.Statistics.{sent_of}
 use Rattle.journal_core.specs.Steps.{Makes, Serves, Steps}
 use Rattle.fair_core.specs.FairQueueing.{given_in}
 use Rattle.fair_core.specs.FairQueues.{FairQueues, head_of, head_of_lists, queue_of}
 use Rattle.fair_core.specs.FqCodel.{fq_codel, fq_codel_policy}
-use Rattle.fair_core.specs.Turns.{Chain, Policy, Service, TurnMade, first_service, service_by, service_in}
+use Rattle.fair_core.specs.Turns.{Chain, Policy, Service, TurnMade, service_in}
 use Rattle.fair_core.proofs.FqCodelPolicy.{policy_drops}
 use Rattle.fair_core.proofs.OldFlows.{Has}
 use Rattle.fair_core.proofs.RunInvariants.{BringsFitting, steps_keep}
@@ -30,7 +29,7 @@ use Rattle.fair_core.proofs.ServableFlows.{AreServable, arrival_servable, chain_
 use Rattle.packet_core.specs.FlowNumber.{flow_number}
 use Rattle.link_core.specs.declared.arrival.Arrival.{Arrival}
 use Rattle.link_core.specs.declared.link.LinkFields.{LinkFields}
-use Rattle.link_core.specs.LinkLaw.{Follows, LinkPoint, LinkState, Moves, MovesFrom, after_ids}
+use Rattle.link_core.specs.LinkLaw.{Follows, LinkPoint, LinkState, MovesFrom, after_ids}
 use Rattle.link_core.specs.LinkLaw.LinkState.{idle, asks, free}
 use Rattle.link_core.proofs.SentIds.{given_ids, sent_ids_of}
 

@@ -1,5 +1,5 @@
 -- A link's next step over a plain queue.
-use Rattle.std.proofs.Common.{◌≡◌, ℕ, ◌+◌, ◌*◌, ◌^◌, ◌<◌, ◌≤◌, ◌⊎◌, false, All, List, [], ◌∷◌, ◌++◌, length, map, Option, Some, None, IfSome, refl, sym, ap, subst, ◌∙◌, inl, inr, arith}
+use Rattle.std.proofs.Common.{◌≡◌, ℕ, ◌+◌, ◌*◌, ◌^◌, ◌<◌, ◌≤◌, false, All, List, [], ◌∷◌, ◌++◌, length, map, Option, Some, None, IfSome, refl, sym, ap, subst, ◌∙◌, inl, inr, arith}
 use Rattle.std.specs.List.{AllByRecursion, filter_map}
 use Rattle.std.proofs.lemmas.List.{length_push}
 use Rattle.std.proofs.lemmas.List.Elements.{All-from_recursion, All-nil, All-push, All-weaker, recursion_from_All}
@@ -27,7 +27,7 @@ use Rattle.link_core.specs.Arrivals.{AreArrivals}
 use Rattle.link_core.specs.Fifo.{GivesHead, IsFifoJournal, TakesIn, fifo}
 use Rattle.link_core.specs.LinkLaw.{LinkPoint, LinkState, Moves, after}
 use Rattle.link_core.specs.Lines.{HasGiven, HasTakenIn, IsInLine, IsNewLine, IsOnFifo, standing_of, waiting_next}
-use Rattle.link_core.specs.Underway.{AreComing, ComesBy, IsUnderway, longest_wire_time, sent_count, state_of, units_of}
+use Rattle.link_core.specs.Underway.{AreComing, ComesBy, IsUnderway, longest_wire_time, sent_count, units_of}
 use Rattle.link_core.proofs.LinkEngines.{asked_time, asked_underway}
 use Rattle.link_core.proofs.LinkSteps.{underway_on}
 use Rattle.link_core.proofs.LinkTimes.{all_come, asks_idle, comes_busy, dequeue_fits, enqueue_fits}

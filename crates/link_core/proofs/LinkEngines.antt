@@ -1,5 +1,5 @@
 -- A link's next step: what a dequeue gives, and what an arrival brings.
-use Rattle.std.proofs.Common.{◌≡◌, ℕ, zero, suc, ◌+◌, ◌-◌, ◌*◌, ◌/◌, ◌^◌, ◌<◌, ◌≤◌, All, List, [], ◌∷◌, ◌++◌, length, map, get_or, take, drop, add-one, length-drop, Option, Some, None, IfSome, IfOk, Result, Ok, Err, false, refl, sym, ap, subst, ◌∙◌, arith}
+use Rattle.std.proofs.Common.{◌≡◌, ℕ, zero, suc, ◌+◌, ◌-◌, ◌*◌, ◌<◌, ◌≤◌, All, List, [], ◌∷◌, ◌++◌, length, get_or, take, drop, add-one, length-drop, Option, Some, None, IfSome, IfOk, Result, Ok, Err, false, refl, sym, ap, subst, ◌∙◌, arith}
 use Rattle.std.specs.List.{filter_map}
 use Rattle.std.proofs.lemmas.List.{get_or-map, take_all}
 use Rattle.std.proofs.lemmas.List.Elements.{All-nil}
@@ -17,7 +17,7 @@ use Rattle.journal_core.specs.Happened.{fate_ids}
 use Rattle.journal_core.specs.Runs.{IsRunOf, Made, is_refused}
 use Rattle.journal_core.specs.State.{refusal_of}
 use Rattle.journal_core.specs.Statistics.{sent_of}
-use Rattle.journal_core.specs.Steps.{Admits, Serves, dequeue_answer}
+use Rattle.journal_core.specs.Steps.{Serves, dequeue_answer}
 use Rattle.sched_core.specs.Engines.{Running, new_engine}
 use Rattle.sched_core.specs.Schedulers.{IsAdvanced, IsServed, Scheduler, discipline_of}
 use Rattle.link_core.specs.declared.arrival.Arrival.{Arrival}

@@ -1,5 +1,5 @@
 -- The laws of a link's runs over FQ-CoDel.
-use Rattle.std.proofs.Common.{◌≡◌, ℕ, ◌≤◌, false, All, List, [], filter, map, refl, sym, ◌∙◌}
+use Rattle.std.proofs.Common.{◌≡◌, ◌≤◌, false, All, List, [], sym, ◌∙◌}
 use Rattle.std.proofs.lemmas.List.Elements.{recursion_from_All}
 use Rattle.packet_core.specs.declared.flow.Seed.{Seed}
 use Rattle.packet_core.specs.declared.params.ParamFields.{ParamFields}
@@ -7,7 +7,7 @@ use Rattle.journal_core.specs.declared.step.Step.{Step}
 use Rattle.journal_core.specs.Happened.{without_fate}
 use Rattle.journal_core.specs.Runs.{Made, is_refused, journal_of}
 use Rattle.journal_core.specs.State.{State, opening_state}
-use Rattle.fair_core.specs.FairQueues.{FairQueues, no_queues, queue_of}
+use Rattle.fair_core.specs.FairQueues.{FairQueues, no_queues}
 use Rattle.fair_core.specs.FqCodel.{fq_codel, fq_codel_policy}
 use Rattle.fair_core.proofs.FairFifo.{fair_is_fifo}
 use Rattle.fair_core.proofs.FqCodelPolicy.{policy_drops}

@@ -1,13 +1,13 @@
 -- One step more of a link's run.
-use Rattle.std.proofs.Common.{◌≡◌, ℕ, ◌+◌, false, All, List, [], ◌∷◌, ◌++◌, length, Option, Some, None, refl, sym, ap, subst, ◌∙◌, arith}
+use Rattle.std.proofs.Common.{◌≡◌, ◌+◌, false, List, [], ◌∷◌, ◌++◌, length, None, refl, sym, ap, subst, ◌∙◌}
 use Rattle.std.proofs.lemmas.List.Elements.{All-push}
 use Rattle.journal_core.specs.declared.event.Event.{Event}
 use Rattle.journal_core.specs.declared.outcome.Answer.{Answer}
 use Rattle.journal_core.specs.declared.step.Step.{Step}
 use Rattle.journal_core.specs.Calls.{Standing}
 use Rattle.journal_core.specs.Disciplines.{Discipline}
-use Rattle.journal_core.specs.Runs.{Made, Runs, is_refused, journal_of}
-use Rattle.journal_core.specs.State.{State, opening_state, refusal_of}
+use Rattle.journal_core.specs.Runs.{Made, is_refused}
+use Rattle.journal_core.specs.State.{opening_state, refusal_of}
 use Rattle.journal_core.specs.Steps.{Makes}
 use Rattle.journal_core.proofs.RunLemmas.{journal_push, runs_push}
 use Rattle.journal_core.proofs.RunsWithoutRefused.{made_answer}

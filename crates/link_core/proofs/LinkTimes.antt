@@ -1,14 +1,13 @@
 -- The moments of a link's steps: none is refused.
-use Rattle.std.proofs.Common.{◌≡◌, ℕ, suc, ◌+◌, ◌*◌, ◌/◌, ◌%◌, ◌^◌, ◌<◌, ◌≤◌, Bool, true, false, List, [], ◌∷◌, drop, length, get_or, Option, Some, None, option_map, ltb, leb, refl, sym, ap, inl, inr, arith}
+use Rattle.std.proofs.Common.{◌≡◌, ◌∙◌, ℕ, zero, suc, add-one, drop-cons, ◌+◌, ◌*◌, ◌/◌, ◌%◌, ◌^◌, ◌<◌, ◌≤◌, false, List, [], ◌∷◌, drop, length, get_or, None, leb, refl, sym, ap, inl, inr, arith}
 use Rattle.std.proofs.Math.Nat.{div-eq_of_lt-le, div-le_of_le-mul, mul-le-mul_left}
 use Rattle.std.proofs.lemmas.Bool.{cases_lt}
 use Rattle.std.proofs.lemmas.Bool.Decides.{nat_tests}
-use Rattle.std.proofs.lemmas.List.Elements.{recursion_from_All}
+use Rattle.std.proofs.lemmas.List.Elements.{All-from_recursion, recursion_from_All}
 use Rattle.std.specs.List.{AllByRecursion}
 use Rattle.std.specs.List.Sorted.{IsNonDecreasingBy}
 use Rattle.packet_core.specs.Packets.{PacketParts}
 use Rattle.journal_core.specs.declared.event.Event.{Event}
-use Rattle.journal_core.specs.declared.step.Refusal.TheVariants.{Moment}
 use Rattle.journal_core.specs.declared.step.Step.TheVariants.{Enqueue, Dequeue}
 use Rattle.journal_core.specs.State.{State, moment_fault_of, refusal_of}
 use Rattle.link_core.specs.declared.arrival.Arrival.{Arrival}
@@ -18,7 +17,7 @@ use Rattle.link_core.specs.declared.link.LinkFields.{LinkFields}
 use Rattle.link_core.specs.Arrivals.{AreArrivals, arrival_moment}
 use Rattle.link_core.specs.Links.{work}
 use Rattle.link_core.specs.Underway.{AreComing, ComesAfter, ComesBy, IsFreeAfter, units_of}
-use Rattle.link_core.specs.LinkLaw.{LinkPoint, LinkState, Moves, after}
+use Rattle.link_core.specs.LinkLaw.{LinkState, Moves, after}
 
 moment_fits : (moment last : ℕ) → moment < 2 ^ 60 → last ≤ moment → moment_fault_of moment last ≡ None
 moment_fits moment last soon later = grind (arith, nat_tests)
@@ -124,3 +123,31 @@ asks_idle link arrivals now coming events none =
 pub comes_busy : (link : LinkFields) (arrivals : List Arrival) (f : FreeAt) (a : Arrival) (rest : List Arrival) (events : List Event) → f.rest < link.rate → a.moment ≤ f.moment
     → Moves link arrivals (record { state = LinkState.free (units_of link f); coming = a ∷ rest }) (Enqueue a.moment 0 a.packet) events (record { state = LinkState.free (units_of link f); coming = rest })
 comes_busy link arrivals f a rest events below by = inl (rw (moment_of_units link f below) by, record { enqueues = refl; leads = refl })
+
+-- what comes in order is arrivals
+coming_soon : (last : ℕ) (coming : List Arrival) → AreComing last coming → AllByRecursion (λ (a : Arrival). a.moment < MAX_ARRIVAL_MOMENT) coming
+coming_soon last [] c = tt
+coming_soon last (a ∷ rest) c = (c.1, coming_soon a.moment rest c.2)
+
+each_later : (last : ℕ) (coming : List Arrival) (j : ℕ) (d : Arrival) → AreComing last coming → j < length coming → last ≤ (get_or coming j d).moment
+each_later last [] j d c within = absurd (omega arith)
+each_later last (a ∷ rest) zero d c within = c.0
+each_later last (a ∷ rest) (suc j) d c within = let low = each_later a.moment rest j d c.2 (omega arith) in let first = c.0 in omega arith
+
+coming_rise : (last : ℕ) (coming : List Arrival) → AreComing last coming → IsNonDecreasingBy arrival_moment coming
+coming_rise last [] c i j d below within = absurd (omega arith)
+coming_rise last (a ∷ rest) c zero zero d below within = omega arith
+coming_rise last (a ∷ rest) c zero (suc j) d below within = each_later a.moment rest j d c.2 (omega arith)
+coming_rise last (a ∷ rest) c (suc i) zero d below within = absurd (omega arith)
+coming_rise last (a ∷ rest) c (suc i) (suc j) d below within = coming_rise a.moment rest c.2 i j d (omega arith) (omega arith)
+
+pub are_arrivals : (arrivals : List Arrival) → length arrivals ≤ MAX_ARRIVALS → AreComing 0 arrivals → AreArrivals arrivals
+are_arrivals arrivals few c = record {
+  few = few;
+  soon = All-from_recursion (λ (a : Arrival). a.moment < MAX_ARRIVAL_MOMENT) arrivals (coming_soon 0 arrivals c);
+  rise = coming_rise 0 arrivals c;
+}
+
+-- the place of the next of them
+pub drop_there : (arrivals : List Arrival) (i : ℕ) (a : Arrival) → i < length arrivals → a ≡ get_or arrivals i a → drop i arrivals ≡ a ∷ drop (i + 1) arrivals
+drop_there arrivals i a within is = rw add-one (drop-cons arrivals i a within ∙ ap (λ (x : Arrival). x ∷ drop (suc i) arrivals) (sym is))

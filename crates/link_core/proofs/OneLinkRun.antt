@@ -1,18 +1,13 @@
 -- The link's law leaves no choice: arrivals have one run.
-use Rattle.std.proofs.Common.{◌≡◌, ℕ, ◌+◌, ◌/◌, ◌<◌, ◌≤◌, List, [], ◌∷◌, refl, sym, ap, subst, ◌∙◌, inl, inr, arith}
-use Rattle.packet_core.specs.Params.{AreInRange}
-use Rattle.packet_core.specs.declared.flow.Seed.{Seed}
-use Rattle.packet_core.specs.declared.params.ParamFields.{ParamFields}
+use Rattle.std.proofs.Common.{◌≡◌, List, [], ◌∷◌, refl, sym, subst, ◌∙◌, inl, inr, arith}
 use Rattle.journal_core.specs.declared.event.Event.{Event}
 use Rattle.journal_core.specs.declared.step.Step.{Step}
 use Rattle.journal_core.specs.Disciplines.{Discipline}
 use Rattle.journal_core.specs.Runs.{Made, Runs}
 use Rattle.journal_core.specs.State.{State, opening_state}
-use Rattle.fair_core.specs.FairQueues.{FairQueues}
-use Rattle.fair_core.specs.FqCodel.{fq_codel}
 use Rattle.link_core.specs.declared.arrival.Arrival.{Arrival}
 use Rattle.link_core.specs.declared.link.LinkFields.{LinkFields}
-use Rattle.link_core.specs.LinkLaw.{Asks, Comes, Follows, LinkPoint, LinkState, Moves, MovesFrom}
+use Rattle.link_core.specs.LinkLaw.{Follows, LinkPoint, LinkState, Moves, MovesFrom}
 use Rattle.link_core.specs.LinkLaw.LinkState.{idle, asks, free}
 use Rattle.link_core.specs.LinkRuns.{IsLinkRunOf}
 use Rattle.link_core.specs.Underway.{start_of}

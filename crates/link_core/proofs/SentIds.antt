@@ -1,6 +1,6 @@
 -- What a step sends: its ids are known, and there are no more than were accepted.
-use Rattle.std.proofs.Common.{◌≡◌, ℕ, ◌+◌, ◌<◌, ◌≤◌, All, List, [], ◌∷◌, ◌++◌, length, map, Option, Some, None, option_map, refl, sym, ap, subst, ◌∙◌, arith, append-nil, length-append}
-use Rattle.journal_core.proofs.Words.{AllByRecursion, filter_map, filter_map-append, PacketParts, Discipline, Given, IsFifoByFlow, fate_of, fate_ids, sent_of, IsHistory, State, opening_state, Made, Runs, journal_of, drop_event, sent_events, recursion_from_All}
+use Rattle.std.proofs.Common.{◌≡◌, ℕ, ◌+◌, ◌≤◌, All, List, [], ◌∷◌, ◌++◌, length, map, Option, Some, None, option_map, refl, ap, subst, ◌∙◌, arith, length-append}
+use Rattle.journal_core.proofs.Words.{AllByRecursion, filter_map, filter_map-append, PacketParts, Given, fate_of, fate_ids, sent_of, IsHistory, State, opening_state, Made, Runs, journal_of, drop_event, sent_events, recursion_from_All}
 use Rattle.packet_core.specs.declared.packet.Waiting.{Waiting}
 use Rattle.journal_core.specs.declared.event.Cause.{Cause}
 use Rattle.journal_core.specs.declared.event.Event.{Event}
@@ -73,7 +73,6 @@ given_known P events made moment why gone g told all =
     let behind : AllByRecursion P (fate_ids made) = fates_behind P events made (recursion_from_All P (fate_ids (events ++ made)) all) in
     let last = fates_behind P (map (drop_event moment why) gone) (sent_events moment (Some g)) (subst (λ es. AllByRecursion P (fate_ids es)) told behind) in
     last.0
-
 
 -- the packet of which a dequeue tells
 pub record IsGiven (given : Option Given) (id : ℕ) : Type 0 where

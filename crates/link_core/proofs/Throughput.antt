@@ -1,5 +1,5 @@
 -- Packets are sent one after another, each for as long as its work takes.
-use Rattle.std.proofs.Common.{◌≡◌, ℕ, ◌+◌, ◌*◌, ◌/◌, ◌<◌, ◌≤◌, ◌⊎◌, true, false, All, List, [], ◌∷◌, ◌++◌, length, map, sum_by, Option, Some, None, MatchOption, refl, sym, ap, subst, ◌∙◌, inl, inr, arith}
+use Rattle.std.proofs.Common.{◌≡◌, ℕ, ◌+◌, ◌*◌, ◌/◌, ◌<◌, ◌≤◌, true, false, List, [], ◌∷◌, ◌++◌, map, sum_by, Option, Some, None, MatchOption, refl, sym, ap, subst, ◌∙◌, inl, inr, arith}
 use Rattle.std.specs.List.{AllByRecursion, filter_map}
 use Rattle.std.proofs.Math.Nat.{mul-div_left, mul-le-mul_left}
 use Rattle.std.proofs.lemmas.List.Elements.{filter_map-append, recursion_from_All}
@@ -9,7 +9,6 @@ use Rattle.packet_core.specs.declared.packet.Waiting.{Waiting}
 use Rattle.journal_core.specs.declared.event.Cause.{Cause}
 use Rattle.journal_core.specs.declared.event.Cause.TheVariants as cause
 use Rattle.journal_core.specs.declared.event.Event.{Event}
-use Rattle.journal_core.specs.declared.event.Event.TheVariants.{Accepted}
 use Rattle.journal_core.specs.declared.outcome.Answer.{Answer}
 use Rattle.journal_core.specs.declared.outcome.Answer.TheVariants as answer
 use Rattle.journal_core.specs.declared.step.Refusal.{Refusal}
@@ -26,7 +25,7 @@ use Rattle.fair_core.specs.FairQueues.{FairQueues, no_queues}
 use Rattle.fair_core.specs.FqCodel.{fq_codel}
 use Rattle.link_core.specs.declared.arrival.Arrival.{Arrival}
 use Rattle.link_core.specs.declared.link.LinkFields.{LinkFields}
-use Rattle.link_core.specs.LinkLaw.{Asks, Comes, Follows, LinkPoint, LinkState, MovesFrom, after_ids}
+use Rattle.link_core.specs.LinkLaw.{Follows, LinkPoint, LinkState, MovesFrom, after_ids}
 use Rattle.link_core.specs.LinkLaw.LinkState.{idle, asks, free}
 use Rattle.link_core.specs.LinkLaws.{AreApart, Sending, sending_of, sendings, work_of}
 use Rattle.link_core.specs.Arrivals.{AreArrivals}

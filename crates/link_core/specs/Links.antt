@@ -1,4 +1,4 @@
-use Rattle.std.specs.Prelude.{◌≡◌, ℕ, ◌+◌, ◌*◌, ◌≤◌, ◌⊎◌, max}
+use Rattle.std.specs.Prelude.{ℕ, ◌+◌, ◌*◌, ◌≤◌, max}
 use Rattle.link_core.specs.declared.link.LinkFields.{LinkFields}
 use Rattle.link_core.specs.declared.link.LinkName.{LinkName}
 use Rattle.link_core.specs.declared.link.LinkName.TheVariants.{Rate, Overhead, Mpu}

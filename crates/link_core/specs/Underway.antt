@@ -8,7 +8,7 @@ use Rattle.journal_core.specs.declared.step.Step.TheVariants.{Dequeue}
 use Rattle.journal_core.specs.Calls.{Standing}
 use Rattle.journal_core.specs.Disciplines.{Discipline, Given}
 use Rattle.journal_core.specs.Runs.{Made, Runs, is_refused, journal_of}
-use Rattle.journal_core.specs.State.{State, opening_state}
+use Rattle.journal_core.specs.State.{opening_state}
 use Rattle.journal_core.specs.Statistics.{sent_of}
 use Rattle.sched_core.specs.Engines.{Running}
 use Rattle.sched_core.specs.Schedulers.{IsServed, discipline_of}

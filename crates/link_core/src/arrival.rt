@@ -20,7 +20,25 @@ pub struct Arrival {
 }
 
 impl Arrival {
+    ghost use Rattle.link_core.specs.Arrivals.{AreArrivals};
     ghost use Rattle.link_core.specs.Underway.{ComesBy};
+
+    /// Whether a link may be run for these: they are not too many, none is too late, and their moments never fall.
+    pub fn may_come(arrivals: &[Arrival]) -> bool
+        ensures { IsTrue result ↔ AreArrivals arrivals.now }
+    {
+        if arrivals.len() > MAX_ARRIVALS {
+            return false;
+        }
+        let mut last = 0;
+        for arrival in arrivals {
+            if arrival.moment < last || arrival.moment >= MAX_ARRIVAL_MOMENT {
+                return false;
+            }
+            last = arrival.moment;
+        }
+        true
+    }
 
     /// Whether one of these is to come, and the first comes at that moment at the latest.
     pub(crate) fn comes_by(coming: &[Arrival], moment: u64) -> bool

@@ -137,8 +137,6 @@ impl Line {
             ecn: head.packet.ecn(),
             mark: Mark::NoMark,
         })?;
-        Ok(Some(
-            now.after(link, arrivals[head.id as usize].packet.len()),
-        ))
+        Ok(Some(now.after(link, arrivals[head.id as usize].packet.len())))
     }
 }

@@ -1,12 +1,6 @@
-use Rattle.std.proofs.Common.{◌<◌, ◌≤◌, [], false, arith}
-use Rattle.std.proofs.lemmas.List.Elements.{recursion_from_All}
-use Rattle.journal_core.specs.Runs.{Made, is_refused, journal_of}
-use Rattle.journal_core.specs.State.{opening_state}
-use Rattle.fair_core.specs.FairQueues.{no_queues}
-use Rattle.fair_core.specs.FqCodel.{fq_codel}
-use Rattle.link_core.specs.LinkLaw.LinkState.{idle}
-use Rattle.link_core.specs.LinkLaws.{AreApart, sendings}
-use Rattle.link_core.specs.LinkRuns.{IsLinkRun}
+use Rattle.std.proofs.Common.{◌<◌, arith}
+use Rattle.journal_core.specs.Runs.{journal_of}
+use Rattle.link_core.specs.LinkLaws.{sendings}
 use Rattle.link_core.proofs.Throughput.{link_apart, rate_between}
 use Rattle.link_core.proofs.laws.throughput.Goals as goal
 

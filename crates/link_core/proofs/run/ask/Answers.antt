@@ -1,6 +1,5 @@
 use Rattle.std.proofs.Common.{◌≡◌, ◌<◌, length, arith, ◌∙◌, sym, ap}
 use Rattle.link_core.specs.Arrivals.{length_at}
-use Rattle.link_core.specs.Underway.{IsFreeAfter}
 use Rattle.link_core.proofs.LinkEngines.{length_there, sent_within}
 use Rattle.link_core.proofs.SentIds.{given_of, none_given}
 use Rattle.link_core.proofs.run.ask.Goals as goal

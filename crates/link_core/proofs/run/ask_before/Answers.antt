@@ -1,4 +1,4 @@
-use Rattle.std.proofs.Common.{IsTrue, sym, ◌≡◌, ◌+◌, ◌≤◌, ◌<◌, length, refl, ◌∙◌, arith, Some}
+use Rattle.std.proofs.Common.{IsTrue, sym, ◌≤◌, ◌∙◌, arith}
 use Rattle.std.proofs.lemmas.Bool.{false≢true}
 use Rattle.link_core.specs.Underway.{HasAsked, IsFreeInTime, sent_count}
 use Rattle.link_core.specs.declared.arrival.TheConstants.{MAX_ARRIVALS}
@@ -33,7 +33,7 @@ loop-busy-preserved c =
     let later = not_by c.in-Some.free.moment c.args.coming.now (λ by. let t : IsTrue c.comes_by.result = c.comes_by.ensures.1 by in absurd (false≢true (sym c.if-comes_by.false ∙ t))) in
     record {
       on_link = asked_on_link c.args.link.now c.args.arrivals.now old new c.in-Some.free busy _ under asked (λ events. asks_free c.args.link.now c.args.arrivals.now c.in-Some.free c.args.coming.now events frees.rest later) frees.soon
-      (coming_after old.sched.standing.state.last c.in-Some.free.moment c.args.coming.now later inv.on_link.on_time.comes);
+          (coming_after old.sched.standing.state.last c.in-Some.free.moment c.args.coming.now later inv.on_link.on_time.comes);
       kept = record { params = asked.serves.params ∙ inv.kept.params; seed = asked.serves.seed ∙ inv.kept.seed };
     }
 

@@ -1,7 +1,7 @@
-use Rattle.std.proofs.Common.{◌≡◌, ◌+◌, ◌≤◌, ◌<◌, List, [], ◌∷◌, drop, length, Some, None, IfSome, refl, sym, ap, subst, ◌∙◌, arith}
+use Rattle.std.proofs.Common.{List, drop, subst, arith}
 use Rattle.link_core.specs.declared.arrival.Arrival.{Arrival}
-use Rattle.link_core.specs.Underway.{ComesBy, HasAsked, IsOnLink}
-use Rattle.link_core.proofs.LinkEngines.{ok_more, sent_bound, taken_count, taken_idle, taken_on_link, taken_underway}
+use Rattle.link_core.specs.Underway.{ComesBy, IsOnLink}
+use Rattle.link_core.proofs.LinkEngines.{ok_more, sent_bound, taken_count, taken_idle, taken_on_link}
 use Rattle.link_core.proofs.LinkTimes.{dequeue_fits, enqueue_fits, first_of}
 use Rattle.link_core.proofs.run.meet_next.Goals as goal
 

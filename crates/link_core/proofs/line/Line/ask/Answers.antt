@@ -1,4 +1,4 @@
-use Rattle.std.proofs.Common.{◌≡◌, ◌<◌, ◌∷◌, Some, length, refl, sym, ap, ◌∙◌, arith}
+use Rattle.std.proofs.Common.{◌≡◌, ◌<◌, Some, length, refl, sym, ◌∙◌, arith}
 use Rattle.codel_core.specs.declared.served.Mark.TheVariants.{NoMark}
 use Rattle.link_core.specs.Arrivals.{length_at}
 use Rattle.link_core.proofs.LineLemmas.{all_first, gives_first}

@@ -1,4 +1,4 @@
-use Rattle.std.proofs.Common.{IsTrue, ◌≡◌, ◌+◌, ◌≤◌, ◌<◌, ◌^◌, Some, length, refl, sym, ◌∙◌, arith}
+use Rattle.std.proofs.Common.{IsTrue, sym, ◌∙◌}
 use Rattle.std.proofs.lemmas.Bool.{false≢true}
 use Rattle.link_core.specs.Lines.{HasGiven}
 use Rattle.link_core.specs.Underway.{IsFreeInTime, sent_count}
@@ -21,6 +21,6 @@ loop-busy-preserved c =
     let few = (arrived_few c.args.link.now c.args.arrivals.now old c.loop-busy.busy c.args.coming.now on c.requires.few).1 in
     record {
       on_link = given_on_fifo c.args.link.now c.args.arrivals.now on.steps on.last old new free busy _ under on.in_line given (λ events. asks_free c.args.link.now c.args.arrivals.now free c.args.coming.now events frees.rest later)
-      (soon_enough free.moment (sent_count old.events.items) frees.soon few) frees.later frees.soon (coming_after on.last free.moment c.args.coming.now later on.on_time.comes);
+          (soon_enough free.moment (sent_count old.events.items) frees.soon few) frees.later frees.soon (coming_after on.last free.moment c.args.coming.now later on.on_time.comes);
       kept = record { params = given.kept.params ∙ inv.kept.params; seed = given.kept.seed ∙ inv.kept.seed };
     }

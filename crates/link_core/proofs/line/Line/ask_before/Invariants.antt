@@ -1,4 +1,4 @@
-use Rattle.std.proofs.Common.{◌+◌, ◌-◌, ◌*◌, length}
+use Rattle.std.proofs.Common.{◌+◌, ◌*◌, length}
 use Rattle.link_core.specs.Lines.{IsOnFifo, KeepsLine}
 use Rattle.link_core.specs.Underway.{busy_count}
 use Rattle.link_core.proofs.line.Line.ask_before.Given as goal

@@ -1,4 +1,4 @@
-use Rattle.std.proofs.Common.{◌≡◌, ◌+◌, ◌≤◌, ◌<◌, ◌^◌, List, ◌∷◌, drop, length, Some, None, subst, arith}
+use Rattle.std.proofs.Common.{List, drop, subst, arith}
 use Rattle.link_core.specs.declared.arrival.Arrival.{Arrival}
 use Rattle.link_core.specs.Lines.{IsOnFifo}
 use Rattle.link_core.specs.Underway.{ComesBy}

@@ -1,4 +1,4 @@
-use Rattle.std.proofs.Common.{◌≡◌, ◌≤◌, [], ◌∷◌, length, List, refl, inr, arith, append_assoc}
+use Rattle.std.proofs.Common.{◌≤◌, [], ◌∷◌, length, List, refl, inr, arith, append_assoc}
 use Rattle.journal_core.specs.declared.event.Event.{Event}
 use Rattle.link_core.specs.Lines.{waiting_next}
 use Rattle.link_core.proofs.line.Line.take_in.Goals as goal
