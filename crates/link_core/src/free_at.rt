@@ -4,8 +4,8 @@ ghost use Rattle.std.specs.Prelude.{◌≡◌, ◌^◌, ◌<◌, ◌≤◌};
 
 use crate::link::Link;
 
-/// A time: whole microseconds, and what is left of it in units of which a microsecond has as many as the link's rate has
-/// bits per second.
+/// A time: whole microseconds, and what is left of it, in units of which a microsecond has as many as the link's rate
+/// has bits per second.
 #[derive(Clone, Copy, Debug, PartialEq, Eq)]
 pub(crate) struct FreeAt {
     /// The whole microseconds.

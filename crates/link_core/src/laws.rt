@@ -1,5 +1,5 @@
-//! What holds of every run of a link over FQ-CoDel, whatever its parameters and its seed, as contracts of functions that
-//! do nothing.
+//! What holds of every run of a link over FQ-CoDel, whatever its parameters and its seed, as contracts of functions
+//! that do nothing.
 
 ghost use Rattle.std.specs.Prelude.{◌≡◌, ℕ, ◌+◌, ◌*◌, ◌<◌, ◌≤◌, ◌++◌, ◌∷◌, All, List, [], sum_by};
 ghost use Rattle.packet_core.specs.Params.{AreInRange};
@@ -55,8 +55,8 @@ pub fn causal()
 {}
 
 /// Packets are sent one after another, never faster than the rate: each starts at an exact time, not before the one
-/// before it ends, and its moment is that time in whole microseconds. So from one packet sent to a later one, the work of
-/// all but the later takes less than the time between their moments and one microsecond more.
+/// before it ends, and its moment is that time in whole microseconds. So from one packet sent to a later one, the work
+/// of all but the later takes less than the time between their moments and one microsecond more.
 pub fn throughput()
     ensures apart { (p : ParamFields) (seed : Seed) (link : LinkFields) → IsLink link
         → (arrivals : List Arrival) → AreArrivals arrivals

@@ -16,10 +16,10 @@ use packet_core::{Params, Seed};
 use sched_core::{Engine, Memory, Refusal};
 use std::alloc::{AllocError, Global};
 
-/// Makes the steps of a link for these arrivals with a new engine of those parameters and that seed: each packet comes
-/// in at its moment, by lane 0, and the link asks for a packet whenever it gets free, in vain too, and whenever a packet
-/// comes while it is idle. So the link is never idle while something waits. The engine has the journal and the steps: at
-/// most two dequeues for each arrival. No step is refused, and it fails for want of memory alone.
+/// Makes the steps of a link for these arrivals with a new engine of those parameters and that seed. Each packet comes
+/// in at its moment, by lane 0. The link asks for a packet whenever it gets free, in vain too, and whenever a packet
+/// comes while it is idle. So the link is never idle while something waits. The engine has the journal and the steps.
+/// No step is refused, and it fails for want of memory alone.
 pub fn run_link(
     alloc: Global,
     params: Params,
