@@ -1,0 +1,35 @@
+//! A plain queue at the head of a link, to compare with.
+
+ghost use Rattle.std.specs.Prelude.{IfOk};
+ghost use Rattle.link_core.specs.Arrivals.{AreArrivals};
+ghost use Rattle.link_core.specs.Fifo.{IsFifoJournal};
+
+use crate::arrival::Arrival;
+use crate::line::Line;
+use crate::link::Link;
+use journal_core::{Event, Memory};
+use packet_core::{Params, Seed};
+use std::alloc::Global;
+
+/// The journal of the same link with a plain queue in place of FQ-CoDel: first in, first out, and a packet is dropped
+/// that arrives where as many wait as the parameters' limit, with the cause `Overflow`. It has no other limit, and it
+/// marks nothing. Each packet's flow in the journal is the one that FQ-CoDel with these parameters and that seed would
+/// choose, though the queue looks at none. It fails for want of memory alone.
+pub fn run_fifo(
+    alloc: Global,
+    params: Params,
+    seed: Seed,
+    link: &Link,
+    arrivals: &[Arrival],
+) -> Result<Vec<Event>, Memory>
+    requires { AreArrivals arrivals.now }
+    ensures { IfOk result (λ events. IsFifoJournal params seed link.now arrivals.now events.items) }
+{
+    let mut line = Line::new(alloc, params, seed);
+    let mut busy = None;
+    for i in 0..arrivals.len() {
+        busy = line.meet_next(link, arrivals, busy, &arrivals[i..])?;
+    }
+    line.ask_before(link, arrivals, busy, &[])?;
+    Ok(line.events)
+}
