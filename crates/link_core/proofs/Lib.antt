@@ -1,0 +1,4 @@
+pub mod LinkSteps
+pub mod LinkTimes
+pub mod SentIds
+pub mod LinkEngines

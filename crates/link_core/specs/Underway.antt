@@ -1,0 +1,121 @@
+-- A link's run on the way: what has been done, and what is still to come.
+use Rattle.std.specs.Prelude.{◌≡◌, ℕ, ◌+◌, ◌*◌, ◌<◌, ◌≤◌, false, List, [], ◌∷◌, ◌++◌, All, length, Option, Some, None, IfSome}
+use Rattle.std.specs.List.{filter_map}
+use Rattle.journal_core.specs.declared.event.Event.{Event}
+use Rattle.journal_core.specs.declared.step.Sent.{Sent}
+use Rattle.journal_core.specs.declared.step.Step.{Step}
+use Rattle.journal_core.specs.declared.step.Step.TheVariants.{Dequeue}
+use Rattle.journal_core.specs.Calls.{Standing}
+use Rattle.journal_core.specs.Disciplines.{Discipline, Given}
+use Rattle.journal_core.specs.Runs.{Made, Runs, is_refused, journal_of}
+use Rattle.journal_core.specs.State.{State, opening_state}
+use Rattle.journal_core.specs.Statistics.{sent_of}
+use Rattle.sched_core.specs.Engines.{Running}
+use Rattle.sched_core.specs.Schedulers.{IsServed, discipline_of}
+use Rattle.link_core.specs.declared.arrival.Arrival.{Arrival}
+use Rattle.link_core.specs.declared.arrival.TheConstants.{MAX_ARRIVAL_MOMENT}
+use Rattle.link_core.specs.declared.free_at.FreeAt.{FreeAt}
+use Rattle.link_core.specs.declared.link.LinkFields.{LinkFields}
+use Rattle.link_core.specs.Arrivals.{length_at}
+use Rattle.link_core.specs.LinkLaw.{Follows, LinkPoint, LinkState}
+use Rattle.link_core.specs.LinkLaw.LinkState.{idle, free}
+use Rattle.link_core.specs.Links.{work}
+
+-- a time, in units of which a microsecond has as many as the rate has bits per second
+abbrev pub units_of : LinkFields → FreeAt → ℕ
+units_of link f = f.moment * link.rate + f.rest
+
+-- what the link does, by when it gets free
+abbrev pub state_of : LinkFields → Option FreeAt → LinkState
+state_of link None = idle
+state_of link (Some f) = free (units_of link f)
+
+-- before the first step
+abbrev pub start_of : List Arrival → LinkPoint
+start_of arrivals = record { state = idle; coming = arrivals }
+
+-- The steps so far are those of the link up to that point, a scheduler of that discipline has made them, and none was
+-- refused. What came has an id each.
+pub record IsUnderway {Q : Type 0} (d : Discipline Q) (link : LinkFields) (arrivals : List Arrival) (steps : List Step)
+    (at : Standing Q) (point : LinkPoint) : Type 0 where
+  pub made : List Made
+  pub follows : Follows link arrivals (start_of arrivals) steps made point
+  pub runs : Runs d (opening_state d.opening) steps made at.state
+  pub journal : at.events ≡ journal_of made
+  pub none_refused : All (λ (m : Made). is_refused m.answer ≡ false) made
+  pub ids : at.state.next_id + length point.coming ≡ length arrivals
+  pub opened : at.state.closed ≡ false
+
+-- What is to come doesn't come before that moment, nor too late, and moments don't fall.
+abbrev pub AreComing : ℕ → List Arrival → Type 0
+AreComing last [] = Unit {0}
+AreComing last (a ∷ rest) = (last ≤ a.moment) × (a.moment < MAX_ARRIVAL_MOMENT) × AreComing a.moment rest
+
+-- the most microseconds, and one more, that a packet takes
+abbrev pub longest_wire_time : ℕ
+longest_wire_time = 532280001
+
+-- The link gets free not before the last step, and not too late: so many packets were sent.
+pub record IsFreeInTime (link : LinkFields) (last sent : ℕ) (f : FreeAt) : Type 0 where
+  pub rest : f.rest < link.rate
+  pub later : last ≤ f.moment
+  pub soon : f.moment ≤ MAX_ARRIVAL_MOMENT + longest_wire_time * sent
+
+-- how many packets were sent
+abbrev pub sent_count : List Event → ℕ
+sent_count events = length (filter_map sent_of events)
+
+-- The same, with all that the next steps want to know: that no moment is refused.
+pub record IsOnTime {Q : Type 0} (link : LinkFields) (at : Standing Q) (busy : Option FreeAt)
+    (coming : List Arrival) : Type 0 where
+  pub frees : IfSome busy (IsFreeInTime link at.state.last (sent_count at.events))
+  pub comes : AreComing at.state.last coming
+
+-- An engine has made the steps of the link so far, and goes on without a refusal.
+pub record IsOnLink (link : LinkFields) (arrivals : List Arrival) (e : Running) (busy : Option FreeAt)
+    (coming : List Arrival) : Type 0 where
+  pub underway : IsUnderway (discipline_of e.sched) link arrivals e.steps e.sched.standing
+      (record { state = state_of link busy; coming = coming })
+  pub on_time : IsOnTime link e.sched.standing busy coming
+
+-- The link sends a packet of that length from then on: when it gets free again.
+pub record IsFreeAfter (link : LinkFields) (now : FreeAt) (len : ℕ) (f : FreeAt) : Type 0 where
+  pub exact : units_of link f ≡ units_of link now + work link len
+  pub rest : f.rest < link.rate
+  pub later : now.moment ≤ f.moment
+  pub soon : f.moment ≤ now.moment + longest_wire_time
+
+-- It sends the packet that was given, if one was.
+abbrev pub SendsGiven : LinkFields → List Arrival → FreeAt → Option Given → Option FreeAt → Type 0
+SendsGiven link arrivals now None None = Unit {0}
+SendsGiven link arrivals now None (Some f) = ⊥
+SendsGiven link arrivals now (Some g) None = ⊥
+SendsGiven link arrivals now (Some g) (Some f) = IsFreeAfter link now (length_at arrivals g.waiting.id) f
+
+-- The engine was asked for a packet, and the link sends what it gave.
+pub record HasAsked (link : LinkFields) (arrivals : List Arrival) (now : FreeAt) (old : Running) (busy : Option FreeAt)
+    (new : Running) : Type 0 where
+  pub sent : Option Sent
+  pub serves : IsServed old.sched now.moment sent new.sched
+  pub steps : new.steps ≡ old.steps ++ Dequeue now.moment ∷ []
+  pub sends : SendsGiven link arrivals now serves.gives.given busy
+
+-- The next packet is to come, at that moment at the latest.
+abbrev pub ComesBy : ℕ → List Arrival → Type 0
+ComesBy moment [] = ⊥
+ComesBy moment (a ∷ rest) = a.moment ≤ moment
+
+-- Where a packet is to come, the next one comes after that moment.
+abbrev pub ComesAfter : ℕ → List Arrival → Type 0
+ComesAfter moment [] = Unit {0}
+ComesAfter moment (a ∷ rest) = moment < a.moment
+
+-- the parameters and the seed stay
+pub record KeepsParams (old new : Running) : Type 0 where
+  pub params : new.sched.params ≡ old.sched.params
+  pub seed : new.sched.seed ≡ old.sched.seed
+
+-- whether the link is busy, as a number
+abbrev pub busy_count : Option FreeAt → ℕ
+busy_count None = 0
+busy_count (Some f) = 1

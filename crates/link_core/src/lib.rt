@@ -1,0 +1,15 @@
+//! A bottleneck link over the scheduler: it sends one packet after another at its rate, and asks for the next one
+//! whenever it gets free. Which steps that makes of a list of arrivals, and what becomes of each packet. Arrivals are
+//! as they came: no sender answers to drops, marks or delays.
+#![tactic(auto)]
+
+mod arrival;
+mod fifo;
+mod free_at;
+mod link;
+mod run;
+
+pub use arrival::{Arrival, MAX_ARRIVAL_MOMENT, MAX_ARRIVALS};
+pub use fifo::run_fifo;
+pub use link::{Link, LinkFields, LinkName};
+pub use run::run_link;

@@ -1,0 +1,127 @@
+//! FQ-CoDel at the head of a link.
+
+ghost use Rattle.std.specs.Prelude.{◌≡◌, ◌<◌, ◌≤◌, ◌∷◌, [], ◌++◌, None, IfOk, OnOk, IfSome, drop, length};
+ghost use Rattle.journal_core.specs.State.{refusal_of};
+ghost use Rattle.journal_core.specs.declared.outcome.Answer.TheVariants as answer;
+ghost use Rattle.journal_core.specs.declared.step.Step.TheVariants.{Enqueue, Dequeue};
+ghost use Rattle.link_core.specs.Arrivals.{AreArrivals};
+ghost use Rattle.link_core.specs.LinkRuns.{HasRunLink};
+ghost use Rattle.link_core.specs.Underway.{ComesBy, HasAsked, IsOnLink, KeepsParams};
+ghost use Rattle.sched_core.specs.Schedulers.{IsAdvanced};
+
+use crate::arrival::{Arrival, MAX_ARRIVALS};
+use crate::free_at::FreeAt;
+use crate::link::Link;
+use packet_core::{Params, Seed};
+use sched_core::{Engine, Memory, Refusal};
+use std::alloc::{AllocError, Global};
+
+/// Makes the steps of a link for these arrivals with a new engine of those parameters and that seed: each packet comes
+/// in at its moment, by lane 0, and the link asks for a packet whenever it gets free, in vain too, and whenever a packet
+/// comes while it is idle. So the link is never idle while something waits. The engine has the journal and the steps: at
+/// most two dequeues for each arrival. No step is refused, and it fails for want of memory alone.
+pub fn run_link(
+    alloc: Global,
+    params: Params,
+    seed: Seed,
+    link: &Link,
+    arrivals: &[Arrival],
+) -> Result<Engine, Memory>
+    requires { AreArrivals arrivals.now }
+    ensures { IfOk result (HasRunLink params seed link.now arrivals.now) }
+{
+    let mut engine = Engine::try_new(alloc, params, seed)?;
+    let mut busy = None;
+    for i in 0..arrivals.len() {
+        busy = meet_next(&mut engine, link, arrivals, busy, &arrivals[i..])?;
+    }
+    ask_before(&mut engine, link, arrivals, busy, &[])?;
+    Ok(engine)
+}
+
+/// The link asks for packets until the next one comes, takes that in, and asks for one at once where it is idle.
+fn meet_next(
+    engine: &mut Engine,
+    link: &Link,
+    arrivals: &[Arrival],
+    busy: Option<FreeAt>,
+    coming: &[Arrival],
+) -> Result<Option<FreeAt>, Memory>
+    requires few { length arrivals.now ≤ MAX_ARRIVALS }
+    requires on_link { IsOnLink link.now arrivals.now engine.old busy coming.now }
+    requires some { 0 < length coming.now }
+    ensures on_link { IfOk result (λ left. IsOnLink link.now arrivals.now engine.new left (drop 1 coming.now)) }
+    ensures params { OnOk result (KeepsParams engine.old engine.new) }
+{
+    let left = ask_before(engine, link, arrivals, busy, coming)?;
+    let next = &coming[0];
+    take_in(engine, next)?;
+    match left {
+        Some(free) => Ok(Some(free)),
+        None => ask(engine, link, arrivals, FreeAt::at(next.moment)),
+    }
+}
+
+/// Asks for packets as long as the link gets free before the next one comes, or none is to come.
+fn ask_before(
+    engine: &mut Engine,
+    link: &Link,
+    arrivals: &[Arrival],
+    busy: Option<FreeAt>,
+    coming: &[Arrival],
+) -> Result<Option<FreeAt>, Memory>
+    requires few { length arrivals.now ≤ MAX_ARRIVALS }
+    requires on_link { IsOnLink link.now arrivals.now engine.old busy coming.now }
+    ensures on_link { IfOk result (λ left. IsOnLink link.now arrivals.now engine.new left coming.now) }
+    ensures waits { IfOk result (λ left. IfSome left (λ free. ComesBy free.moment coming.now)) }
+    ensures params { OnOk result (KeepsParams engine.old engine.new) }
+{
+    let mut busy = busy;
+    while let Some(free) = busy {
+        if Arrival::comes_by(coming, free.moment) {
+            return Ok(Some(free));
+        }
+        busy = ask(engine, link, arrivals, free)?;
+    }
+    Ok(None)
+}
+
+/// The packet comes in, by lane 0.
+fn take_in(engine: &mut Engine, arrival: &Arrival) -> Result<(), Memory>
+    requires { refusal_of engine.old.sched.standing.state (Enqueue arrival.now.moment 0 arrival.now.packet) ≡ None }
+    ensures made { OnOk result (IsAdvanced engine.old.sched
+        (Enqueue arrival.now.moment 0 arrival.now.packet) answer.Accepted engine.new.sched) }
+    ensures steps { OnOk result
+        (engine.new.steps ≡ engine.old.steps ++ Enqueue arrival.now.moment 0 arrival.now.packet ∷ []) }
+{
+    match engine.enqueue(arrival.moment, 0, arrival.packet) {
+        Ok(_) => Ok(()),
+        Err(Refusal::Memory) => Err(AllocError),
+        Err(_) => unreachable!(),
+    }
+}
+
+/// The link asks for a packet, and sends it if there is one: when it gets free again.
+fn ask(
+    engine: &mut Engine,
+    link: &Link,
+    arrivals: &[Arrival],
+    now: FreeAt,
+) -> Result<Option<FreeAt>, Memory>
+    requires few { length arrivals.now ≤ MAX_ARRIVALS }
+    requires fits { refusal_of engine.old.sched.standing.state (Dequeue now.moment) ≡ None }
+    requires rest { now.rest ≤ link.now.rate }
+    requires known { engine.old.sched.standing.state.next_id ≤ length arrivals.now }
+    ensures { IfOk result (λ busy. HasAsked link.now arrivals.now now engine.old busy engine.new) }
+{
+    let sent = match engine.dequeue(now.moment) {
+        Ok(sent) => sent,
+        Err(Refusal::Memory) => return Err(AllocError),
+        Err(_) => unreachable!(),
+    };
+    engine.run_of_steps();
+    Ok(match sent {
+        Some(sent) => Some(now.after(link, arrivals[sent.id as usize].packet.len())),
+        None => None,
+    })
+}
