@@ -63,7 +63,7 @@ module _ (p : ParamFields) (seed : Seed) where
       → sent_count (journal_of made) ≤ new.next_id
   sent_few steps made new r = let among = sent_among_fates (journal_of made) in let left = (history_of steps made new r).left in omega arith
 
-fates_behind : (P : ℕ → Type 0) (events made : List Event) → AllByRecursion P (fate_ids (events ++ made)) → AllByRecursion P (fate_ids made)
+pub fates_behind : (P : ℕ → Type 0) (events made : List Event) → AllByRecursion P (fate_ids (events ++ made)) → AllByRecursion P (fate_ids made)
 fates_behind P events made all = (ByRecursion-parts P (fate_ids events) (fate_ids made) (subst (AllByRecursion P) (filter_map-append fate_of events made) all)).1
 
 -- what holds of every id with a fate holds of the packet that is given

@@ -11,7 +11,8 @@ use Rattle.fair_core.specs.FqCodel.{fq_codel}
 use Rattle.sched_core.specs.Engines.{Running}
 use Rattle.link_core.specs.declared.arrival.Arrival.{Arrival}
 use Rattle.link_core.specs.declared.link.LinkFields.{LinkFields}
-use Rattle.link_core.specs.LinkLaw.{LinkLaw}
+use Rattle.link_core.specs.LinkLaw.{Follows, LinkLaw, LinkPoint}
+use Rattle.link_core.specs.LinkLaw.LinkState.{idle}
 
 -- The steps are those of the link for these arrivals, and they are made by a scheduler of that discipline; none of them
 -- is refused. So each packet's id is its place among the arrivals.
@@ -19,6 +20,13 @@ pub record IsLinkRunOf {Q : Type 0} (d : Discipline Q) (link : LinkFields) (arri
     (made : List Made) (last : State Q) : Type 0 where
   pub law : LinkLaw link arrivals steps made
   pub runs : Runs d (opening_state d.opening) steps made last
+  pub none_refused : All (λ (m : Made). is_refused m.answer ≡ false) made
+
+-- A run of the link so far, up to that point: the steps are the link's, they are made, and none of them is refused.
+pub record IsLinkRunTo {Q : Type 0} (d : Discipline Q) (link : LinkFields) (arrivals : List Arrival) (steps : List Step)
+    (made : List Made) (point : LinkPoint) (at : State Q) : Type 0 where
+  pub follows : Follows link arrivals (record { state = idle; coming = arrivals }) steps made point
+  pub runs : Runs d (opening_state d.opening) steps made at
   pub none_refused : All (λ (m : Made). is_refused m.answer ≡ false) made
 
 -- the same of FQ-CoDel (RFC 8290)

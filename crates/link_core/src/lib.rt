@@ -6,6 +6,8 @@
 mod arrival;
 mod fifo;
 mod free_at;
+pub mod laws;
+mod line;
 mod link;
 mod run;
 

@@ -40,7 +40,7 @@ fn steps(rt: HostRuntime) -> Result<(), Fail> {
     for step in engine.steps() {
         println!(rt; "{step:?}")?;
     }
-    let fifo = run_fifo(rt.alloc(), &params, SEED, &link, &arrivals)?;
+    let fifo = run_fifo(rt.alloc(), params, SEED, &link, &arrivals)?;
     for event in fifo {
         println!(rt; "{event:?}")?;
     }

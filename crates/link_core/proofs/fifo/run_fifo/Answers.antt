@@ -1,0 +1,34 @@
+use Rattle.std.proofs.Common.{◌≡◌, ◌∙◌, List, subst}
+use Rattle.link_core.specs.declared.arrival.Arrival.{Arrival}
+use Rattle.link_core.specs.Lines.{IsOnFifo}
+use Rattle.link_core.proofs.LineLemmas.{fifo_has_run, opening_on_fifo}
+use Rattle.link_core.proofs.LinkEngines.{next_of, none_left, rest_of}
+use Rattle.link_core.proofs.fifo.run_fifo.Goals as goal
+
+pub loop-i-init : goal.loop-i-init
+loop-i-init c =
+    let new = c.new-line.ensures in
+    record { on_link = opening_on_fifo c.args.params c.args.seed c.args.link.now c.args.arrivals.now c.new-line.result c.requires new; params = new.params; seed = new.seed_kept }
+
+pub meet_next-requires-clause-on_link : goal.meet_next-requires-clause-on_link
+meet_next-requires-clause-on_link c = rw (rest_of c.args.arrivals.now c.loop-i.i) c.loop-i.invariant.on_link
+
+pub loop-i-preserved : goal.loop-i-preserved
+loop-i-preserved c =
+    let done = c.in_ok-busy.ensures {u = tt} in
+    let inv = c.loop-i.invariant in
+    record {
+      on_link = subst (λ (r : List Arrival). IsOnFifo c.args.link.now c.args.arrivals.now c.meet_next.new.self c.in_ok-busy.busy r) (next_of c.args.arrivals.now c.loop-i.i) done.on_link;
+      params = done.kept.params ∙ inv.params;
+      seed = done.kept.seed ∙ inv.seed;
+    }
+
+pub ask_before-requires-clause-on_link : goal.ask_before-requires-clause-on_link
+ask_before-requires-clause-on_link c =
+    subst (λ (r : List Arrival). IsOnFifo c.args.link.now c.args.arrivals.now c.loop-i.line c.loop-i.busy r) (none_left c.args.arrivals.now c.loop-i.i c.loop-i-test.false) c.loop-i.invariant.on_link
+
+pub returns : goal.returns
+returns c =
+    let done = c.in_ok-ask_before.ensures {u = tt} in
+    let inv = c.loop-i.invariant in
+    fifo_has_run c.args.params c.args.seed c.args.link.now c.args.arrivals.now c.ask_before.new.self c.in_ok-ask_before.field-0 done.on_link done.waits (done.kept.params ∙ inv.params) (done.kept.seed ∙ inv.seed)

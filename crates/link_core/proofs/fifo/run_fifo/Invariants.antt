@@ -1,0 +1,11 @@
+use Rattle.std.proofs.Common.{◌≡◌, drop}
+use Rattle.link_core.specs.Lines.{IsOnFifo}
+use Rattle.link_core.proofs.fifo.run_fifo.Given as goal
+
+-- the arrivals so far were met
+abbrev pub invariant-loop-i : goal.invariant-loop-i
+invariant-loop-i l = record {
+  on_link : IsOnFifo l.link l.arrivals l.line l.busy (drop l.i l.arrivals);
+  params : l.line.params ≡ l.fn.params;
+  seed : l.line.seed ≡ l.fn.seed;
+}

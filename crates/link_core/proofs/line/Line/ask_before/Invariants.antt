@@ -1,0 +1,15 @@
+use Rattle.std.proofs.Common.{◌+◌, ◌-◌, ◌*◌, length}
+use Rattle.link_core.specs.Lines.{IsOnFifo, KeepsLine}
+use Rattle.link_core.specs.Underway.{busy_count}
+use Rattle.link_core.proofs.line.Line.ask_before.Given as goal
+
+-- the link has gone on
+abbrev pub invariant-loop-busy : goal.invariant-loop-busy
+invariant-loop-busy l = record {
+  on_link : IsOnFifo l.link l.arrivals l.self l.busy l.coming;
+  kept : KeepsLine l.initial.self l.self;
+}
+
+-- what waits, and whether the link is busy
+abbrev pub decreases-loop-busy : goal.decreases-loop-busy
+decreases-loop-busy l = 2 * length l.self.waiting.items + busy_count l.busy

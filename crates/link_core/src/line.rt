@@ -1,0 +1,144 @@
+//! A plain queue, with what became of each packet.
+
+ghost use Rattle.std.specs.Prelude.{◌<◌, ◌≤◌, ◌^◌, All, IfOk, IfSome, OnOk, length, drop};
+
+use crate::arrival::{Arrival, MAX_ARRIVALS};
+use crate::free_at::FreeAt;
+use crate::link::Link;
+use codel_core::Mark;
+use journal_core::{Cause, Event, Memory};
+use packet_core::{Params, Seed, Waiting, flow_of};
+use std::alloc::Global;
+use std::collections::VecDeque;
+
+/// A queue that is first in, first out, how many packets came, and what became of them.
+#[derive(Drop)]
+pub(crate) struct Line {
+    params: Params,
+    seed: Seed,
+    arrived: u64,
+    waiting: VecDeque<Waiting>,
+    pub(crate) events: Vec<Event>,
+}
+
+impl Line {
+    ghost use Rattle.link_core.specs.Lines.{HasGiven, HasTakenIn, IsNewLine, IsOnFifo, KeepsLine};
+    ghost use Rattle.link_core.specs.Underway.{ComesBy};
+
+    /// An empty queue.
+    pub(crate) fn new(alloc: Global, params: Params, seed: Seed) -> Line
+        ensures { IsNewLine params seed result }
+    {
+        Line {
+            params,
+            seed,
+            arrived: 0,
+            waiting: VecDeque::new(alloc),
+            events: Vec::new(alloc),
+        }
+    }
+
+    /// The link asks for packets until the next one comes, takes that in, and asks for one at once where it is idle.
+    pub(crate) fn meet_next(
+        &mut self,
+        link: &Link,
+        arrivals: &[Arrival],
+        busy: Option<FreeAt>,
+        coming: &[Arrival],
+    ) -> Result<Option<FreeAt>, Memory>
+        requires few { length arrivals.now ≤ MAX_ARRIVALS }
+        requires on_link { IsOnFifo link.now arrivals.now self.old busy coming.now }
+        requires some { 0 < length coming.now }
+        ensures on_link { IfOk result (λ left. IsOnFifo link.now arrivals.now self.new left (drop 1 coming.now)) }
+        ensures kept { OnOk result (KeepsLine self.old self.new) }
+    {
+        let left = self.ask_before(link, arrivals, busy, coming)?;
+        let next = &coming[0];
+        self.take_in(next)?;
+        match left {
+            Some(free) => Ok(Some(free)),
+            None => self.ask(link, arrivals, FreeAt::at(next.moment)),
+        }
+    }
+
+    /// Asks for packets as long as the link gets free before the next one comes, or none is to come.
+    pub(crate) fn ask_before(
+        &mut self,
+        link: &Link,
+        arrivals: &[Arrival],
+        busy: Option<FreeAt>,
+        coming: &[Arrival],
+    ) -> Result<Option<FreeAt>, Memory>
+        requires few { length arrivals.now ≤ MAX_ARRIVALS }
+        requires on_link { IsOnFifo link.now arrivals.now self.old busy coming.now }
+        ensures on_link { IfOk result (λ left. IsOnFifo link.now arrivals.now self.new left coming.now) }
+        ensures waits { IfOk result (λ left. IfSome left (λ free. ComesBy free.moment coming.now)) }
+        ensures kept { OnOk result (KeepsLine self.old self.new) }
+    {
+        let mut busy = busy;
+        while let Some(free) = busy {
+            if Arrival::comes_by(coming, free.moment) {
+                return Ok(Some(free));
+            }
+            busy = self.ask(link, arrivals, free)?;
+        }
+        Ok(None)
+    }
+
+    /// The packet comes in, by lane 0, and is dropped where as many wait as may.
+    fn take_in(&mut self, arrival: &Arrival) -> Result<(), Memory>
+        requires { self.old.arrived < 2 ^ 40 }
+        ensures { OnOk result (HasTakenIn self.old arrival.now self.new) }
+    {
+        let id = self.arrived;
+        self.events.push(Event::Accepted {
+            lane: 0,
+            id,
+            moment: arrival.moment,
+            flow: flow_of(&self.params, &self.seed, &arrival.packet.tuple()),
+            packet: arrival.packet,
+        })?;
+        self.arrived += 1;
+        if self.waiting.len() < self.params.limit() as usize {
+            self.waiting.push_back(Waiting {
+                id,
+                stamp: arrival.moment,
+                packet: arrival.packet,
+            })?;
+        } else {
+            self.events.push(Event::Dropped {
+                id,
+                moment: arrival.moment,
+                cause: Cause::Overflow,
+            })?;
+        }
+        Ok(())
+    }
+
+    /// The link asks for a packet, and sends it if there is one: when it gets free again.
+    fn ask(
+        &mut self,
+        link: &Link,
+        arrivals: &[Arrival],
+        now: FreeAt,
+    ) -> Result<Option<FreeAt>, Memory>
+        requires few { length arrivals.now ≤ MAX_ARRIVALS }
+        requires soon { now.moment < 2 ^ 60 }
+        requires rest { now.rest ≤ link.now.rate }
+        requires known { All (λ w. w.id < length arrivals.now) self.old.waiting.items }
+        ensures { IfOk result (λ busy. HasGiven link.now arrivals.now now self.old busy self.new) }
+    {
+        let Some(head) = self.waiting.pop_front() else {
+            return Ok(None);
+        };
+        self.events.push(Event::Sent {
+            id: head.id,
+            moment: now.moment,
+            ecn: head.packet.ecn(),
+            mark: Mark::NoMark,
+        })?;
+        Ok(Some(
+            now.after(link, arrivals[head.id as usize].packet.len()),
+        ))
+    }
+}
