@@ -1,7 +1,7 @@
 //! The whole program over words and streams: it runs a link and writes a table, or help, and reports a fault with its
 //! status.
 
-ghost use Rattle.std.specs.Prelude.{◌≡◌, ◌≤◌, OnErr, OnOk, take, ℕ};
+ghost use Rattle.std.specs.Prelude.{◌≡◌, ◌≤◌, IfSome, OnErr, OnOk, false, length, take, ℕ};
 ghost use Rattle.std.specs.Io.KnownBytes.{Appends, Keeps};
 ghost use Rattle.link_core.specs.Arrivals.{AreArrivals};
 
@@ -118,7 +118,7 @@ fn table_text(
         return Ok(steps_text(alloc, engine.steps())?);
     }
     if request.has_fifo {
-        let fifo = run_fifo(alloc, &run.params, run.seed, &run.link, arrivals)?;
+        let fifo = run_fifo(alloc, run.params, run.seed, &run.link, arrivals)?;
         journal_text(
             alloc,
             request.table,
@@ -145,16 +145,25 @@ fn journal_text(
     if table == TableName::Series {
         return Ok(series_text(alloc, every, events, fifo)?);
     }
-    if events.len() > MAX_EVENTS || has_many(fifo) {
-        // A million rows have two million events.
-        let none = String::new(alloc);
-        return Err(ProgramFault::Row(0, RowFault::Trace(TraceFaultKind::TooLarge), none));
+    if events.len() > MAX_EVENTS {
+        return Err(too_many(alloc));
+    }
+    if has_many(fifo) {
+        return Err(too_many(alloc));
     }
     Ok(flows_text(alloc, events, fifo)?)
 }
 
+/// The fault for more events than `flows_text` takes. A million rows have two million events.
+fn too_many(alloc: Global) -> ProgramFault {
+    let none = String::new(alloc);
+    ProgramFault::Row(0, RowFault::Trace(TraceFaultKind::TooLarge), none)
+}
+
 /// Whether there are more events than `flows_text` takes.
-fn has_many(events: Option<&[Event]>) -> bool {
+fn has_many(events: Option<&[Event]>) -> bool
+    ensures { result ≡ false → IfSome events.entry (λ e. length e.now ≤ MAX_EVENTS) }
+{
     match events {
         Some(events) => events.len() > MAX_EVENTS,
         None => false,

@@ -1,6 +1,6 @@
 //! The values of options, from their texts.
 
-ghost use Rattle.std.specs.Prelude.{◌≤◌, IfOk};
+ghost use Rattle.std.specs.Prelude.{◌≤◌, IfOk, IsErr};
 
 use crate::command_line::RunRequest;
 use crate::faults::{ProgramFault, ValueFault, ValueName};
@@ -105,7 +105,9 @@ fn value_fault<T>(
     name: ValueName,
     what: ValueFault,
     text: &str,
-) -> Result<T, ProgramFault> {
+) -> Result<T, ProgramFault>
+    ensures { IsErr result }
+{
     Err(ProgramFault::Value(name, what, String::from_str(alloc, text)?))
 }
 
