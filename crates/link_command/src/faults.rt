@@ -1,0 +1,222 @@
+//! What can go wrong, as the program says it: a line for programs, and a line for people.
+
+ghost use Rattle.std.specs.Prelude.{◌≡◌};
+ghost use Rattle.link_command.specs.Faults.{row_status, status_of};
+
+use packet_core::ParamFault;
+use row_core::{TraceFault, TraceFaultKind};
+use std::alloc::AllocError;
+use std::io::{self, ErrorKind, Write};
+use thiserror::Error;
+
+/// The status where the machine failed: memory, a read or a write.
+const MACHINE_FAULT: u8 = 1;
+
+/// The status where something is wrong that was given: the words or the arrivals.
+const INPUT_FAULT: u8 = 2;
+
+/// An option whose value is a number.
+#[derive(Clone, Copy, Debug, PartialEq, Eq, Error)]
+pub enum ValueName {
+    /// The rate.
+    #[error("rate")]
+    Rate,
+    /// The bytes on the wire beside a packet's own.
+    #[error("overhead")]
+    Overhead,
+    /// The least bytes on the wire.
+    #[error("mpu")]
+    Mpu,
+    /// The width of a bin.
+    #[error("every")]
+    Every,
+}
+
+/// What is wrong with the value of an option.
+#[derive(Clone, Copy, Debug, PartialEq, Eq, Error)]
+pub enum ValueFault {
+    /// It isn't written as such a value is.
+    #[error("NotANumber")]
+    NotANumber,
+    /// It is outside its range.
+    #[error("OutOfRange")]
+    OutOfRange,
+}
+
+/// What is wrong with a row.
+#[derive(Clone, Copy, Debug, PartialEq, Eq, Error)]
+pub enum RowFault {
+    /// It isn't a row of a trace, or the input couldn't be read.
+    #[error("{0}")]
+    Trace(TraceFaultKind),
+    /// It is a row of a trace, but not `enq`.
+    #[error("NotAnArrival")]
+    NotAnArrival,
+    /// Its moment is 2^59 microseconds or more.
+    #[error("TooLate")]
+    TooLate,
+    /// Its moment is before that of the row before.
+    #[error("Backwards")]
+    Backwards,
+}
+
+/// Why the program failed.
+#[derive(Debug, Drop, Error)]
+pub enum ProgramFault {
+    /// The words aren't those of a command line. The text says what is wrong, in whole lines.
+    #[error("{0}")]
+    CommandLine(String),
+    /// A word isn't UTF-8.
+    #[error("a word isn't UTF-8")]
+    NotUtf8,
+    /// The value of an option is wrong. The text is the value as it was found.
+    #[error("{0}: {1}")]
+    Value(ValueName, ValueFault, String),
+    /// The seed isn't 32 hexadecimal digits. The text is what was found.
+    #[error("seed")]
+    Seed(String),
+    /// A parameter word is wrong. The text is the word.
+    #[error("{0}")]
+    Params(ParamFault, String),
+    /// A row is wrong, by its number from 1, and 0 where the input couldn't be read. The text is the row.
+    #[error("row {0}: {1}")]
+    Row(u64, RowFault, String),
+    /// A growth was refused.
+    #[error("memory")]
+    Memory,
+    /// A write failed or took nothing. What was written is the front of the table.
+    #[error("write")]
+    Write,
+}
+
+impl ProgramFault {
+    /// The status that the program ends with: 1 where the machine failed, and 2 where what was given is wrong.
+    pub fn status(&self) -> u8
+        ensures { result ≡ status_of self.now }
+    {
+        match self {
+            ProgramFault::CommandLine(_)
+            | ProgramFault::NotUtf8
+            | ProgramFault::Value(..)
+            | ProgramFault::Seed(_)
+            | ProgramFault::Params(..) => INPUT_FAULT,
+            ProgramFault::Row(_, what, _) => row_status(what),
+            ProgramFault::Memory | ProgramFault::Write => MACHINE_FAULT,
+        }
+    }
+}
+
+/// The status that goes with a fault of a row.
+fn row_status(what: &RowFault) -> u8
+    ensures { result ≡ row_status what.now }
+{
+    match what {
+        RowFault::Trace(TraceFaultKind::Read | TraceFaultKind::Memory) => MACHINE_FAULT,
+        RowFault::Trace(_) | RowFault::NotAnArrival | RowFault::TooLate | RowFault::Backwards => {
+            INPUT_FAULT
+        }
+    }
+}
+
+impl From<AllocError> for ProgramFault {
+    fn from(_: AllocError) -> ProgramFault {
+        ProgramFault::Memory
+    }
+}
+
+/// Why the words can't be had.
+impl From<io::Error> for ProgramFault {
+    fn from(error: io::Error) -> ProgramFault {
+        match error.kind() {
+            ErrorKind::OutOfMemory => ProgramFault::Memory,
+            _ => ProgramFault::NotUtf8,
+        }
+    }
+}
+
+/// Reports a fault, and answers its status. The first line is for programs, the second one says what was found and what
+/// is wanted. Where it can't be written there is nowhere left to say so, and it is passed over.
+pub fn tell<F: Write>(faults: &mut F, fault: &ProgramFault) -> u8
+    ensures { result ≡ status_of fault.now }
+{
+    let _ = match fault {
+        ProgramFault::CommandLine(text) => write!(faults, "{text}"),
+        _ => writeln!(faults, "maltlink: {fault}"),
+    };
+    explain(faults, fault);
+    fault.status()
+}
+
+/// The line for people.
+fn explain<F: Write>(faults: &mut F, fault: &ProgramFault) {
+    let _ = match fault {
+        ProgramFault::Value(name, _, found) => {
+            writeln!(faults, "  --{name} {found:?}: wanted is {}", wanted(*name))
+        }
+        ProgramFault::Seed(found) => {
+            writeln!(
+                faults,
+                "  --seed {found:?}: wanted are 32 hexadecimal digits"
+            )
+        }
+        ProgramFault::Params(fault, found) => {
+            writeln!(faults, "  {found:?}: {}", wanted_word(*fault))
+        }
+        ProgramFault::Row(_, what, found) => {
+            writeln!(faults, "  {found:?}: {}", wanted_row(*what))
+        }
+        ProgramFault::CommandLine(_)
+        | ProgramFault::NotUtf8
+        | ProgramFault::Memory
+        | ProgramFault::Write => Ok(()),
+    };
+}
+
+/// What value an option has.
+fn wanted(name: ValueName) -> &'static str {
+    match name {
+        ValueName::Rate => "1000bit to 1tbit, as in 10mbit or 1250kbps",
+        ValueName::Overhead => "a number from 0 to 1000, in bytes",
+        ValueName::Mpu => "a number from 0 to 65535, in bytes",
+        ValueName::Every => "a time from 1ms to 1000s",
+    }
+}
+
+/// What a parameter word says.
+fn wanted_word(fault: ParamFault) -> &'static str {
+    match fault {
+        ParamFault::UnknownWord(_) => "no parameter has that name ('maltlink --help' lists them)",
+        ParamFault::MissingValue(_) => "a value is wanted after this word",
+        ParamFault::NotANumber(_) => "a number is wanted, or a time as in 5ms",
+        ParamFault::OutOfRange(_) => "it is outside its range ('maltlink --help' lists them)",
+    }
+}
+
+/// What a row says.
+fn wanted_row(what: RowFault) -> &'static str {
+    match what {
+        RowFault::Trace(kind) => wanted_field(kind),
+        RowFault::NotAnArrival =>
+            "rows are arrivals alone, as in enq,0,6,10.0.0.1,10.0.0.2,5000,443,1514,0",
+        RowFault::TooLate => "a moment is below 2^59 microseconds",
+        RowFault::Backwards => "its moment is before that of the row before it",
+    }
+}
+
+/// What the fields of a row say.
+fn wanted_field(kind: TraceFaultKind) -> &'static str {
+    match kind {
+        TraceFaultKind::Read => "it couldn't be read",
+        TraceFaultKind::TooLarge => "at most 1000000 rows and 134217728 bytes are read",
+        TraceFaultKind::BadKind => "the first field is enq",
+        TraceFaultKind::BadFieldCount =>
+            "the fields are enq,MOMENT,PROTO,SRC,DST,SPORT,DPORT,LEN,ECN",
+        TraceFaultKind::BadNumber => "a number has digits alone, and is in the range of its field",
+        TraceFaultKind::BadAddress => {
+            "an address is four numbers joined by dots, or after a row version,2 also 32 hexadecimal digits"
+        }
+        TraceFaultKind::BadEcn => "the ECN field is one digit from 0 to 3",
+        TraceFaultKind::LengthOutOfRange => "a packet has 1 to 65535 bytes",
+        TraceFaultKind::Memory => "there is no memory for it",
+    }
+}

@@ -1,0 +1,19 @@
+//! What the words behind `maltlink` ask for: a link, a seed, parameters, the arrivals that it reads, and the table that
+//! it writes.
+#![tactic(auto)]
+
+mod arrivals;
+mod command_line;
+mod faults;
+mod manual;
+mod plain;
+mod program_run;
+mod rates;
+mod values;
+
+pub use arrivals::read_arrivals;
+pub use command_line::{Asked, RunRequest, TableName, parse};
+pub use faults::{ProgramFault, RowFault, ValueFault, ValueName, tell};
+pub use plain::plain_words;
+pub use program_run::program;
+pub use rates::read_rate;

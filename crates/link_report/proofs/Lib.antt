@@ -1,0 +1,5 @@
+pub mod TableLemmas
+pub mod PacketLemmas
+pub mod PercentileLemmas
+pub mod GroupLemmas
+pub mod SummaryLemmas

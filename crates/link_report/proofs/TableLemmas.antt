@@ -1,0 +1,37 @@
+-- A table's row as `csv` writes it, and how rows come one after the other.
+use Rattle.std.proofs.Common.{◌≡◌, ℕ, ◌+◌, ◌<◌, List, [], ◌∷◌, ◌++◌, take, get_or, length, refl, ap, arith, append_assoc, append-nil}
+use Rattle.std.specs.List.{flat_map, join_with_byte}
+use Rattle.std.proofs.lemmas.Bool.{ne_eqb}
+use Rattle.std.proofs.lemmas.List.{flat_map_more, take_more}
+use Rattle.csv.specs.Writing.{fields_text, is_blank, row_text}
+use Rattle.link_report.specs.declared.table.Table.{Table}
+use Rattle.link_report.specs.Tables.{Adds, IsFilled, line_of, table_writer}
+
+joined : (field : List ℕ) (rest : List (List ℕ)) → field ++ fields_text table_writer rest ≡ join_with_byte 44 (field ∷ rest)
+unfolding fields_text
+joined field [] = append-nil field
+joined field (next ∷ rest) = ap (λ l. field ++ 44 ∷ l) (joined next rest)
+
+-- the text of a row
+pub row_is : (fields : List (List ℕ)) → IsFilled fields → row_text table_writer fields ≡ line_of fields
+unfolding is_blank line_of
+row_is [] h = absurd h
+row_is (field ∷ []) h = rw (joined field [], ne_eqb (length field) 0 (λ e. omega arith)) refl
+row_is (field ∷ next ∷ rest) h = rw (joined field (next ∷ rest)) refl
+
+-- nothing is written yet
+pub adds_none : (table : Table) → Adds table table []
+unfolding Adds
+adds_none table text h = rw append-nil h
+
+-- what is written behind what was written
+pub adds_both : (old mid new : Table) (first more : List ℕ) → Adds old mid first → Adds mid new more → Adds old new (first ++ more)
+unfolding Adds
+adds_both old mid new first more a b = λ text h. rw (← append_assoc text first more) (b (text ++ first) (a text h))
+
+-- a row more of things that have a row each
+pub adds_line : {X : Type 0} (line : X → List ℕ) (xs : List X) (i : ℕ) (x d : X) (old mid new : Table) → i < length xs → x ≡ get_or xs i d
+    → Adds old mid (flat_map line (take i xs)) → Adds mid new (line x) → Adds old new (flat_map line (take (i + 1) xs))
+adds_line line xs i x d old mid new within is a b =
+    let more = take_more xs i d within in
+    rw (more, ← is, ← flat_map_more line [] (take i xs) x) (adds_both old mid new _ _ a b)

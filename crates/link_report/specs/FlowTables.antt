@@ -1,0 +1,83 @@
+-- The table of five-tuples.
+use Rattle.std.specs.Prelude.{ℕ, ◌+◌, ◌-◌, ◌==◌, List, [], ◌∷◌, ◌++◌, Option, Some, None, codes, filter, fold, max}
+use Rattle.std.specs.Fmt.{decimal}
+use Rattle.std.specs.List.{flat_map}
+use Rattle.std.specs.Option.{option_map_or}
+use Rattle.packet_core.specs.declared.packet.FiveTuple.{FiveTuple}
+use Rattle.journal_core.specs.declared.event.Event.{Event}
+use Rattle.link_report.specs.declared.packets.PacketRecord.{PacketRecord}
+use Rattle.link_report.specs.declared.summary.Delays.{Delays}
+use Rattle.link_report.specs.declared.summary.Summary.{Summary}
+use Rattle.link_report.specs.declared.table.Queue.{Queue}
+use Rattle.link_report.specs.declared.table.Queue.TheVariants.{FqCodel, Fifo}
+use Rattle.link_report.specs.Groups.{GroupParts, groups_from}
+use Rattle.link_report.specs.Packets.{Known, known_of, last_moment}
+use Rattle.link_report.specs.QueueNames.{queue_name}
+use Rattle.link_report.specs.Summaries.{summary_of}
+use Rattle.link_report.specs.Tables.{address_text, line_of}
+
+abbrev pub flows_header : List (List ℕ)
+flows_header =
+    codes "queue" ∷ codes "tuple" ∷ codes "proto" ∷ codes "src" ∷ codes "dst" ∷ codes "sport" ∷ codes "dport"
+    ∷ codes "flow" ∷ codes "packets" ∷ codes "bytes" ∷ codes "sent" ∷ codes "sent_bytes" ∷ codes "dropped_codel"
+    ∷ codes "dropped_overflow" ∷ codes "marked" ∷ codes "delay_min" ∷ codes "delay_mean" ∷ codes "delay_p50"
+    ∷ codes "delay_p95" ∷ codes "delay_p99" ∷ codes "delay_max" ∷ codes "rate" ∷ []
+
+-- the last moment of some packets, and at least the one given
+abbrev pub latest : ℕ → List PacketRecord → ℕ
+latest moment packets = fold (λ last p. max last (last_moment p)) moment packets
+
+-- the time from the first arrival to the last fate, in microseconds
+abbrev pub span_of : List PacketRecord → ℕ
+span_of [] = 0
+span_of (p ∷ packets) = latest 0 (p ∷ packets) - p.arrived
+
+-- the flow of the first packet
+abbrev pub first_flow : List PacketRecord → ℕ
+first_flow [] = 0
+first_flow (p ∷ packets) = p.flow
+
+-- the digits of a number, and none where there is no number
+abbrev pub decimal_of : Option ℕ → List ℕ
+decimal_of value = option_map_or decimal value []
+
+-- the fields of delays, which are empty where there are none
+abbrev pub delay_fields : Option Delays → List (List ℕ)
+delay_fields None = [] ∷ [] ∷ [] ∷ [] ∷ [] ∷ [] ∷ []
+delay_fields (Some d) =
+    decimal d.min ∷ decimal d.mean ∷ decimal d.p50 ∷ decimal d.p95 ∷ decimal d.p99 ∷ decimal d.max ∷ []
+
+-- the fields of a summary
+abbrev pub summary_fields : Summary → List (List ℕ)
+summary_fields s =
+    decimal s.packets ∷ decimal s.bytes ∷ decimal s.sent ∷ decimal s.sent_bytes ∷ decimal s.dropped_codel
+    ∷ decimal s.dropped_overflow ∷ decimal s.marked
+    ∷ (delay_fields s.delays ++ decimal_of s.rate ∷ [])
+
+-- the row of a five-tuple, with the summary of its packets
+abbrev pub group_line : Queue → ℕ → GroupParts → List ℕ
+group_line queue span group = line_of (
+    queue_name queue ∷ decimal group.number ∷ decimal group.tuple.proto ∷ address_text group.tuple.src
+    ∷ address_text group.tuple.dst ∷ decimal group.tuple.sport ∷ decimal group.tuple.dport
+    ∷ decimal (first_flow group.packets) ∷ summary_fields (summary_of span group.packets))
+
+-- the row of all packets
+abbrev pub all_line : Queue → ℕ → List PacketRecord → List ℕ
+all_line queue span packets = line_of (
+    queue_name queue ∷ codes "all" ∷ [] ∷ [] ∷ [] ∷ [] ∷ [] ∷ [] ∷ summary_fields (summary_of span packets))
+
+-- the rows of the five-tuples of some packets, in the order of their first arrivals, and that of all packets
+abbrev pub known_lines : Queue → Known → List ℕ
+known_lines queue known =
+    flat_map (group_line queue (span_of known.packets)) (groups_from 0 known.packets known.tuples)
+    ++ all_line queue (span_of known.packets) known.packets
+
+-- the rows of a queue's journal
+abbrev pub flow_lines : Queue → List Event → List ℕ
+flow_lines queue events = known_lines queue (known_of events)
+
+-- The table: its header, the rows of the scheduler's journal, and then those of the journal of the other queue, where
+-- there is one.
+abbrev pub flows_text : List Event → Option (List Event) → List ℕ
+flows_text events None = line_of flows_header ++ flow_lines FqCodel events
+flows_text events (Some fifo) = (line_of flows_header ++ flow_lines FqCodel events) ++ flow_lines Fifo fifo

@@ -1,0 +1,10 @@
+pub mod Packets
+pub mod Percentiles
+pub mod Summaries
+pub mod QueueNames
+pub mod Tables
+pub mod PacketTables
+pub mod StepTables
+pub mod Groups
+pub mod FlowTables
+pub mod SummaryFields

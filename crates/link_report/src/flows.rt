@@ -1,0 +1,283 @@
+//! The table `flows`: a row for each five-tuple, and one for all packets.
+
+ghost use Rattle.std.specs.Prelude.{◌≡◌, ◌≤◌, All, IfOk, IfSome, OnOk, length, option_map};
+ghost use Rattle.std.specs.List.{flat_map};
+ghost use Rattle.link_report.specs.Tables as Tables;
+ghost use Rattle.link_report.specs.FlowTables.{all_line, delay_fields, first_flow, flow_lines, flows_header, flows_text, group_line, known_lines, span_of, summary_fields};
+
+use crate::decimal::Digits;
+use crate::groups::{Group, grouped};
+use crate::packets::{PacketRecord, Packets};
+use crate::summary::{Delays, MAX_EVENTS, Summary, summarize};
+use crate::table::{Queue, Table};
+use journal_core::{Event, Memory};
+use std::alloc::Global;
+
+/// The text of the table: a header, the rows of the scheduler's journal, and then those of the other queue's, where there
+/// is one. It fails for want of memory alone.
+pub fn flows_text(
+    alloc: Global,
+    events: &[Event],
+    fifo: Option<&[Event]>,
+) -> Result<Vec<u8>, Memory>
+    requires few { length events.now ≤ MAX_EVENTS }
+    requires fifo_few { IfSome fifo (λ e. length e.now ≤ MAX_EVENTS) }
+    ensures { IfOk result (λ text. text.items ≡ flows_text events.now (option_map (λ e. e.now) fifo.entry)) }
+{
+    let mut table = Table::new(alloc);
+    write_flows(&mut table, events, fifo)?;
+    table.into_text()
+}
+
+/// Writes the table.
+fn write_flows(table: &mut Table, events: &[Event], fifo: Option<&[Event]>) -> Result<(), Memory>
+    requires few { length events.now ≤ MAX_EVENTS }
+    requires fifo_few { IfSome fifo (λ e. length e.now ≤ MAX_EVENTS) }
+    ensures { OnOk result (Tables.Adds table.old table.new
+        (flows_text events.now (option_map (λ e. e.now) fifo.entry))) }
+{
+    header(table)?;
+    queue_rows(table, Queue::FqCodel, events)?;
+    match fifo {
+        Some(fifo) => queue_rows(table, Queue::Fifo, fifo),
+        None => Ok(()),
+    }
+}
+
+/// The header.
+fn header(table: &mut Table) -> Result<(), Memory>
+    ensures { OnOk result (Tables.Adds table.old table.new (Tables.line_of flows_header)) }
+{
+    table.row(&[
+        b"queue",
+        b"tuple",
+        b"proto",
+        b"src",
+        b"dst",
+        b"sport",
+        b"dport",
+        b"flow",
+        b"packets",
+        b"bytes",
+        b"sent",
+        b"sent_bytes",
+        b"dropped_codel",
+        b"dropped_overflow",
+        b"marked",
+        b"delay_min",
+        b"delay_mean",
+        b"delay_p50",
+        b"delay_p95",
+        b"delay_p99",
+        b"delay_max",
+        b"rate",
+    ])
+}
+
+/// The rows of a queue's journal.
+fn queue_rows(table: &mut Table, queue: Queue, events: &[Event]) -> Result<(), Memory>
+    requires { length events.now ≤ MAX_EVENTS }
+    ensures { OnOk result (Tables.Adds table.old table.new (flow_lines queue events.now)) }
+{
+    let packets = Packets::of(table.allocator(), events)?;
+    known_rows(table, queue, &packets)
+}
+
+/// The rows of the five-tuples of packets, and that of all packets.
+fn known_rows(table: &mut Table, queue: Queue, packets: &Packets) -> Result<(), Memory>
+    requires { length packets.now.packets ≤ MAX_EVENTS }
+    ensures { OnOk result (Tables.Adds table.old table.new (known_lines queue packets.now)) }
+{
+    let span = span_of(packets.records());
+    let groups = grouped(table.allocator(), packets)?;
+    group_rows(table, queue, span, &groups)?;
+    all_row(table, queue, span, packets.records())
+}
+
+/// The rows of five-tuples.
+fn group_rows(table: &mut Table, queue: Queue, span: u64, groups: &[Group]) -> Result<(), Memory>
+    requires { All (λ g. length g.packets ≤ MAX_EVENTS) groups.now }
+    ensures { OnOk result (Tables.Adds table.old table.new (flat_map (group_line queue span) groups.now)) }
+{
+    for group in groups {
+        group_row(table, queue, span, group)?;
+    }
+    Ok(())
+}
+
+/// The time from the first arrival to the last fate, in microseconds.
+fn span_of(packets: &[PacketRecord]) -> u64
+    ensures { result ≡ span_of packets.now }
+{
+    let [first, ..] = packets else {
+        return 0;
+    };
+    let mut last = 0u64;
+    for packet in packets {
+        last = last.max(packet.last_moment());
+    }
+    last.saturating_sub(first.arrived)
+}
+
+/// The flow of the first packet.
+fn first_flow(packets: &[PacketRecord]) -> u32
+    ensures { result ≡ first_flow packets.now }
+{
+    match packets {
+        [first, ..] => first.flow,
+        [] => 0,
+    }
+}
+
+/// The digits of delays, and none where there are no delays.
+#[derive(Drop)]
+struct DelayDigits {
+    min: Digits,
+    mean: Digits,
+    p50: Digits,
+    p95: Digits,
+    p99: Digits,
+    max: Digits,
+}
+
+impl DelayDigits {
+    ghost use Rattle.link_report.specs.SummaryFields.{delays_listed};
+
+    /// The digits of delays.
+    fn of(delays: Option<Delays>) -> DelayDigits
+        ensures { delays_listed result ≡ delay_fields delays }
+    {
+        match delays {
+            Some(delays) => DelayDigits {
+                min: Digits::of(delays.min),
+                mean: Digits::of(delays.mean),
+                p50: Digits::of(delays.p50),
+                p95: Digits::of(delays.p95),
+                p99: Digits::of(delays.p99),
+                max: Digits::of(delays.max),
+            },
+            None => DelayDigits {
+                min: Digits::none(),
+                mean: Digits::none(),
+                p50: Digits::none(),
+                p95: Digits::none(),
+                p99: Digits::none(),
+                max: Digits::none(),
+            },
+        }
+    }
+}
+
+/// The digits of a summary.
+#[derive(Drop)]
+struct SummaryDigits {
+    packets: Digits,
+    bytes: Digits,
+    sent: Digits,
+    sent_bytes: Digits,
+    dropped_codel: Digits,
+    dropped_overflow: Digits,
+    marked: Digits,
+    delays: DelayDigits,
+    rate: Digits,
+}
+
+impl SummaryDigits {
+    ghost use Rattle.link_report.specs.SummaryFields.{listed};
+
+    /// The digits of a summary.
+    fn of(summary: &Summary) -> SummaryDigits
+        ensures { listed result ≡ summary_fields summary.now }
+    {
+        SummaryDigits {
+            packets: Digits::of(summary.packets),
+            bytes: Digits::of(summary.bytes),
+            sent: Digits::of(summary.sent),
+            sent_bytes: Digits::of(summary.sent_bytes),
+            dropped_codel: Digits::of(summary.dropped_codel),
+            dropped_overflow: Digits::of(summary.dropped_overflow),
+            marked: Digits::of(summary.marked),
+            delays: DelayDigits::of(summary.delays),
+            rate: Digits::of_any(summary.rate),
+        }
+    }
+}
+
+/// The row of a five-tuple.
+fn group_row(table: &mut Table, queue: Queue, span: u64, group: &Group) -> Result<(), Memory>
+    requires { length group.now.packets ≤ MAX_EVENTS }
+    ensures { OnOk result (Tables.Adds table.old table.new (group_line queue span group.now)) }
+{
+    let summary = summarize(table.allocator(), span, group.packets())?;
+    let digits = SummaryDigits::of(&summary);
+    let number = Digits::of(group.number());
+    let tuple = group.tuple();
+    let proto = Digits::of(u64::from(tuple.proto));
+    let src = table.address(tuple.src)?;
+    let dst = table.address(tuple.dst)?;
+    let sport = Digits::of(u64::from(tuple.sport));
+    let dport = Digits::of(u64::from(tuple.dport));
+    let flow = Digits::of(u64::from(first_flow(group.packets())));
+    table.row(&[
+        queue.name(),
+        number.as_bytes(),
+        proto.as_bytes(),
+        src.as_bytes(),
+        dst.as_bytes(),
+        sport.as_bytes(),
+        dport.as_bytes(),
+        flow.as_bytes(),
+        digits.packets.as_bytes(),
+        digits.bytes.as_bytes(),
+        digits.sent.as_bytes(),
+        digits.sent_bytes.as_bytes(),
+        digits.dropped_codel.as_bytes(),
+        digits.dropped_overflow.as_bytes(),
+        digits.marked.as_bytes(),
+        digits.delays.min.as_bytes(),
+        digits.delays.mean.as_bytes(),
+        digits.delays.p50.as_bytes(),
+        digits.delays.p95.as_bytes(),
+        digits.delays.p99.as_bytes(),
+        digits.delays.max.as_bytes(),
+        digits.rate.as_bytes(),
+    ])
+}
+
+/// The row of all packets.
+fn all_row(
+    table: &mut Table,
+    queue: Queue,
+    span: u64,
+    packets: &[PacketRecord],
+) -> Result<(), Memory>
+    requires { length packets.now ≤ MAX_EVENTS }
+    ensures { OnOk result (Tables.Adds table.old table.new (all_line queue span packets.now)) }
+{
+    let summary = summarize(table.allocator(), span, packets)?;
+    let digits = SummaryDigits::of(&summary);
+    table.row(&[
+        queue.name(),
+        b"all",
+        b"",
+        b"",
+        b"",
+        b"",
+        b"",
+        b"",
+        digits.packets.as_bytes(),
+        digits.bytes.as_bytes(),
+        digits.sent.as_bytes(),
+        digits.sent_bytes.as_bytes(),
+        digits.dropped_codel.as_bytes(),
+        digits.dropped_overflow.as_bytes(),
+        digits.marked.as_bytes(),
+        digits.delays.min.as_bytes(),
+        digits.delays.mean.as_bytes(),
+        digits.delays.p50.as_bytes(),
+        digits.delays.p95.as_bytes(),
+        digits.delays.p99.as_bytes(),
+        digits.delays.max.as_bytes(),
+        digits.rate.as_bytes(),
+    ])
+}

@@ -1,0 +1,23 @@
+//! What the tables of a link say, from its journal: a row for each packet, and a row for each five-tuple and one for all
+//! packets, with the delays of those that were sent.
+#![tactic(auto)]
+
+mod decimal;
+mod flows;
+mod groups;
+mod packet_rows;
+mod packets;
+mod percentiles;
+mod series;
+mod steps;
+mod summary;
+mod table;
+
+pub use flows::flows_text;
+pub use packet_rows::packets_text;
+pub use packets::{Fate, PacketRecord, Packets};
+pub use percentiles::percentile;
+pub use series::series_text;
+pub use steps::steps_text;
+pub use summary::{Delays, MAX_EVENTS, Summary, summarize};
+pub use table::Queue;

@@ -1,0 +1,261 @@
+//! The packets of a journal, and what became of each.
+
+ghost use Rattle.std.specs.Prelude.{◌≡◌, ◌<◌, ◌≤◌, ◌+◌, IfOk, OnOk, length};
+ghost use Rattle.link_report.specs.Packets.{delay_sent, is_codel_drop, is_marked, is_overflow_drop, is_sent, known_of, last_moment, sent_len, with_event, with_fate};
+
+use indexmap::IndexSet;
+use journal_core::{Cause, Event, Mark, Memory};
+use packet_core::{Ecn, FiveTuple, Packet};
+use std::alloc::Global;
+use std::marker::Model;
+
+/// What became of a packet. Moments are in microseconds.
+#[derive(Clone, Copy, Debug, PartialEq, Eq)]
+pub enum Fate {
+    /// It waits.
+    Waiting,
+    /// It was sent.
+    Sent {
+        /// The moment.
+        at: u64,
+        /// Its ECN field as sent.
+        ecn: Ecn,
+        /// What set that field.
+        mark: Mark,
+        /// Its place among the packets sent, from 0.
+        place: u64,
+    },
+    /// It was dropped.
+    Dropped {
+        /// The moment.
+        at: u64,
+        /// Why.
+        cause: Cause,
+    },
+}
+
+/// A packet that arrived, and what became of it.
+#[derive(Clone, Copy, Debug, PartialEq, Eq)]
+pub struct PacketRecord {
+    /// Its place in the order of arrival, from 0.
+    pub id: u64,
+    /// The number of its five-tuple: these are counted from 0, in the order of their first arrivals.
+    pub tuple: u64,
+    /// The flow that it went to.
+    pub flow: u32,
+    /// Its length, in bytes.
+    pub len: u16,
+    /// Its ECN field as it came.
+    pub ecn: Ecn,
+    /// The moment of its arrival, in microseconds.
+    pub arrived: u64,
+    /// What became of it.
+    pub fate: Fate,
+}
+
+impl PacketRecord {
+    /// How long it waited, in microseconds, if it was sent.
+    pub fn delay_sent(&self) -> Option<u64>
+        ensures { result ≡ delay_sent self.now }
+    {
+        match self.fate {
+            Fate::Sent { at, .. } => Some(at.saturating_sub(self.arrived)),
+            Fate::Waiting | Fate::Dropped { .. } => None,
+        }
+    }
+
+    /// Its length, if it was sent, and else 0.
+    pub fn sent_len(&self) -> u16
+        ensures { result ≡ sent_len self.now }
+    {
+        match self.fate {
+            Fate::Sent { .. } => self.len,
+            Fate::Waiting | Fate::Dropped { .. } => 0,
+        }
+    }
+
+    /// Whether it was sent.
+    pub fn is_sent(&self) -> bool
+        ensures { result ≡ is_sent self.now }
+    {
+        match self.fate {
+            Fate::Sent { .. } => true,
+            Fate::Waiting | Fate::Dropped { .. } => false,
+        }
+    }
+
+    /// Whether CoDel dropped it.
+    pub fn is_codel_drop(&self) -> bool
+        ensures { result ≡ is_codel_drop self.now }
+    {
+        match self.fate {
+            Fate::Dropped {
+                cause: Cause::Codel,
+                ..
+            } => true,
+            Fate::Waiting | Fate::Sent { .. } | Fate::Dropped { .. } => false,
+        }
+    }
+
+    /// Whether it overflowed.
+    pub fn is_overflow_drop(&self) -> bool
+        ensures { result ≡ is_overflow_drop self.now }
+    {
+        match self.fate {
+            Fate::Dropped {
+                cause: Cause::Overflow,
+                ..
+            } => true,
+            Fate::Waiting | Fate::Sent { .. } | Fate::Dropped { .. } => false,
+        }
+    }
+
+    /// Whether it was sent with a mark, of either kind.
+    pub fn is_marked(&self) -> bool
+        ensures { result ≡ is_marked self.now }
+    {
+        match self.fate {
+            Fate::Sent {
+                mark: Mark::CodelMark,
+                ..
+            } => true,
+            Fate::Sent {
+                mark: Mark::Threshold,
+                ..
+            } => true,
+            Fate::Waiting | Fate::Sent { .. } | Fate::Dropped { .. } => false,
+        }
+    }
+
+    /// The moment of its fate, and that of its arrival where it waits.
+    pub fn last_moment(&self) -> u64
+        ensures { result ≡ last_moment self.now }
+    {
+        match self.fate {
+            Fate::Waiting => self.arrived,
+            Fate::Sent { at, .. } | Fate::Dropped { at, .. } => at,
+        }
+    }
+}
+
+/// The packets of the events so far.
+#[derive(Drop)]
+pub struct Packets {
+    /// The five-tuples, in the order of their first arrivals.
+    tuples: IndexSet<FiveTuple>,
+    /// The packets, by their ids.
+    records: Vec<PacketRecord>,
+    /// How many were sent.
+    sent: u64,
+}
+
+impl Model for Packets {
+    ghost use Rattle.link_report.specs.Packets.{Known};
+
+    ghost Value = { Known };
+
+    ghost view = { λ p. record { tuples = p.tuples.keys; packets = p.records.items; sent = p.sent } };
+}
+
+impl Packets {
+    ghost use Rattle.link_report.specs.Packets.{arrived, nothing_known};
+
+    /// The packets of no event.
+    fn new(alloc: Global) -> Packets
+        ensures { result ≡ nothing_known }
+    {
+        Packets {
+            tuples: IndexSet::new(alloc),
+            records: Vec::new(alloc),
+            sent: 0,
+        }
+    }
+
+    /// The packets of a journal. It fails for want of memory alone.
+    pub fn of(alloc: Global, events: &[Event]) -> Result<Packets, Memory>
+        ensures { IfOk result (λ packets. packets ≡ known_of events.now) }
+    {
+        let mut packets = Packets::new(alloc);
+        for event in events {
+            packets.add(event)?;
+        }
+        Ok(packets)
+    }
+
+    /// Adds what an event says.
+    fn add(&mut self, event: &Event) -> Result<(), Memory>
+        requires { self.old.sent < u64.MAX }
+        ensures { OnOk result (self.new ≡ with_event self.old event.now) }
+    {
+        match *event {
+            Event::Accepted {
+                id,
+                moment,
+                flow,
+                packet,
+                ..
+            } => self.arrive(id, moment, flow, &packet)?,
+            Event::Sent {
+                id,
+                moment,
+                ecn,
+                mark,
+            } => {
+                let fate = Fate::Sent {
+                    at: moment,
+                    ecn,
+                    mark,
+                    place: self.sent,
+                };
+                set_fate(&mut self.records, id, fate);
+                self.sent += 1;
+            }
+            Event::Dropped { id, moment, cause } => {
+                let fate = Fate::Dropped { at: moment, cause };
+                set_fate(&mut self.records, id, fate);
+            }
+            Event::Closed { .. } => {}
+        }
+        Ok(())
+    }
+
+    /// Adds a packet that arrived.
+    fn arrive(&mut self, id: u64, moment: u64, flow: u32, packet: &Packet) -> Result<(), Memory>
+        ensures { OnOk result (self.new ≡ arrived self.old id moment flow packet.now) }
+    {
+        let (tuple, _) = self.tuples.insert_full(packet.tuple())?;
+        self.records.push(PacketRecord {
+            id,
+            tuple: tuple as u64,
+            flow,
+            len: packet.len() as u16,
+            ecn: packet.ecn(),
+            arrived: moment,
+            fate: Fate::Waiting,
+        })?;
+        Ok(())
+    }
+
+    /// The five-tuples, in the order of their first arrivals.
+    pub(crate) fn tuples(&self) -> &[FiveTuple]
+        ensures { result.now ≡ self.now.tuples }
+    {
+        self.tuples.as_slice()
+    }
+
+    /// The packets, by their ids.
+    pub fn records(&self) -> &[PacketRecord]
+        ensures { result.now ≡ self.now.packets }
+    {
+        &self.records
+    }
+}
+
+/// Sets the fate of the packet with that id, if there is one.
+fn set_fate(records: &mut Vec<PacketRecord>, id: u64, fate: Fate)
+    ensures { records.new.items ≡ with_fate records.old.items id fate }
+{
+    if id < records.len() as u64 {
+        records[id as usize].fate = fate;
+    }
+}
