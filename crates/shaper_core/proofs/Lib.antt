@@ -1,5 +1,0 @@
-pub mod SettledDrops
-pub mod RecentDrops
-pub mod DropCounts
-pub mod StepDrops
-pub mod ShaperSteps
