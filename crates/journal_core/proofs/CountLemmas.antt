@@ -9,7 +9,7 @@ use Rattle.journal_core.specs.declared.journal.Counts.{Counts}
 use Rattle.journal_core.specs.Books.{count_accepted, count_sent, count_dropped, count_drops}
 use Rattle.journal_core.proofs.Words.{count_by, AllByRecursion, filter_map, length-append, filter_map-append, sum_by-append, PacketParts, Waiting, Event, Accepted, Sent, Dropped, Closed, Acceptance, acceptance_of, fate_of, acceptances, fate_ids, named, AreCounts, sent_of, dropped_of, is_codel_drop, is_overflow_drop, is_marked, is_threshold_marked, length_of, length_named, bytes_named, drop_event}
 use Rattle.journal_core.proofs.EventLemmas.{filter_map_same, filter_map_push, sum_more}
-use Rattle.journal_core.proofs.FatelessPackets.{sum_fates}
+use Rattle.journal_core.proofs.FatelessPackets.{fate_parts, sum_fates}
 use Rattle.journal_core.proofs.FlowShares.{AreFound}
 use Rattle.journal_core.proofs.HistoryEvents.{bytes_stay}
 
@@ -62,18 +62,10 @@ counts_accept c events id moment lane flow packet found h =
     let e : Event = Accepted lane id moment flow packet in
     let a : Acceptance = record { id = id; moment = moment; lane = lane; flow = flow; packet = packet } in
     let accepted : acceptances (events ++ e ∷ []) ≡ acceptances events ++ a ∷ [] = filter_map_push acceptance_of events e a refl in
-    let parts = parts_of (λ i. (b : Acceptance) × (named (acceptances events) i ≡ Some b)) events found in
+    let parts = fate_parts (λ i. (b : Acceptance) × (named (acceptances events) i ≡ Some b)) events found in
     counts_push c (count_accepted c packet.len) events e h (search rules)
     (rw (accepted, filter_map_same sent_of events e refl) (bytes_stay (acceptances events) (a ∷ []) (filter_map sent_of events) parts.0))
     (rw (accepted, filter_map_same dropped_of events e refl) (bytes_stay (acceptances events) (a ∷ []) (filter_map dropped_of events) parts.1))
-  where
-    -- what holds of each fate's id holds of those sent, and of those dropped
-    parts_of : (P : ℕ → Type 0) (events : List Event) → AllByRecursion P (fate_ids events) → AllByRecursion P (filter_map sent_of events) × AllByRecursion P (filter_map dropped_of events)
-    parts_of P [] h = (tt, tt)
-    parts_of P (Accepted lane id moment flow packet ∷ events) h = parts_of P events h
-    parts_of P (Sent id moment ecn mark ∷ events) h = let rest = parts_of P events h.1 in ((h.0, rest.0), rest.1)
-    parts_of P (Dropped id moment cause ∷ events) h = let rest = parts_of P events h.1 in (rest.0, (h.0, rest.1))
-    parts_of P (Closed moment ∷ events) h = parts_of P events h
 
 -- a packet sent
 pub counts_send : (c : Counts) (events : List Event) (id moment : ℕ) (ecn : Ecn) (mark : Mark) (len : ℕ) → length_named (acceptances events) id ≡ len → AreCounts c events → AreCounts (count_sent c len mark) (events ++ Sent id moment ecn mark ∷ [])

@@ -1,7 +1,7 @@
 -- What has no fate and what has one make up what was accepted.
 use Rattle.std.proofs.Common.{◌≡◌, ◌≢◌, ℕ, ◌+◌, ◌≤◌, Bool, false, cond, not, List, [], ◌∷◌, filter, sum_by, Option, Some, None, sym, ap, ◌∙◌, refl, inl, inr, arith}
 use Rattle.std.specs.Option.{option_map_or}
-use Rattle.journal_core.proofs.Words.{count_by, filter_map, cases_Bool, cases_eq, eq-eqb, ne_eqb, recursion_from_All, sum_by-cons, Event, Accepted, Sent, Dropped, Closed, Acceptance, fate_ids, is_among, named, passes, AreDistinct, sent_of, dropped_of}
+use Rattle.journal_core.proofs.Words.{AllByRecursion, count_by, filter_map, cases_Bool, cases_eq, eq-eqb, ne_eqb, recursion_from_All, sum_by-cons, Event, Accepted, Sent, Dropped, Closed, Acceptance, fate_ids, is_among, named, passes, AreDistinct, sent_of, dropped_of}
 use Rattle.journal_core.proofs.ListLemmas.{ByRecursion-weaker}
 use Rattle.journal_core.proofs.IdLemmas.{Rises, Rises-above, is_among_none, named_none}
 
@@ -69,3 +69,11 @@ sum_fates g (Sent id moment ecn mark ∷ events) =
 sum_fates g (Dropped id moment cause ∷ events) =
     let ih = sum_fates g events in let one = sum_by-cons g id (fate_ids events) in let other = sum_by-cons g id (filter_map dropped_of events) in omega arith
 sum_fates g (Closed moment ∷ events) = sum_fates g events
+
+-- what holds of each fate's id holds of those sent, and of those dropped
+pub fate_parts : (P : ℕ → Type 0) (events : List Event) → AllByRecursion P (fate_ids events) → AllByRecursion P (filter_map sent_of events) × AllByRecursion P (filter_map dropped_of events)
+fate_parts P [] h = (tt, tt)
+fate_parts P (Accepted lane id moment flow packet ∷ events) h = fate_parts P events h
+fate_parts P (Sent id moment ecn mark ∷ events) h = let rest = fate_parts P events h.1 in ((h.0, rest.0), rest.1)
+fate_parts P (Dropped id moment cause ∷ events) h = let rest = fate_parts P events h.1 in (rest.0, (h.0, rest.1))
+fate_parts P (Closed moment ∷ events) h = fate_parts P events h

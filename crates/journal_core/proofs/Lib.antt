@@ -10,7 +10,9 @@ pub mod RefusalLemmas
 pub mod HistoryRuns
 pub mod CountLemmas
 pub mod KnownPackets
+pub mod LossLemmas
 pub mod WaitingPackets
+pub mod PacketsGivenBack
 pub mod RunLemmas
 pub mod StepTotals
 pub mod RunsWithoutRefused

@@ -8,15 +8,23 @@ use Rattle.journal_core.specs.declared.event.Event.{Event}
 use Rattle.journal_core.specs.declared.journal.Counts.{Counts}
 use Rattle.journal_core.specs.declared.journal.TheConstants.{MAX_EVENTS}
 
--- the journal as the scheduler sees it: the events, the counts that run along, and how many events more take no memory
+-- the journal as the scheduler sees it: the events, the packets that its keeper was told of as lost, the counts that run
+-- along, and how many events more take no memory
 pub record Book : Type 0 where
   pub events : List Event
+  pub lost : List Waiting
   pub counts : Counts
   pub room : ℕ
 
--- that of a keeper which was told those events and has so much room; there is no more than the most events leave
-abbrev pub book_of : List Event → Counts → ℕ → Book
-book_of events counts room = record { events = events; counts = counts; room = min room (MAX_EVENTS - length events) }
+-- that of a keeper which was told those events and those losses and has so much room; there is no more than the most
+-- events leave
+abbrev pub book_of : List Event → List Waiting → Counts → ℕ → Book
+book_of events lost counts room = record {
+  events = events;
+  lost = lost;
+  counts = counts;
+  room = min room (MAX_EVENTS - length events);
+}
 
 abbrev pub no_counts : Counts
 no_counts = record {
@@ -33,7 +41,16 @@ no_counts = record {
 
 -- one event more, and these counts
 abbrev pub with_event : Book → Event → Counts → Book
-with_event book event counts = record { events = book.events ++ event ∷ []; counts = counts; room = book.room - 1 }
+with_event book event counts = record {
+  events = book.events ++ event ∷ [];
+  lost = book.lost;
+  counts = counts;
+  room = book.room - 1;
+}
+
+-- the same, where that packet is lost
+abbrev pub with_loss : Book → Event → Counts → Waiting → Book
+with_loss book event counts w = record (with_event book event counts) { lost = book.lost ++ w ∷ [] }
 
 -- one packet of that length accepted
 abbrev pub count_accepted : Counts → ℕ → Counts

@@ -10,10 +10,11 @@ use Rattle.journal_core.specs.declared.event.Cause.{Cause}
 use Rattle.journal_core.specs.declared.event.Event.{Event}
 use Rattle.journal_core.specs.declared.journal.Counts.{Counts}
 
--- those packets dropped at that moment, one event for each, in order
+-- those packets dropped at that moment, one event and one loss for each, in order
 abbrev pub with_drops : Book → ℕ → Cause → List Waiting → Book
 with_drops book moment cause ws = record {
   events = book.events ++ map (drop_event moment cause) ws;
+  lost = book.lost ++ ws;
   counts = count_drops cause book.counts ws;
   room = book.room - length ws;
 }
@@ -30,7 +31,12 @@ pub record RecordsDrops (moment : ℕ) (cause : Cause) (old : MutBor Book) (ws :
 -- no drop
 pub drops_none : (book : Book) (moment : ℕ) (cause : Cause) → book ≡ with_drops book moment cause []
 drops_none book moment cause =
-    λ i. record { events = sym (append-nil book.events) i; counts = book.counts; room = sym (sub-zero book.room) i }
+    λ i. record {
+      events = sym (append-nil book.events) i;
+      lost = sym (append-nil book.lost) i;
+      counts = book.counts;
+      room = sym (sub-zero book.room) i;
+    }
 
 -- the counts of one more, behind others
 count_drops_push : (cause : Cause) (c : Counts) (ws : List Waiting) (w : Waiting)
@@ -48,7 +54,12 @@ drops_more book moment cause ws w =
     ∙ ap (λ (es : List Event). book.events ++ es) (sym (map-append tell ws (w ∷ []))) in
     let room : (book.room - length ws) - 1 ≡ book.room - length (ws ++ w ∷ []) =
     sym (sub-add-eq book.room (length ws) 1) ∙ ap (λ (n : ℕ). book.room - n) (sym (length_push ws w)) in
-    λ i. record { events = events i; counts = count_drops_push cause book.counts ws w i; room = room i }
+    λ i. record {
+      events = events i;
+      lost = append_assoc book.lost ws (w ∷ []) i;
+      counts = count_drops_push cause book.counts ws w i;
+      room = room i;
+    }
 
 -- none is taken
 pub records_none : (moment : ℕ) (cause : Cause) (a : MutBor Book) → RecordsDrops moment cause a [] moment cause a

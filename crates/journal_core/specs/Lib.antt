@@ -10,5 +10,6 @@ pub mod Tallies
 pub mod Books
 pub mod Keepers
 pub mod JournalDrops
+pub mod Losses
 pub mod Calls
 pub mod History

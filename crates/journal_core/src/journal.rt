@@ -50,22 +50,23 @@ impl<K: Keeps<Event>> Model for Journal<K> {
 
     ghost Value = { Book };
 
-    ghost view = { λ j. book_of (K.told j.keeper) j.counts (K.room j.keeper) };
+    ghost view = { λ j. book_of (K.told j.keeper) (K.lost j.keeper) j.counts (K.room j.keeper) };
 
     ghost invariant = { λ j. CountsFewEvents j.counts (K.told j.keeper) };
 }
 
 impl<K: Keeps<Event>> Journal<K> {
     ghost use Rattle.packet_core.specs.Packets.{IsLengthInRange};
-    ghost use Rattle.journal_core.specs.Books.{no_counts, with_event, count_accepted, count_sent, count_dropped};
+    ghost use Rattle.journal_core.specs.Books.{no_counts, with_event, with_loss, count_accepted, count_sent, count_dropped};
     ghost use Rattle.journal_core.specs.declared.event.Event.TheVariants.{Accepted, Closed};
     ghost use Rattle.journal_core.specs.declared.event.Event.TheVariants as event;
 
     /// A journal with no event, and room for `room` of them, which it tells to a keeper that was told none.
     pub fn try_over(mut keeper: K, room: usize) -> Result<Journal<K>, Memory>
         requires untold { K.told keeper ≡ [] }
+        requires no_loss { K.lost keeper ≡ [] }
         requires most { room ≤ MAX_EVENTS }
-        ensures { IfOk result (λ j. (j.events ≡ []) × (j.counts ≡ no_counts) × (room ≤ j.room)) }
+        ensures { IfOk result (λ j. (j.events ≡ []) × (j.lost ≡ []) × (j.counts ≡ no_counts) × (room ≤ j.room)) }
     {
         keeper.reserve(room)?;
         Ok(Journal {
@@ -88,12 +89,21 @@ impl<K: Keeps<Event>> Journal<K> {
     pub fn reserve(&mut self, room: usize) -> Result<(), Memory>
         requires { length self.old.events + room ≤ MAX_EVENTS }
         ensures events { self.new.events ≡ self.old.events }
+        ensures lost { self.new.lost ≡ self.old.lost }
         ensures counts { self.new.counts ≡ self.old.counts }
         ensures room { self.old.room ≤ self.new.room }
         ensures ok { OnOk result (room ≤ self.new.room) }
         ensures err { OnErr result (self.new ≡ self.old) }
     {
         self.keeper.reserve(room)
+    }
+
+    /// What it tells its events to.
+    pub fn keeper(&self) -> &K
+        ensures told { K.told result.now ≡ self.now.events }
+        ensures lost { K.lost result.now ≡ self.now.lost }
+    {
+        &self.keeper
     }
 
     /// The counts that run along.
@@ -143,23 +153,24 @@ impl<K: Keeps<Event>> Journal<K> {
         });
     }
 
-    /// A packet was dropped.
+    /// A packet was dropped. The keeper is told of it with the packet, as it waited.
     pub fn drop(&mut self, waiting: &Waiting, moment: u64, cause: Cause)
         requires { 0 < self.old.room }
-        ensures { self.new ≡ with_event self.old
+        ensures { self.new ≡ with_loss self.old
             (event.Dropped waiting.now.id moment cause)
-            (count_dropped self.old.counts waiting.now.packet.len cause) }
+            (count_dropped self.old.counts waiting.now.packet.len cause) waiting.now }
     {
         match cause {
             Cause::Codel => self.counts.dropped_codel += 1,
             Cause::Overflow => self.counts.dropped_overflow += 1,
         }
         self.counts.dropped_bytes += u64::from(waiting.packet.len());
-        self.keeper.tell(Event::Dropped {
+        let dropped = Event::Dropped {
             id: waiting.id,
             moment,
             cause,
-        });
+        };
+        self.keeper.tell_loss(dropped, waiting);
     }
 
     /// There was a close.
@@ -177,7 +188,7 @@ impl Journal<Stored> {
     /// A journal with no event, and room for `room` of them.
     pub fn try_new(alloc: Global, room: usize) -> Result<Journal, Memory>
         requires { room ≤ MAX_EVENTS }
-        ensures { IfOk result (λ j. (j.events ≡ []) × (j.counts ≡ no_counts) × (room ≤ j.room)) }
+        ensures { IfOk result (λ j. (j.events ≡ []) × (j.lost ≡ []) × (j.counts ≡ no_counts) × (room ≤ j.room)) }
     {
         Journal::try_over(Stored::new(alloc), room)
     }

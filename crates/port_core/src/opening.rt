@@ -128,6 +128,7 @@ pub fn lanes_with_keepers<J: BookName, R: Wait + Drop, K: Keeps<Event>, S: Keeps
     requires capacity { (0 < layout.capacity) × (layout.capacity ≤ MAX_CAPACITY) }
     requires monitors { layout.monitors ≤ MAX_MONITORS }
     requires events { K.told events ≡ [] }
+    requires no_loss { K.lost events ≡ [] }
     requires steps { S.told steps ≡ [] }
     ensures engine { IfOk result (λ o. o.device.engine ≡ new_engine params seed) }
     ensures lanes { IfOk result (λ o. AreNewLanes o.senders.items o.device.lanes layout.lanes) }

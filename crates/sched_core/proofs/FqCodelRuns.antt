@@ -17,12 +17,14 @@ use Rattle.fair_core.specs.FairQueues.{FairQueues, no_queues, queue_of}
 use Rattle.fair_core.specs.FqCodel.{fq_codel, fq_codel_policy}
 use Rattle.journal_core.specs.Happened.{acceptances, fate_ids, is_among, waiting_of, without_fate}
 use Rattle.journal_core.specs.JournalLaws.{JournalLaws, WaitWithoutFate}
+use Rattle.journal_core.specs.Losses.{AreGivenBackOnce, lost_packets}
 use Rattle.journal_core.specs.Runs.{Made, Runs, journal_of}
 use Rattle.journal_core.specs.State.{State, opening_state}
 use Rattle.journal_core.specs.Statistics.{statistics}
 use Rattle.fair_core.proofs.FairFifo.{fair_is_fifo}
 use Rattle.fair_core.proofs.FqCodelPolicy.{policy_drops}
 use Rattle.journal_core.proofs.HistoryRuns.{run_laws}
+use Rattle.journal_core.proofs.PacketsGivenBack.{given_back_once}
 use Rattle.journal_core.proofs.ListLemmas.{ByRecursion-filter, ByRecursion-weaker, length_as_sum, sum_by_agree_on, ByRecursion-all}
 use Rattle.fair_core.proofs.SoundFlows.{AreSoundFlows, opening_sound, runs_sound}
 use Rattle.journal_core.proofs.WaitingPackets.{by_queues}
@@ -62,3 +64,9 @@ module _ (p : ParamFields) (seed : Seed) (range : AreInRange p) where
 
   pub queued_bytes_are_waiting : (steps : List Step) (made : List Made) (new : State FairQueues) → Run p seed steps made new → (statistics (journal_of made)).queued_bytes ≡ sum_by bytes_of new.queues.lists.queues
   queued_bytes_are_waiting steps made new r = sym (waiting_sum (λ w. w.packet.len) steps made new r)
+
+  pub run_gives_back : (steps : List Step) (made : List Made) (new : State FairQueues) → Run p seed steps made new → AreGivenBackOnce new.queues.lists.queues (lost_packets (journal_of made)) (journal_of made)
+  run_gives_back steps made new r =
+      let held = fq_codel_laws p seed steps made new r in
+      let flows = (fq_codel_sound steps made new r).as_many in
+      given_back_once (fq_codel p seed).flow_of new.queues.lists.queues (journal_of made) (λ tuple. let low = flow_below p.classify p.flows seed tuple range.flows.0 in omega arith) held.0 held.1

@@ -34,6 +34,7 @@ use Rattle.fair_core.specs.FqCodel.{fq_codel, fq_codel_policy}
 use Rattle.journal_core.specs.Happened.{Acceptance, acceptance_of, acceptances, fate_ids, fate_of, is_among, without_fate}
 use Rattle.journal_core.specs.History.{AreCounts, IsHistory}
 use Rattle.journal_core.specs.JournalLaws.{JournalLaws, WaitWithoutFate}
+use Rattle.journal_core.specs.Losses.{AreGivenBackOnce, lost_packets}
 use Rattle.sched_core.specs.declared.sched.Sched.TheInside.{Inside}
 use Rattle.sched_core.specs.Kept.{IsBookKept, IsKept, closes_left, scheduler_of}
 use Rattle.fair_core.specs.Overflow.{Overflow}
@@ -50,9 +51,11 @@ use Rattle.sched_core.proofs.EventCounts.{number_of_events}
 use Rattle.journal_core.proofs.EventLemmas.{all_found}
 use Rattle.journal_core.proofs.HistoryEvents.{history_accepts}
 use Rattle.journal_core.proofs.HistoryRuns.{keeps_makes}
-use Rattle.journal_core.proofs.KnownPackets.{waiting_known}
+use Rattle.journal_core.proofs.KnownPackets.{IsKnown, known_length, waiting_known}
 use Rattle.journal_core.proofs.LawsOfHistory.{laws_of_history, waits_of_history}
-use Rattle.journal_core.proofs.ListLemmas.{ByRecursion-append, ByRecursion-parts, length_as_sum}
+use Rattle.journal_core.proofs.ListLemmas.{ByRecursion-append, ByRecursion-parts, ByRecursion-weaker, length_as_sum}
+use Rattle.journal_core.proofs.LossLemmas.{drops_accepted, losses_accept, losses_drops, losses_same}
+use Rattle.journal_core.proofs.PacketsGivenBack.{given_back_once}
 use Rattle.journal_core.proofs.RefusalLemmas.{close_open, dequeue_next, enqueue_open}
 use Rattle.journal_core.proofs.WaitingPackets.{by_queues}
 use Rattle.fair_core.proofs.ComparisonLemmas.{counts_on}
@@ -92,9 +95,13 @@ state_of held last closed = record { queues = held.queues; next_id = held.arrive
 abbrev standing_of : State FairQueues → Book → Standing FairQueues
 standing_of s book = record { state = s; events = book.events }
 
--- The journal names the packet, with its length.
+-- The journal names the packet, as it waits.
 abbrev IsNamed : List Event → Waiting → Type 0
-IsNamed events w = length_named (acceptances events) w.id ≡ w.packet.len
+IsNamed events w = IsKnown (acceptances events) w
+
+-- and then its length
+lengths_named : (events : List Event) (ws : List Waiting) → AllByRecursion (IsNamed events) ws → AllByRecursion (λ (w : Waiting). length_named (acceptances events) w.id ≡ w.packet.len) ws
+lengths_named events ws named = ByRecursion-weaker (IsNamed events) (λ (w : Waiting). length_named (acceptances events) w.id ≡ w.packet.len) ws (known_length (acceptances events)) named
 
 -- each drop is a fate, and so is what is sent
 all_fates : (moment : ℕ) (why : Cause) (ws : List Waiting) (given : Option Given) → let made = map (drop_event moment why) ws ++ sent_events moment given in
@@ -123,12 +130,13 @@ module _ (p : ParamFields) (seed : Seed) where
       (recursion_from_All Among (without_fate events) (All-filter (λ a. not (is_among (fate_ids events) a.id)) Among (acceptances events) among))
       ∙ sym (length_as_sum (without_fate events))
 
-  -- A step that is made, whose events took their room and are counted: each of them is a fate, the acceptance or the close.
+  -- A step that is made, whose events took their room and are counted, and whose losses were told: each event is a fate,
+  -- the acceptance or the close.
   kept_on : {old new : State FairQueues} {places places' spare spare' : ℕ} {book book' : Book} (step : Step) (said : Answer) → IsBookKept p seed old places book spare
-      → (a : Advances (fq_codel p seed) (standing_of old book) step said (standing_of new book')) → book'.room ≡ book.room - length a.made → AreCounts book'.counts book'.events
+      → (a : Advances (fq_codel p seed) (standing_of old book) step said (standing_of new book')) → book'.room ≡ book.room - length a.made → AreCounts book'.counts book'.events → book'.lost ≡ lost_packets book'.events
       → length a.made + old.next_id + closes_left new.closed ≡ length (fate_ids a.made) + new.next_id + closes_left old.closed → new.next_id ≤ 2 ^ 40 → new.last < 2 ^ 60
       → spare' ≤ places' → spare' + new.next_id ≡ spare + old.next_id → IsBookKept p seed new places' book' spare'
-  kept_on {old} {new} {places} {places'} {spare} {spare'} {book} {book'} step said h a taken counts each few soon reserved spares =
+  kept_on {old} {new} {places} {places'} {spare} {spare'} {book} {book'} step said h a taken counts lost each few soon reserved spares =
       let d = fq_codel p seed in
       let flows = makes_as_many (fq_codel_policy p) (policy_drops p) p.flows d.flow_of old new step said a.made a.makes ∙ h.flows in
       let history : IsHistory d.flow_of (queue_of new.queues) book'.events new.next_id new.last new.closed =
@@ -148,6 +156,7 @@ module _ (p : ParamFields) (seed : Seed) where
         few = few;
         soon = soon;
         history = history;
+        lost = lost;
         counts = counts;
         credits = makes_credits (fq_codel_policy p) (policy_drops p) (longest (acceptances book'.events)) p.flows d.flow_of old new step said a.made a.makes (fitting a) (credits_weaker p.quantum (longest (acceptances book.events)) (longest (acceptances book'.events)) old.queues (longer a) h.credits);
       }
@@ -166,7 +175,7 @@ module _ (p : ParamFields) (seed : Seed) where
       let open' = close_open s moment fits in
       let one : closes_left s.closed ≡ 1 = ap closes_left open'.open' in
       kept_on (Close moment) answer.Closed h (record { fits = fits; made = Closed moment ∷ []; makes = (refl, record { told = refl; state = refl }); journal = refl })
-      refl (counts_close book.counts book.events moment h.counts) (omega arith) h.few open'.next.soon h.reserved refl
+      refl (counts_close book.counts book.events moment h.counts) (h.lost ∙ sym (losses_same book.events (Closed moment) refl refl)) (omega arith) h.few open'.next.soon h.reserved refl
 
 -- one close at most is still to come
 one_close : (closed : Bool) → closes_left closed ≤ 1
@@ -189,6 +198,7 @@ kept_takes {closed = closed} m h =
       few = h.few;
       soon = h.soon;
       history = h.history;
+      lost = h.lost;
       counts = h.counts;
       credits = h.credits;
     }
@@ -265,7 +275,10 @@ module _ {p : ParamFields} {seed : Seed} {held mid new : Held} {book book' : Boo
       let h = a.kept in
       let found = all_found (acceptances book.events) held.arrived (fate_ids book.events) h.history.ids (recursion_from_All (λ id. id < held.arrived) (fate_ids book.events) h.history.known) in
       let first = counts_accept book.counts book.events held.arrived moment lane flow packet found h.counts in
-      let counts = counts_drops cause.Overflow moment _ _ lost named first in
+      let entered = recorded p seed held book moment lane packet in
+      let counts = counts_drops cause.Overflow moment _ _ lost (lengths_named entered.events lost named) first in
+      let told : entered.lost ++ lost ≡ lost_packets (with_drops entered moment cause.Overflow lost).events =
+      ap (λ l. l ++ lost) (h.lost ∙ sym (losses_accept book.events held.arrived moment lane flow packet found)) ∙ sym (losses_drops moment cause.Overflow entered.events lost named) in
       let left = ap (λ (b : Book). b.room) a.drops.journal in
       let each = length-map lost (drop_event moment cause.Overflow) in
       let room_is : new.room ≡ mid.room = ap (λ (x : Held). x.room) a.drops.rest in
@@ -273,7 +286,7 @@ module _ {p : ParamFields} {seed : Seed} {held mid new : Held} {book book' : Boo
       let open' = enqueue_open (state_of held last closed) moment lane packet a.fits in
       let drops = map (drop_event moment cause.Overflow) lost in
       let fates : length (fate_ids drops) ≡ length drops = rw append-nil at (all_fates moment cause.Overflow lost None) in
-      kept_on p seed (Enqueue moment lane packet) answer.Accepted h advances (omega arith) (rw a.drops.journal counts)
+      kept_on p seed (Enqueue moment lane packet) answer.Accepted h advances (omega arith) (rw a.drops.journal counts) (rw a.drops.journal told)
       (omega arith) (omega (arith, open'.1)) open'.0.next.soon (omega (arith, h.reserved, a.reserved)) (omega (arith, a.some))
 
   -- the comparisons since the arrival, and the events
@@ -321,14 +334,18 @@ served_counts book moment None named h = counts_drops cause.Codel moment book.co
 served_counts book moment (Some s) named h =
     let drops = map (drop_event moment cause.Codel) s.dropped in
     let parts = ByRecursion-parts (IsNamed book.events) s.dropped (s.given.waiting ∷ []) named in
-    let same : acceptances (book.events ++ drops) ≡ acceptances book.events =
-    filter_map-append acceptance_of book.events drops ∙ ap (λ l. acceptances book.events ++ l) (none s.dropped) ∙ append-nil (acceptances book.events) in
     counts_send (count_drops cause.Codel book.counts s.dropped) (book.events ++ drops) s.given.waiting.id moment (sent_ecn s.given.mark s.given.waiting.packet.ecn) s.given.mark s.given.waiting.packet.len
-    (rw same parts.1.0) (counts_drops cause.Codel moment book.counts book.events s.dropped parts.0 h)
-  where
-    none : (ws : List Waiting) → acceptances (map (drop_event moment cause.Codel) ws) ≡ []
-    none [] = refl
-    none (w ∷ ws) = none ws
+    (rw (drops_accepted moment cause.Codel book.events s.dropped) (known_length (acceptances book.events) s.given.waiting parts.1.0))
+    (counts_drops cause.Codel moment book.counts book.events s.dropped (lengths_named book.events s.dropped parts.0) h)
+
+-- and which is lost where it is dropped
+served_losses : (book : Book) (moment : ℕ) (service : Option Service) → AllByRecursion (IsNamed book.events) (packets_in service) → book.lost ≡ lost_packets book.events
+    → (served_book book moment service).lost ≡ lost_packets (served_book book moment service).events
+served_losses book moment None named h = ap (λ l. l ++ []) h ∙ sym (losses_drops moment cause.Codel book.events [] tt)
+served_losses book moment (Some s) named h =
+    let parts = ByRecursion-parts (IsNamed book.events) s.dropped (s.given.waiting ∷ []) named in
+    ap (λ l. l ++ s.dropped) h
+    ∙ sym (losses_same (book.events ++ map (drop_event moment cause.Codel) s.dropped) (Sent s.given.waiting.id moment (sent_ecn s.given.mark s.given.waiting.packet.ecn) s.given.mark) refl refl ∙ losses_drops moment cause.Codel book.events s.dropped parts.0)
 
 -- a packet that is given
 one_given : (served : Served) (service : Option Service) → Some served ≡ option_map shown_service service → length (given_packet (given_in service)) ≡ 1
@@ -369,7 +386,7 @@ module _ (p : ParamFields) (seed : Seed) where
       let waiting = waiting_known (fq_codel p seed).flow_of (queue_of held.queues) book.events held.arrived last closed h.history left.0 in
       let named = (ByRecursion-parts (IsNamed book.events) (packets_in (service_in s.turns)) (queue_of held'.queues left.0) (rw left.1 at waiting)).0 in
       kept_on p seed (Dequeue moment) (dequeue_answer (given_in (service_in s.turns))) h (record { fits = fits; made = served_events moment (service_in s.turns); makes = (given_in (service_in s.turns), refl, served s last closed arrived); journal = journal_is s })
-      (rw (book_is s) (served_room book moment (service_in s.turns))) (rw (book_is s) (served_counts book moment (service_in s.turns) named h.counts))
+      (rw (book_is s) (served_room book moment (service_in s.turns))) (rw (book_is s) (served_counts book moment (service_in s.turns) named h.counts)) (rw (book_is s) (served_losses book moment (service_in s.turns) named h.lost))
       (omega (arith, all_fates moment cause.Codel (dropped_in (service_in s.turns)) (given_in (service_in s.turns)))) (rw arrived h.few) (dequeue_next (state_of held last closed) moment fits).soon (rw same_room h.reserved) (ap (λ n. room + n) arrived)
 
   -- what is answered to a dequeue
@@ -446,3 +463,11 @@ pub seen_number : {K : Type 0} (s : Inside K) (v : Scheduler) → scheduler_of s
 seen_number s v e h = rw (← e) (
     omega (arith, number_of_events s.journal.events h.book.history.closed_for_good, h.book.counts.accepted, h.book.counts.fates, ap (λ b. bool_byte b) h.book.history.close)
     )
+
+pub seen_losses : {K : Type 0} (s : Inside K) (v : Scheduler) → scheduler_of s ≡ v → IsKept s → s.journal.lost ≡ lost_packets v.standing.events
+seen_losses s v e h = rw (← e) h.book.lost
+
+pub seen_once : {K : Type 0} (s : Inside K) (v : Scheduler) → scheduler_of s ≡ v → IsKept s → AreGivenBackOnce (flows_of v).lists.queues s.journal.lost v.standing.events
+seen_once s v e h =
+    rw (← e, h.book.lost)
+    (given_back_once (fq_codel s.params s.seed).flow_of s.backlog.queues.lists.queues s.journal.events (λ tuple. rw h.book.flows (flow_below s.params.classify s.params.flows s.seed tuple h.book.some)) (seen_laws s (scheduler_of s) refl h) (seen_waits s (scheduler_of s) refl h))

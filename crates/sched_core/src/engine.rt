@@ -39,6 +39,7 @@ impl<K: Keeps<Event>, S: Keeps<Step>> Engine<K, S> {
     ghost use Rattle.sched_core.specs.Engines.{WantsRoomFor, new_engine, room_behind};
     ghost use Rattle.fair_core.specs.FairQueues.{queue_of};
     ghost use Rattle.journal_core.specs.JournalLaws.{JournalLaws, WaitWithoutFate};
+    ghost use Rattle.journal_core.specs.Losses.{AreGivenBackOnce, lost_packets};
     ghost use Rattle.journal_core.specs.Runs.{IsRunOf, Takes, unless_refused};
     ghost use Rattle.sched_core.specs.Schedulers.{ComparesFew, IsAdvanced, IsServed, discipline_of, flows_of};
     ghost use Rattle.fair_core.specs.Shown.{flow_shown};
@@ -56,6 +57,7 @@ impl<K: Keeps<Event>, S: Keeps<Step>> Engine<K, S> {
         steps: S,
     ) -> Result<Engine<K, S>, Memory>
         requires events { K.told events ≡ [] }
+        requires no_loss { K.lost events ≡ [] }
         requires steps { S.told steps ≡ [] }
         ensures { IfOk result (λ e. e ≡ new_engine params seed) }
     {
@@ -204,6 +206,17 @@ impl<K: Keeps<Event>, S: Keeps<Step>> Engine<K, S> {
         ensures { IsRunOf (discipline_of self.now.sched) self.now.steps self.now.sched.standing }
     {
         let _ = &self.steps;
+    }
+
+    /// What it tells its events to. It was told of each drop with the packet that is lost, as that was accepted. So an
+    /// embedder gets each packet back once, with its tag, or it waits.
+    pub fn keeper(&self) -> &K
+        ensures told { K.told result.now ≡ self.now.sched.standing.events }
+        ensures lost { K.lost result.now ≡ lost_packets self.now.sched.standing.events }
+        ensures once { AreGivenBackOnce (flows_of self.now.sched).lists.queues
+            (K.lost result.now) self.now.sched.standing.events }
+    {
+        self.sched.keeper()
     }
 
     /// The laws of the journal at every moment, whether its events are stored or not.

@@ -1,7 +1,7 @@
 //! What holds of every run of FQ-CoDel, whatever its parameters and its seed, as contracts of functions that
 //! do nothing.
 
-ghost use Rattle.std.specs.Prelude.{◌≡◌, ℕ, ◌+◌, ◌-◌, ◌*◌, ◌/◌, ◌≤◌, ◌<◌, All, List, [], length, sum_by, take, ℤ};
+ghost use Rattle.std.specs.Prelude.{◌≡◌, ℕ, ◌+◌, ◌-◌, ◌*◌, ◌/◌, ◌≤◌, ◌<◌, All, List, [], Some, length, sum_by, take, ℤ};
 ghost use Rattle.std.specs.Bool.{Decides};
 ghost use Rattle.packet_core.specs.Packets.{same_tuple};
 ghost use Rattle.packet_core.specs.Params.{AreInRange};
@@ -15,10 +15,13 @@ ghost use Rattle.fair_core.specs.FairQueues.{AreSound, FairQueues, no_queues, qu
 ghost use Rattle.fair_core.specs.FqCodel.{fq_codel, fq_codel_policy};
 ghost use Rattle.journal_core.specs.Happened.{Acceptance, acceptances};
 ghost use Rattle.journal_core.specs.JournalLaws.{JournalLaws, WaitWithoutFate};
+ghost use Rattle.journal_core.specs.Losses.{AreGivenBackOnce, IsOfAccepted, lost_packets};
+ghost use Rattle.journal_core.specs.declared.step.Sent.{Sent};
 ghost use Rattle.fair_core.specs.NewFlows.{IsFirstReady, SendsFrom};
 ghost use Rattle.journal_core.specs.Runs.{HasLengthInRange, Made, Runs, given_by_made, journal_of, steps_made};
 ghost use Rattle.journal_core.specs.State.{State, opening_state};
 ghost use Rattle.journal_core.specs.Statistics.{statistics};
+ghost use Rattle.sched_core.specs.Schedulers.{IsServed, Scheduler, discipline_of, flows_of};
 ghost use Rattle.sched_core.specs.Shares.{SharesFairly, longest};
 ghost use Rattle.sched_core.specs.Starvation.{WaitsAt, dequeues_between, fates_between};
 ghost use Rattle.fair_core.specs.TurnBound.{AreQuantaOwed, quanta_owed, turns_at_most};
@@ -126,6 +129,21 @@ pub fn journal_tells_what_waits()
         → (steps : List Step) (made : List Made) (new : State FairQueues)
         → Runs (fq_codel p seed) (opening_state (no_queues p.flows)) steps made new
         → (statistics (journal_of made)).queued_bytes ≡ sum_by bytes_of new.queues.lists.queues }
+{}
+
+/// Each packet that was handed in is given back once, with its tag, or waits: the accepted packets are, in another order,
+/// those that were sent, those that were lost and those in the flows' queues. A keeper is told of the lost ones
+/// (`Sched::keeper`). What a dequeue answers is the packet that was accepted under its id, but for the ECN field, which
+/// follows from its mark.
+pub fn packets_are_given_back()
+    ensures once { (p : ParamFields) (seed : Seed) → AreInRange p
+        → (steps : List Step) (made : List Made) (new : State FairQueues)
+        → Runs (fq_codel p seed) (opening_state (no_queues p.flows)) steps made new
+        → AreGivenBackOnce new.queues.lists.queues (lost_packets (journal_of made)) (journal_of made) }
+    ensures sent { (old new : Scheduler) (moment : ℕ) (sent : Sent)
+        → JournalLaws (discipline_of old).flow_of old.standing.events
+        → WaitWithoutFate (queue_of (flows_of old)) old.standing.events
+        → IsServed old moment (Some sent) new → IsOfAccepted old.standing.events sent }
 {}
 
 /// Fair shares: of two flows that stand in the list of old flows at each point from a to b, neither sends more bytes

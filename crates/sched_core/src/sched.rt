@@ -83,6 +83,7 @@ impl<K: Keeps<Event>> Sched<K> {
     ghost use Rattle.journal_core.specs.Calls.{admitted_at, close_refusal};
     ghost use Rattle.fair_core.specs.FairQueues.{queue_of};
     ghost use Rattle.journal_core.specs.JournalLaws.{JournalLaws, WaitWithoutFate};
+    ghost use Rattle.journal_core.specs.Losses.{AreGivenBackOnce, lost_packets};
     ghost use Rattle.journal_core.specs.Runs.{Takes};
     ghost use Rattle.sched_core.specs.Schedulers.{ComparesFew, IsAdvanced, IsServed, discipline_of, flows_of, new_scheduler};
     ghost use Rattle.fair_core.specs.Shown.{flow_shown};
@@ -98,7 +99,8 @@ impl<K: Keeps<Event>> Sched<K> {
         seed: Seed,
         keeper: K,
     ) -> Result<Sched<K>, Memory>
-        requires { K.told keeper ≡ [] }
+        requires untold { K.told keeper ≡ [] }
+        requires no_loss { K.lost keeper ≡ [] }
         ensures { IfOk result (λ s. s ≡ new_scheduler params seed) }
     {
         let classifier = Classifier::try_new(alloc, &params, seed)?;
@@ -346,6 +348,18 @@ impl<K: Keeps<Event>> Sched<K> {
         ensures { result ≡ flow_shown (flows_of self.now) flow }
     {
         self.backlog.view(flow)
+    }
+
+    /// What it tells its events to. It was told of each drop with the packet that is lost, as that was accepted. So an
+    /// embedder gets each packet back once, with its tag, or it waits: the packets that were accepted are, in another
+    /// order, those that were sent, those that the keeper was told of as lost and those in the flows' queues.
+    #[tactic(auto, using(crate::proofs::KeptScheduler::seen_losses))]
+    pub fn keeper(&self) -> &K
+        ensures told { K.told result.now ≡ self.now.standing.events }
+        ensures lost { K.lost result.now ≡ lost_packets self.now.standing.events }
+        ensures once { AreGivenBackOnce (flows_of self.now).lists.queues (K.lost result.now) self.now.standing.events }
+    {
+        self.journal.keeper()
     }
 
     /// The laws of the journal at every moment, whether its events are stored or not.

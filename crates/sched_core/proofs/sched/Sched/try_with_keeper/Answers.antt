@@ -46,6 +46,7 @@ invariant_of-result g c =
         few = search rules;
         soon = search rules;
         history = rw (held.0, held.1, book.0) (no_history _ c.flows.result);
+        lost = rw (book.0, book.1) refl;
         counts = search rules;
         credits = rw (held.0, book.0) (opening_credits _ 1 c.flows.result (omega arith));
       };

@@ -1,0 +1,5 @@
+pub mod SettledDrops
+pub mod RecentDrops
+pub mod DropCounts
+pub mod StepDrops
+pub mod ShaperSteps

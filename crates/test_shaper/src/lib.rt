@@ -1,0 +1,10 @@
+//! Tests of shapers: each tag comes back once, drops wait to be read, and why an enqueue is refused. What is expected was
+//! worked out by hand from the rules.
+#![tactic(auto)]
+
+#[cfg(test)]
+mod buffers;
+#[cfg(test)]
+mod refusals;
+#[cfg(test)]
+mod shapers;

@@ -1,0 +1,74 @@
+//! Why an enqueue is refused, and drops that wait to be read.
+
+use crate::shapers::{packet, shaper};
+use sched_core::{Cause, CloseFault, MomentFault, Refusal};
+use shaper_core::{Dropped, EnqueueFault, Enqueued, Shaper};
+use std::process::Abort;
+
+/// What a packet to the destination port 1 with that tag is answered at that moment.
+fn come<R: Abort>(
+    rt: &R,
+    shaper: &mut Shaper,
+    moment: u64,
+    tag: u64,
+) -> Result<Enqueued, EnqueueFault> {
+    shaper.enqueue(moment, packet(rt, 1, tag))
+}
+
+/// An enqueue with that id, which dropped so many packets.
+fn enqueued(id: u64, drops: u64) -> Result<Enqueued, EnqueueFault> {
+    Ok(Enqueued { id, flow: 1, drops })
+}
+
+/// The refusal of a moment before 5.
+fn backwards() -> EnqueueFault {
+    EnqueueFault::Refused(Refusal::Moment(MomentFault::Backwards { last: 5 }))
+}
+
+/// One packet may wait: the second that comes drops the first.
+fn overflow<R: Abort>(rt: &R, shaper: &mut Shaper) {
+    assert!(rt; come(rt, shaper, 3, 70) == enqueued(0, 0));
+    assert!(rt; come(rt, shaper, 5, 71) == enqueued(1, 1));
+}
+
+/// While a drop wasn't read no packet is accepted, and packets are sent all the same.
+fn waits_for_reader<R: Abort>(rt: &R, shaper: &mut Shaper) {
+    overflow(rt, shaper);
+    assert!(rt; come(rt, shaper, 5, 72) == Err(EnqueueFault::Unread));
+    let dequeued = shaper.dequeue(6).ok().expect(rt, "a dequeue");
+    let sent = dequeued.sent.expect(rt, "a packet");
+    assert!(rt; sent.id == 1 && sent.packet.tag() == 71 && dequeued.drops == 0);
+    assert!(rt; come(rt, shaper, 6, 72) == Err(EnqueueFault::Unread));
+    let overflowed = Dropped {
+        tag: 70,
+        id: 0,
+        cause: Cause::Overflow,
+    };
+    assert!(rt; shaper.next_drop() == Some(overflowed));
+    assert!(rt; shaper.next_drop().is_none());
+    assert!(rt; come(rt, shaper, 6, 72) == enqueued(2, 0));
+}
+
+#[test]
+fn unread_drops_keep_packets_out(rt: HostRuntime) {
+    let mut shaper = shaper(&rt, 1);
+    waits_for_reader(&rt, &mut shaper);
+}
+
+/// A drop that wasn't read is told before a bad moment, that before the close, and the close last.
+fn tests_in_order<R: Abort>(rt: &R, shaper: &mut Shaper) {
+    overflow(rt, shaper);
+    assert!(rt; shaper.close(5) == Ok(()));
+    assert!(rt; shaper.close(5) == Err(CloseFault::ClosedAlready));
+    assert!(rt; come(rt, shaper, 4, 72) == Err(EnqueueFault::Unread));
+    assert!(rt; shaper.next_drop().is_some());
+    assert!(rt; come(rt, shaper, 4, 72) == Err(backwards()));
+    assert!(rt; come(rt, shaper, 5, 72) == Err(EnqueueFault::Refused(Refusal::ClosedAlready)));
+    assert!(rt; shaper.is_closed() && shaper.queued() == 1 && shaper.last_moment() == 5);
+}
+
+#[test]
+fn refusals_in_order(rt: HostRuntime) {
+    let mut shaper = shaper(&rt, 1);
+    tests_in_order(&rt, &mut shaper);
+}

@@ -1,0 +1,23 @@
+//! The shapers and the packets of the tests.
+
+use packet_core::{Ecn, EcnUse, Packet, Params};
+use shaper_core::Shaper;
+use std::process::Abort;
+use test_support::{SEED, by_port, tuple};
+
+/// A shaper with four flows by the destination port, without marks, in which so many packets may wait. More of them
+/// are dropped one by one.
+pub(crate) fn shaper(rt: &(impl Abort + AllocGlobal), limit: u32) -> Shaper {
+    let mut fields = by_port(4);
+    fields.ecn = EcnUse::Drop;
+    fields.limit = limit;
+    fields.drop_batch = 1;
+    let params = Params::try_new(fields).ok().expect(rt, "parameters");
+    Shaper::open(rt.alloc(), params, SEED).expect(rt, "a shaper")
+}
+
+/// A packet of 1,000 bytes to that destination port, with that tag.
+pub(crate) fn packet<R: Abort>(rt: &R, dport: u16, tag: u64) -> Packet {
+    let packet = Packet::try_new(tuple(dport), 1_000, Ecn::NotEct);
+    packet.expect(rt, "a packet").with_tag(tag)
+}
