@@ -1,6 +1,7 @@
 //! The rounds of a workload, which are what is timed.
 //!
-//! What a round has beside the device's calls is merged into its loop: a packet is lent, and copied once, into the call.
+//! What a round has beside the device's calls is merged into its loop: a packet is lent, and copied once, into the
+//! call.
 
 ghost use Rattle.std.specs.Prelude.{◌≡◌, ◌+◌, ◌<◌, [], IfSome, IsNone, if◌then◌else◌, length, nat_lt, slice_get};
 

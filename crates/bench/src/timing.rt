@@ -193,7 +193,8 @@ fn run_with_keeper<R: AllocGlobal + Clock, K: Keeps<Event>>(
     workload: &Workload,
     keeper: K,
 ) -> Result<Timed, Fault>
-    requires { K.told keeper ≡ [] }
+    requires untold { K.told keeper ≡ [] }
+    requires no_loss { K.lost keeper ≡ [] }
 {
     let mut sched = Sched::try_with_keeper(rt.alloc(), params_of(workload)?, SEED, keeper)?;
     run_through(rt, workload, &mut sched)

@@ -1,4 +1,5 @@
-//! CoDel's judgements for a line that shows its head: each packet is judged where it stands, and taken out by a drop alone.
+//! CoDel's judgements for a line that shows its head: each packet is judged where it stands, and only a drop takes it
+//! out.
 
 ghost use Rattle.std.specs.Prelude.{◌≡◌, ◌+◌, ◌^◌, ◌<◌, ◌≤◌, ◌↔◌, [], length, slice_get, IsNone, IsTrue, Some};
 ghost use Rattle.packet_core.specs.Params.{IsIntervalInRange};

@@ -110,7 +110,8 @@ pub fn parse<'a>(alloc: Global, words: &'a [&'a str]) -> Result<Request<'a>, Com
         → AsksForHelp (map (λ w. w.now) words.entry.now)) }
     ensures mistake { IfErr result (λ fault. (text : _) → fault ≡ CommandFault.Mistake text
         → IsMistake (map (λ w. w.now) words.entry.now)) }
-    ensures shown { IfErr result (λ fault. (text : _) → fault ≡ CommandFault.Mistake text → IsShown (string_bytes text)) }
+    ensures shown { IfErr result (λ fault. (text : _) → fault ≡ CommandFault.Mistake text
+        → IsShown (string_bytes text)) }
 {
     let command = program_command(alloc)?;
     match command.try_get_matches_from(words) {
@@ -128,7 +129,8 @@ fn without_matches<'a>(alloc: Global, error: Error) -> Result<Request<'a>, Comma
         → kind_of error ≡ ErrorKind.DisplayHelp) }
     ensures mistake { IfErr result (λ fault. (text : _) → fault ≡ CommandFault.Mistake text
         → (kind_of error ≢ ErrorKind.DisplayHelp) × (kind_of error ≢ ErrorKind.OutOfMemory)) }
-    ensures shown { IfErr result (λ fault. (text : _) → fault ≡ CommandFault.Mistake text → IsShown (string_bytes text)) }
+    ensures shown { IfErr result (λ fault. (text : _) → fault ≡ CommandFault.Mistake text
+        → IsShown (string_bytes text)) }
 {
     match error.kind() {
         ErrorKind::OutOfMemory => Err(CommandFault::Memory),

@@ -232,7 +232,7 @@ impl Backlog {
 
     /// A chain of turns, up to the first one that serves a flow, or to where both lists are empty (RFC 8290,
     /// section 4.2). What CoDel drops goes to the journal.
-    // Merged into a dequeue, as the turn that serves a flow is, so that the packet served is copied out of its slot once.
+    // Merged into a dequeue, as the turn that serves a flow is: the packet served is then copied out of its slot once.
     #[inline(always)]
     pub fn serve<K: Keeps<Event>>(
         &mut self,

@@ -8,8 +8,8 @@ use Rattle.journal_core.specs.declared.event.Event.{Event}
 use Rattle.journal_core.specs.declared.journal.Counts.{Counts}
 use Rattle.journal_core.specs.declared.journal.TheConstants.{MAX_EVENTS}
 
--- the journal as the scheduler sees it: the events, the packets that its keeper was told of as lost, the counts that run
--- along, and how many events more take no memory
+-- the journal as the scheduler sees it: the events, the packets that its keeper was told of as lost, the counts that
+-- run along, and how many events more take no memory
 pub record Book : Type 0 where
   pub events : List Event
   pub lost : List Waiting

@@ -1,5 +1,5 @@
--- What the keepers show: all that they were told, the packets that they were told of as lost, and how many more they can
--- be told before they must reserve.
+-- What the keepers show: all that they were told, the packets that they were told of as lost, and how many more they
+-- can be told before they must reserve.
 use Rattle.std.specs.Prelude.{ℕ, ◌-◌, List, vec_capacity, vec_len}
 use Rattle.packet_core.specs.declared.packet.Waiting.{Waiting}
 use Rattle.journal_core.specs.declared.keeper.Stored.{Stored}

@@ -33,8 +33,8 @@ ecn_in code = if code == 0 then NotEct else (if code == 1 then Ect1 else (if cod
 abbrev pub kind_bit : Ip → ℕ
 kind_bit address = if is_ipv6 address then 1 else 0
 
--- From the low bits up: the destination port 16, the length 16, the source port 16, the protocol 8, the ECN field 2, and
--- one for the kind of each address, the source first.
+-- From the low bits up: the destination port 16, the length 16, the source port 16, the protocol 8, the ECN field 2,
+-- and one for the kind of each address, the source first.
 unfoldable pub fields_word : PacketParts → ℕ
 fields_word p =
     let kinds = kind_bit p.tuple.dst * 2 + kind_bit p.tuple.src in

@@ -131,8 +131,8 @@ pub fn journal_tells_what_waits()
         → (statistics (journal_of made)).queued_bytes ≡ sum_by bytes_of new.queues.lists.queues }
 {}
 
-/// Each packet that was handed in is given back once, with its tag, or waits: the accepted packets are, in another order,
-/// those that were sent, those that were lost and those in the flows' queues. A keeper is told of the lost ones
+/// Each packet that was handed in is given back once, with its tag, or waits: the accepted packets are, in another
+/// order, those that were sent, those that were lost and those in the flows' queues. A keeper is told of the lost ones
 /// (`Sched::keeper`). What a dequeue answers is the packet that was accepted under its id, but for the ECN field, which
 /// follows from its mark.
 pub fn packets_are_given_back()

@@ -200,8 +200,8 @@ impl<K: Keeps<Event>> Sched<K> {
     /// section 4.2). CoDel may drop packets before it, or mark it (RFC 8289, section 5), and one that CoDel doesn't
     /// mark may be marked for the threshold (RFC 8290, section 5.2.7). It takes no memory. It refuses a moment of
     /// 2^60 or more or before the last one.
-    // Merged into its callers, as all that most packets pass through is: the packet is then copied once, from its slot to
-    // where the caller wants it, and only the parts that the caller reads.
+    // Merged into its callers, as all that most packets pass through is: the packet is then copied once, from its slot
+    // to where the caller wants it, and only the parts that the caller reads.
     #[inline(always)]
     pub fn dequeue(&mut self, moment: u64) -> Result<Option<Sent>, MomentFault>
         ensures made { IfOk result (λ sent. IsServed self.old moment sent self.new) }

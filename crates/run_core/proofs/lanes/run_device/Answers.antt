@@ -58,3 +58,8 @@ pub returns-in_err-publish-clause-fault : goal.returns-in_err-publish-clause-fau
 returns-in_err-publish-clause-fault g c =
     let p = err_from_is_err_and c.from_residual-in_err-publish.result c.from_residual-in_err-publish.ensures.1 in
     rw (p.1, p.2) (inl refl)
+
+pub returns-in_err-rows-clause-fault : goal.returns-in_err-rows-clause-fault
+returns-in_err-rows-clause-fault g c =
+    let p = err_from_is_err_and c.from_residual-in_err-rows.result c.from_residual-in_err-rows.ensures.1 in
+    rw (p.1, p.2) (subst (λ n. IfErr c.ended.result (IsLanesRunFault n)) (c.in_ok-done.ensures.number ∙ c.requires.lanes.senders_number) c.ended.ensures.fault)
