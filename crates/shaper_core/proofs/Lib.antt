@@ -3,3 +3,4 @@ pub mod RecentDrops
 pub mod DropCounts
 pub mod StepDrops
 pub mod ShaperSteps
+pub mod Readings

@@ -1,5 +1,5 @@
 -- A shaper as its caller sees it, and what its calls do.
-use Rattle.std.specs.Prelude.{◌≡◌, ℕ, ◌+◌, ◌-◌, ◌≤◌, List, ◌++◌, length, take, drop}
+use Rattle.std.specs.Prelude.{◌≡◌, ℕ, ◌+◌, ◌-◌, ◌<◌, ◌≤◌, List, ◌++◌, length, take, drop, slice_index_or}
 use Rattle.std.specs.List.{flat_map}
 use Rattle.std.specs.List.Sorted.{IsPermutation}
 use Rattle.packet_core.specs.Packets.{PacketParts}
@@ -59,6 +59,12 @@ pub record IsDequeued (old : Shaping) (moment : ℕ) (said : Dequeued) (new : Sh
 pub record IsRead (old : Shaping) (d : Dropped) (new : Shaping) : Type 0 where
   pub drop : IsDropAt (events_of old) (lost_of old) (read_of old) d
   pub unread : old.unread ≡ new.unread + 1
+  pub sched : new.sched ≡ old.sched
+
+-- These are the first of the drops that weren't read, in their order, and they are read.
+pub record AreRead (old : Shaping) (drops : List Dropped) (new : Shaping) : Type 0 where
+  pub each : (k : ℕ) (d : Dropped) → k < length drops → IsDropAt (events_of old) (lost_of old) (read_of old + k) (slice_index_or drops k d)
+  pub unread : old.unread ≡ new.unread + length drops
   pub sched : new.sched ≡ old.sched
 
 -- The accepted packets are, in another order, those that were sent, those whose drops were read, those whose drops

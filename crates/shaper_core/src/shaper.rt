@@ -1,6 +1,6 @@
 //! The scheduler of an embedder.
 
-ghost use Rattle.std.specs.Prelude.{◌≡◌, ◌≢◌, ◌+◌, ◌<◌, ◌↔◌, IfErr, IfOk, IfSome, IsNone, MatchOption, OnErr, OnOk, Some, Err, length};
+ghost use Rattle.std.specs.Prelude.{◌≡◌, ◌≢◌, ◌+◌, ◌<◌, ◌↔◌, IfErr, IfOk, IfSome, IsNone, OnErr, OnOk, Some, Err, drop, length, min, take};
 ghost use Rattle.journal_core.specs.Calls.{close_refusal};
 ghost use Rattle.journal_core.specs.Losses.{IsOfAccepted, lost_packets};
 ghost use Rattle.journal_core.specs.State.{IsRefusal, refusal_of};
@@ -61,7 +61,7 @@ fn count_drops(sched: &Sched<Drops>) -> u64
 
 impl Shaper {
     ghost use Rattle.shaper_core.specs.Faults.{IsFault};
-    ghost use Rattle.shaper_core.specs.Shapers.{AreGivenBack, IsDequeued, IsEnqueued, IsRead, events_of, new_shaper};
+    ghost use Rattle.shaper_core.specs.Shapers.{AreGivenBack, AreRead, IsDequeued, IsEnqueued, IsRead, events_of, new_shaper};
 
     /// A scheduler before its first step. It takes the memory for `limit` packets and one more here.
     pub fn open(alloc: Global, params: Params, seed: Seed) -> Result<Shaper, Memory>
@@ -127,10 +127,33 @@ impl Shaper {
         if self.unread == 0 {
             return None;
         }
+        Some(self.read_drop())
+    }
+
+    /// The same where there is such a drop.
+    fn read_drop(&mut self) -> Dropped
+        requires { 0 < self.old.unread }
+        ensures { IsRead self.old result self.new }
+    {
         drops_have_causes(&self.sched);
         let dropped = self.sched.keeper().dropped(self.unread as usize);
         self.unread -= 1;
-        Some(dropped)
+        dropped
+    }
+
+    /// Gives the drops that weren't read yet, as many as fit, in the order of the drops: they stand from the front of
+    /// `out`, whose rest stays as it was. It answers how many they are. It takes no memory. Drops that don't fit stay to
+    /// be read.
+    pub fn drops(&mut self, out: &mut [Dropped]) -> usize
+        ensures many { result ≡ min (length out.old) self.old.unread }
+        ensures read { AreRead self.old (take result out.new) self.new }
+        ensures rest { drop result out.new ≡ drop result out.old }
+    {
+        let many = out.len().min(self.unread as usize);
+        for place in 0..many {
+            out[place] = self.read_drop();
+        }
+        many
     }
 
     /// How many drops weren't read yet.

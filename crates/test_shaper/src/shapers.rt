@@ -8,10 +8,15 @@ use test_support::{SEED, by_port, tuple};
 /// A shaper with four flows by the destination port, without marks, in which so many packets may wait. More of them
 /// are dropped one by one.
 pub(crate) fn shaper(rt: &(impl Abort + AllocGlobal), limit: u32) -> Shaper {
+    shaper_of(rt, limit, 1)
+}
+
+/// The same, but more of them are dropped so many at once at most.
+pub(crate) fn shaper_of(rt: &(impl Abort + AllocGlobal), limit: u32, batch: u32) -> Shaper {
     let mut fields = by_port(4);
     fields.ecn = EcnUse::Drop;
     fields.limit = limit;
-    fields.drop_batch = 1;
+    fields.drop_batch = batch;
     let params = Params::try_new(fields).ok().expect(rt, "parameters");
     Shaper::open(rt.alloc(), params, SEED).expect(rt, "a shaper")
 }
