@@ -1,6 +1,6 @@
 //! The scheduler of an embedder.
 
-ghost use Rattle.std.specs.Prelude.{◌≡◌, ◌≢◌, ◌+◌, ◌<◌, ◌↔◌, IfErr, IfOk, IfSome, IsNone, OnErr, OnOk, Some, Err, drop, length, min, take};
+ghost use Rattle.std.specs.Prelude.{◌≡◌, ◌≢◌, ◌+◌, ◌<◌, ◌≤◌, ◌↔◌, IfErr, IfOk, IfSome, IsNone, OnErr, OnOk, Some, Err, drop, length, min, take};
 ghost use Rattle.journal_core.specs.Calls.{close_refusal};
 ghost use Rattle.journal_core.specs.Losses.{IsOfAccepted, lost_packets};
 ghost use Rattle.journal_core.specs.State.{IsRefusal, refusal_of};
@@ -149,7 +149,7 @@ impl Shaper {
         ensures read { AreRead self.old (take result out.new) self.new }
         ensures rest { drop result out.new ≡ drop result out.old }
     {
-        let many = out.len().min(self.unread as usize);
+        let many = out.len().min(self.unread() as usize);
         for place in 0..many {
             out[place] = self.read_drop();
         }
@@ -158,8 +158,10 @@ impl Shaper {
 
     /// How many drops weren't read yet.
     pub fn unread(&self) -> u64
-        ensures { result ≡ self.now.unread }
+        ensures value { result ≡ self.now.unread }
+        ensures lost { result ≤ length (lost_packets (events_of self.now)) }
     {
+        drops_have_causes(&self.sched);
         self.unread
     }
 
