@@ -13,12 +13,27 @@ pub(crate) fn shaper(rt: &(impl Abort + AllocGlobal), limit: u32) -> Shaper {
 
 /// The same, but more of them are dropped so many at once at most.
 pub(crate) fn shaper_of(rt: &(impl Abort + AllocGlobal), limit: u32, batch: u32) -> Shaper {
+    let params = params(rt, limit, batch);
+    Shaper::open(rt.alloc(), params, SEED).expect(rt, "a shaper")
+}
+
+/// A shaper that is renewed after so many packets, in which so many may wait.
+pub(crate) fn shaper_renewed_after(
+    rt: &(impl Abort + AllocGlobal),
+    limit: u32,
+    packets: u64,
+) -> Shaper {
+    let params = params(rt, limit, 1);
+    let shaper = Shaper::open_with(rt.alloc(), params, SEED, packets);
+    shaper.expect(rt, "a shaper")
+}
+
+fn params<R: Abort>(rt: &R, limit: u32, batch: u32) -> Params {
     let mut fields = by_port(4);
     fields.ecn = EcnUse::Drop;
     fields.limit = limit;
     fields.drop_batch = batch;
-    let params = Params::try_new(fields).ok().expect(rt, "parameters");
-    Shaper::open(rt.alloc(), params, SEED).expect(rt, "a shaper")
+    Params::try_new(fields).ok().expect(rt, "parameters")
 }
 
 /// A packet of 1,000 bytes to that destination port, with that tag.

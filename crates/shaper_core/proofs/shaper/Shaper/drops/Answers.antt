@@ -1,6 +1,5 @@
-use Rattle.std.proofs.Common.{arith}
 use Rattle.shaper_core.proofs.shaper.Shaper.drops.Goals as goal
-use Rattle.shaper_core.proofs.Readings.{reads_none, reads_on, all_read}
+use Rattle.shaper_core.proofs.Readings.{reads_none}
 
 pub loop-place-init : goal.loop-place-init
-loop-place-init c = reads_none c.args.self.now c.args.out.now (omega arith)
+loop-place-init c = reads_none c.args.self.now c.args.out.now
