@@ -47,7 +47,7 @@ lawful_run s steps range r =
     }
 
 -- What holds of a shaper after calls.
-record IsSteady (s : Shaping) : Type 0 where
+pub record IsSteady (s : Shaping) : Type 0 where
   steps : List Step
   run : IsRunOf (discipline_of s.sched) steps s.sched.standing
   range : AreInRange s.sched.params
@@ -237,7 +237,7 @@ opens p seed renew_after range = record {
 }
 
 -- one handle or another
-abbrev same_handle : Handle → Handle → Bool
+abbrev pub same_handle : Handle → Handle → Bool
 same_handle a b = (a.tag == b.tag) && (a.id == b.id)
 
 pub tells_handles : Tells same_handle

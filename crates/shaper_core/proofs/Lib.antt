@@ -14,3 +14,4 @@ pub mod Renewals
 pub mod Readings
 pub mod Refusals
 pub mod CallLaws
+pub mod ShaperCalls

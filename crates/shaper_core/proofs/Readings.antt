@@ -1,9 +1,9 @@
 -- How drops are read, and packets flushed, into a list, one by one.
-use Rattle.std.proofs.Common.{◌≡◌, ℕ, ◌+◌, ◌-◌, ◌<◌, ◌≤◌, List, [], ◌∷◌, ◌++◌, drop, length, set, take, Option, Some, None, ap, refl, subst, sym, ◌∙◌, arith}
+use Rattle.std.proofs.Common.{◌≡◌, ℕ, ◌+◌, ◌-◌, ◌<◌, ◌≤◌, List, [], ◌∷◌, ◌++◌, drop, length, set, take, ap, refl, subst, sym, ◌∙◌, arith}
 use Rattle.std.proofs.lemmas.List.{drop-drop, drop-set-lt, take_more_set}
 use Rattle.shaper_core.specs.declared.answers.Dropped.{Dropped}
 use Rattle.shaper_core.specs.declared.answers.Handle.{Handle}
-use Rattle.shaper_core.specs.Shapers.{AreFlushed, AreRead, IsFlushed, IsRead, KeepsSent, Shaping, queued_in, totals_of}
+use Rattle.shaper_core.specs.Shapers.{AreFlushed, AreRead, IsFlushed, IsRead, KeepsSent, Shaping, totals_of}
 
 -- the rest of a list stays where the place before it is written
 rest_stays : {X : Type 0} (first out : List X) (place : ℕ) (x : X) → drop place out ≡ drop place first → drop (place + 1) (set out place x) ≡ drop (place + 1) first
@@ -43,14 +43,12 @@ pub record Flushing (initial : Shaping) (first : List Handle) (place : ℕ) (out
   pub flushes : AreFlushed initial (take place out) now
   pub rest : drop place out ≡ drop place first
   pub totals : KeepsSent (totals_of initial) place (totals_of now)
-  pub idle : queued_in initial ≡ 0 → (place ≡ 0) × (now ≡ initial)
 
 pub flushes_none : (initial : Shaping) (first : List Handle) → Flushing initial first 0 first initial
 flushes_none initial first = record {
   flushes = refl;
   rest = refl;
   totals = record { accepted = refl; sent = refl; sent_bytes = refl; marked = refl; threshold_marked = refl; flushed = omega arith };
-  idle = λ none. (refl, refl);
 }
 
 pub kept_on : (old mid new : Shaping) (n m : ℕ) → KeepsSent (totals_of old) n (totals_of mid) → KeepsSent (totals_of mid) m (totals_of new) → KeepsSent (totals_of old) (n + m) (totals_of new)
@@ -65,10 +63,9 @@ kept_on old mid new n m a b = record {
 
 -- One more is flushed.
 pub flushes_on : (initial : Shaping) (first : List Handle) (place : ℕ) (out : List Handle) (now new : Shaping) (packet : Handle) → Flushing initial first place out now → IsFlushed now packet new → place < length out
-    → KeepsSent (totals_of now) 1 (totals_of new) → (queued_in now ≡ 0 → Some packet ≡ None) → Flushing initial first (place + 1) (set out place packet) new
-flushes_on initial first place out now new packet r one within kept some = record {
+    → KeepsSent (totals_of now) 1 (totals_of new) → Flushing initial first (place + 1) (set out place packet) new
+flushes_on initial first place out now new packet r one within kept = record {
   flushes = subst (λ (ps : List Handle). AreFlushed initial ps new) (sym (take_more_set out place packet within)) (flush_more initial (take place out) now packet new r.flushes one);
   rest = rest_stays first out place packet r.rest;
   totals = kept_on initial now new place 1 r.totals kept;
-  idle = λ none. let there = r.idle none in absurd (let e : Some packet ≡ None = some (ap queued_in there.1 ∙ none) in cc);
 }

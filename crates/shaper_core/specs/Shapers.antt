@@ -194,13 +194,14 @@ pub record IsFlushed (old : Shaping) (packet : Handle) (new : Shaping) : Type 0 
     packets = record old.packets { flushed = old.packets.flushed ++ packet ∷ [] };
   }
 
--- A flush finds no packet: nothing waits, or a dequeue at the moment of the last step gives none.
+-- A flush finds no packet: a dequeue at the moment of the last step gives none.
 pub record IsIdle (old new : Shaping) : Type 0 where
   pub serves : IsServed old.sched old.sched.standing.state.last None new.sched
   pub drops : new.unread + length (lost_of old) ≡ old.unread + length (lost_of new)
   pub aside : new.aside ≡ more_aside old.aside (statistics (events_of old)) (statistics (events_of new))
   pub rest : new ≡ record old { sched = new.sched; unread = new.unread; aside = new.aside }
 
+-- Or it finds that nothing waits.
 abbrev pub FindsNone : Shaping → Shaping → Type 0
 FindsNone old new = ((queued_in old ≡ 0) × (new ≡ old)) ⊎ IsIdle old new
 
@@ -223,6 +224,11 @@ pub record KeepsSent (old : ShaperTotals) (more : ℕ) (new : ShaperTotals) : Ty
   pub marked : new.marked ≡ old.marked
   pub threshold_marked : new.threshold_marked ≡ old.threshold_marked
   pub flushed : new.flushed ≡ old.flushed + more
+
+-- A flush takes out that packet, or finds none.
+abbrev pub FlushesOne : Shaping → Option Handle → Shaping → Type 0
+FlushesOne old None new = IsIdle old new
+FlushesOne old (Some packet) new = IsFlushed old packet new
 
 -- how many packets that is
 abbrev pub flushed_by : Option Handle → ℕ

@@ -4,13 +4,15 @@ ghost use Rattle.std.specs.Prelude.{◌≡◌, ◌≢◌, ◌+◌, ◌<◌, ◌�
 ghost use Rattle.journal_core.specs.Calls.{close_refusal};
 ghost use Rattle.journal_core.specs.Losses.{lost_packets};
 ghost use Rattle.journal_core.specs.State.{IsRefusal, refusal_of};
+ghost use Rattle.journal_core.specs.Statistics.{statistics};
 ghost use Rattle.journal_core.specs.declared.step.Refusal.TheVariants as refusal;
 ghost use Rattle.journal_core.specs.declared.step.Step.TheVariants.{Close, Dequeue, Enqueue};
 ghost use Rattle.fair_core.specs.Shown.{flow_shown};
-ghost use Rattle.sched_core.specs.Schedulers.{flows_of};
+ghost use Rattle.flow_core.specs.FlowLists.{waiting_in};
+ghost use Rattle.sched_core.specs.Schedulers.{IsServed, flows_of};
 ghost use Rattle.shaper_core.specs.Drops.{causes_of};
 ghost use Rattle.shaper_core.specs.Laws.{IsLawful};
-ghost use Rattle.shaper_core.specs.Shapers.{open_scheduler, renumbered, sent_handles};
+ghost use Rattle.shaper_core.specs.Shapers.{open_scheduler, renumbered, sent_handle, sent_handles};
 ghost use Rattle.shaper_core.specs.declared.answers.EnqueueFault.TheVariants as fault;
 
 use crate::answers::{Dequeued, Dropped, EnqueueFault, Enqueued, Flushed, Handle};
@@ -18,7 +20,6 @@ use crate::drops::Drops;
 use crate::life::Life;
 use crate::totals::{Aside, ShaperTotals};
 use packet_core::{Packet, Params, Seed};
-use sched_core::laws::packets_are_given_back;
 use sched_core::{CloseFault, FlowView, MAX_ACCEPTED, MAX_MOMENT, Memory, MomentFault, Refusal, Sched, Sent};
 use std::alloc::Global;
 use std::marker::Model;
@@ -63,10 +64,14 @@ impl Model for Shaper {
 
 /// What holds of each scheduler.
 fn has_laws(sched: &Sched<Drops>)
-    ensures { IsLawful sched.now }
+    ensures laws { IsLawful sched.now }
+    ensures ids { sched.now.standing.state.next_id ≤ MAX_ACCEPTED }
+    ensures queued { (statistics sched.now.standing.events).queued ≡ waiting_in (flows_of sched.now).lists }
 {
     sched.journal_laws();
     sched.keeper();
+    sched.ids_left();
+    sched.queued();
 }
 
 /// Each packet that was dropped is told with its cause.
@@ -103,7 +108,7 @@ fn give(sent: Option<Sent>, before: u64, packets: &mut Life) -> Option<Sent>
         ≡ record packets.old { sent = packets.old.sent ++ sent_handles before sent } }
 {
     let mut sent = sent?;
-    sent.id += before;
+    sent.id = before + sent.id;
     packets.send(Handle {
         tag: sent.packet.tag(),
         id: sent.id,
@@ -111,9 +116,36 @@ fn give(sent: Option<Sent>, before: u64, packets: &mut Life) -> Option<Sent>
     Some(sent)
 }
 
+/// A dequeue at the moment of the last step.
+fn dequeue_at_last(sched: &mut Sched<Drops>) -> Option<Sent>
+    ensures { IsServed sched.old sched.old.standing.state.last result sched.new }
+{
+    let moment = sched.last_moment();
+    match sched.dequeue(moment) {
+        Ok(sent) => sent,
+        Err(_) => None,
+    }
+}
+
+/// What a flush answers of the packet that the scheduler gives.
+fn take_out(sent: Option<Sent>, before: u64, packets: &mut Life) -> Option<Flushed>
+    requires { IfSome sent (λ s. before + s.id < 2 ^ 64) }
+    ensures told { result ≡ option_map (sent_handle before) sent }
+    ensures packets { packets.new
+        ≡ record packets.old { flushed = packets.old.flushed ++ sent_handles before sent } }
+{
+    let sent = sent?;
+    let packet = Handle {
+        tag: sent.packet.tag(),
+        id: before + sent.id,
+    };
+    packets.flush(packet);
+    Some(packet)
+}
+
 impl Shaper {
     ghost use Rattle.shaper_core.specs.Faults.{IsFault};
-    ghost use Rattle.shaper_core.specs.Shapers.{AreFlushed, AreGivenBack, AreRead, FindsNone, IsAccepted, FlushesAll, IsClosed, IsDequeued, IsDue, IsEnqueued, IsFlushed, IsRead, KeepsSent, flushed_by, lost_of, new_shaper, queued_in, renewed, totals_of};
+    ghost use Rattle.shaper_core.specs.Shapers.{AreFlushed, AreGivenBack, AreRead, FlushesAll, FlushesOne, IsAccepted, IsClosed, IsDequeued, IsDue, IsEnqueued, IsFlushed, IsRead, KeepsSent, flushed_by, lost_of, new_shaper, queued_in, renewed, totals_of};
 
     /// A scheduler before its first step. It takes the memory for `limit` packets and one more here.
     pub fn open(alloc: Global, params: Params, seed: Seed) -> Result<Shaper, Memory>
@@ -131,8 +163,9 @@ impl Shaper {
     ) -> Result<Shaper, Memory>
         ensures { IfOk result (λ s. s ≡ new_shaper params seed renew_after) }
     {
+        let sched = open_sched(alloc, params, seed)?;
         Ok(Shaper {
-            sched: open_sched(alloc, params, seed)?,
+            sched,
             unread: 0,
             aside: Aside::none(),
             past: ShaperTotals::none(),
@@ -156,10 +189,23 @@ impl Shaper {
         if self.unread > 0 {
             return Err(EnqueueFault::Unread);
         }
+        Ok(self.admit(moment, packet)?)
+    }
+
+    /// The same where each drop was read.
+    fn admit(&mut self, moment: u64, packet: Packet) -> Result<Enqueued, Refusal>
+        requires { self.old.unread ≡ 0 }
+        ensures made { IfOk result (λ said. IsEnqueued self.old moment packet said self.new) }
+        ensures id { IfOk result (λ said. said.id ≡ length self.old.packets.accepted) }
+        ensures refused { IfErr result (IsRefusal (refusal_of self.old.sched.standing.state (Enqueue moment 0 packet))) }
+        ensures reserved { 0 < self.old.sched.room
+            → OnErr result (refusal_of self.old.sched.standing.state (Enqueue moment 0 packet) ≢ None) }
+        ensures unchanged { OnErr result (self.new ≡ self.old) }
+    {
         if self.is_due(moment) {
-            return Ok(self.accept_anew(moment, packet)?);
+            return self.accept_anew(moment, packet);
         }
-        Ok(self.accept(moment, packet)?)
+        self.accept(moment, packet)
     }
 
     /// Whether the shaper is to be renewed before a packet that comes at that moment.
@@ -183,12 +229,14 @@ impl Shaper {
         requires { IsDue self.old }
         ensures { (self.new ≡ self.old) ⊎ (self.new ≡ renewed self.old) }
     {
+        let totals = self.totals();
+        has_laws(&self.sched);
         let alloc = self.sched.keeper().allocator();
         let params = *self.sched.params();
         let Ok(sched) = open_sched(alloc, params, self.sched.seed()) else {
             return;
         };
-        self.past = self.totals();
+        self.past = totals;
         self.aside = Aside::none();
         self.sched = sched;
     }
@@ -201,6 +249,7 @@ impl Shaper {
         requires moment { moment < MAX_MOMENT }
         requires later { self.old.sched.standing.state.last ≤ moment }
         ensures made { IfOk result (λ said. IsEnqueued self.old moment packet said self.new) }
+        ensures id { IfOk result (λ said. said.id ≡ length self.old.packets.accepted) }
         ensures refused { IfErr result (IsRefusal (refusal_of self.old.sched.standing.state (Enqueue moment 0 packet))) }
         ensures reserved { 0 < self.old.sched.room
             → OnErr result (refusal_of self.old.sched.standing.state (Enqueue moment 0 packet) ≢ None) }
@@ -214,6 +263,7 @@ impl Shaper {
     fn accept(&mut self, moment: u64, packet: Packet) -> Result<Enqueued, Refusal>
         requires { self.old.unread ≡ 0 }
         ensures made { IfOk result (λ said. IsAccepted self.old moment packet said self.new) }
+        ensures id { IfOk result (λ said. said.id ≡ length self.old.packets.accepted) }
         ensures refused { IfErr result (IsRefusal (refusal_of self.old.sched.standing.state (Enqueue moment 0 packet))) }
         ensures reserved { 0 < self.old.sched.room
             → OnErr result (refusal_of self.old.sched.standing.state (Enqueue moment 0 packet) ≢ None) }
@@ -248,7 +298,6 @@ impl Shaper {
             refusal_of self.old.sched.standing.state (Dequeue moment) ≡ Some (refusal.Moment fault)) }
         ensures unchanged { OnErr result (self.new ≡ self.old) }
     {
-        packets_are_given_back();
         has_laws(&self.sched);
         let before = count_drops(&self.sched);
         let sent = self.sched.dequeue(moment)?;
@@ -281,7 +330,7 @@ impl Shaper {
         has_laws(&self.sched);
         drops_have_causes(&self.sched);
         let mut dropped = self.sched.keeper().dropped(self.unread as usize);
-        dropped.id += self.past.accepted;
+        dropped.id = self.past.accepted + dropped.id;
         self.unread -= 1;
         self.packets.read(Handle {
             tag: dropped.tag,
@@ -317,6 +366,9 @@ impl Shaper {
         ensures rest { drop result out.new ≡ drop result out.old }
         ensures totals { KeepsSent (totals_of self.old) result (totals_of self.new) }
     {
+        if self.queued() == 0 {
+            return 0;
+        }
         for place in 0..out.len() {
             let Some(packet) = self.flush_next() else {
                 return place;
@@ -326,33 +378,20 @@ impl Shaper {
         out.len()
     }
 
-    /// Takes out the next packet, or none where none waits.
+    /// Takes out the packet that a dequeue at the moment of the last step gives, if it gives one.
     fn flush_next(&mut self) -> Option<Flushed>
-        ensures none { IsNone result → FindsNone self.old self.new }
-        ensures flushed { IfSome result (λ packet. IsFlushed self.old packet self.new) }
-        ensures idle { queued_in self.old ≡ 0 → result ≡ None }
+        ensures one { FlushesOne self.old result self.new }
         ensures totals { KeepsSent (totals_of self.old) (flushed_by result) (totals_of self.new) }
     {
-        if self.sched.queued() == 0 {
-            return None;
-        }
-        packets_are_given_back();
         has_laws(&self.sched);
         let before = self.sched.totals();
         let drops = count_drops(&self.sched);
-        let Ok(sent) = self.sched.dequeue(self.sched.last_moment()) else {
-            return None;
-        };
+        let sent = dequeue_at_last(&mut self.sched);
         has_laws(&self.sched);
         self.unread += count_drops(&self.sched) - drops;
-        self.aside = self.aside.and(&before, &self.sched.totals());
-        let sent = sent?;
-        let packet = Handle {
-            tag: sent.packet.tag(),
-            id: self.past.accepted + sent.id,
-        };
-        self.packets.flush(packet);
-        Some(packet)
+        let after = self.sched.totals();
+        self.aside = self.aside.and(&before, &after);
+        take_out(sent, self.past.accepted, &mut self.packets)
     }
 
     /// How many drops weren't read yet.
@@ -383,7 +422,7 @@ impl Shaper {
     pub fn packets_come_back(&self)
         ensures { AreGivenBack self.now }
     {
-        let _ = self.unread;
+        let _ = &self.sched;
     }
 
     /// The statistics of all packets so far.
