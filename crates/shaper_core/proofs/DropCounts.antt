@@ -49,12 +49,16 @@ below n xs is x (k, within, at) =
     let value : get_or xs k x ≡ 0 + k = ap (λ l. get_or l k x) is ∙ get_or-range_with_len 0 n k x (omega arith) in
     omega (arith, value, at)
 
--- Each drop is of a packet that was accepted.
-pub lost_counted : (flow_of : FiveTuple → ℕ) (events : List Event) → JournalLaws flow_of events → length (lost_packets events) ≡ length (causes_of events)
-lost_counted flow_of events laws =
+-- Each fate names a packet that was accepted.
+pub fates_found : (flow_of : FiveTuple → ℕ) (events : List Event) → JournalLaws flow_of events → AreFound (acceptances events) (fate_ids events)
+fates_found flow_of events laws =
     let n : ℕ = length (acceptances events) in
     let all : All (Contains (accepted_ids events)) (fate_ids events) =
     subst (λ (l : List Event). All (Contains (accepted_ids l)) (fate_ids l)) (take_all (length events) events (omega arith)) (laws.fates_follow (length events)) in
     let known : AllByRecursion (λ id. id < n) (fate_ids events) =
     ByRecursion-weaker (Contains (accepted_ids events)) (λ id. id < n) (fate_ids events) (below n (accepted_ids events) laws.ids_in_order) (recursion_from_All (Contains (accepted_ids events)) (fate_ids events) all) in
-    lost_where_found (acceptances events) events (all_found (acceptances events) n (fate_ids events) laws.ids_in_order known)
+    all_found (acceptances events) n (fate_ids events) laws.ids_in_order known
+
+-- Each drop is of a packet that was accepted.
+pub lost_counted : (flow_of : FiveTuple → ℕ) (events : List Event) → JournalLaws flow_of events → length (lost_packets events) ≡ length (causes_of events)
+lost_counted flow_of events laws = lost_where_found (acceptances events) events (fates_found flow_of events laws)

@@ -3,3 +3,15 @@ pub mod RecentDrops
 pub mod DropCounts
 pub mod StepDrops
 pub mod ShaperSteps
+pub mod Multisets
+pub mod Growth
+pub mod Handles
+pub mod Balance
+pub mod StepMoves
+pub mod Balanced
+pub mod ShapedSteps
+pub mod Renewals
+pub mod Readings
+pub mod Refusals
+pub mod CallLaws
+pub mod ShaperCalls

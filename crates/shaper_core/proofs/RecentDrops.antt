@@ -9,11 +9,11 @@ use Rattle.journal_core.specs.declared.event.Cause.{Cause}
 use Rattle.journal_core.specs.declared.event.Event.{Event}
 use Rattle.journal_core.specs.declared.event.Event.TheVariants.{Accepted, Sent, Dropped, Closed}
 use Rattle.journal_core.proofs.EventLemmas.{filter_map_push, filter_map_same}
-use Rattle.shaper_core.specs.declared.answers.Loss.{Loss}
+use Rattle.shaper_core.specs.declared.answers.Handle.{Handle}
 use Rattle.shaper_core.specs.Drops.{AreRecent, IsDropAt, cause_of, causes_of, loss_of, noted_causes, noted_losses, settled_drops}
 use Rattle.shaper_core.proofs.SettledDrops.{settled_accept, settled_stays}
 
-module _ (losses : List Loss) (causes : List Cause) (told : List Event) (lost : List Waiting) (r : AreRecent losses causes told lost) where
+module _ (losses : List Handle) (causes : List Cause) (told : List Event) (lost : List Waiting) (r : AreRecent losses causes told lost) where
   -- where an event comes that changes neither, and before which as many drops are settled at least
   stays : (e : Event) → cause_of e ≡ None → settled_drops told ≤ settled_drops (told ++ e ∷ []) → AreRecent losses causes (told ++ e ∷ []) lost
   stays e none more = let few = r.settled in record {
@@ -86,11 +86,11 @@ at_end all past xs back x ends few there =
     let value : get_or all (length past + n) x ≡ x = ap (λ l. get_or l (length past + n) x) ends ∙ get_or-append-add past xs n x ∙ get_or_from_slice_get xs n x x there in
     ap (slice_get all) place ∙ slice_get-get_or all (length past + n) x (omega arith) ∙ ap Some value
 
-known_by : (o : Option Waiting) (loss : Loss) → option_map loss_of o ≡ Some loss → IsSomeAnd o (λ w. (loss.tag ≡ w.packet.tag) × (loss.id ≡ w.id))
+known_by : (o : Option Waiting) (loss : Handle) → option_map loss_of o ≡ Some loss → IsSomeAnd o (λ w. (loss.tag ≡ w.packet.tag) × (loss.id ≡ w.id))
 known_by None loss is = absurd (cc is)
-known_by (Some w) loss is = let same : loss_of w ≡ loss = cc in (sym (ap (λ (l : Loss). l.tag) same), sym (ap (λ (l : Loss). l.id) same))
+known_by (Some w) loss is = let same : loss_of w ≡ loss = cc in (sym (ap (λ (l : Handle). l.tag) same), sym (ap (λ (l : Handle). l.id) same))
 
-module _ (losses : List Loss) (causes : List Cause) (told : List Event) (lost : List Waiting) (r : AreRecent losses causes told lost)
+module _ (losses : List Handle) (causes : List Cause) (told : List Event) (lost : List Waiting) (r : AreRecent losses causes told lost)
     (back : ℕ) (recent : back + settled_drops told ≤ length (causes_of told)) (as_many : length lost ≡ length (causes_of told)) where
   causes_reach : back ≤ length causes
   causes_reach =
@@ -105,7 +105,7 @@ module _ (losses : List Loss) (causes : List Cause) (told : List Event) (lost : 
       let size : length lost ≡ length r.past_losses + length losses = sym (length-map lost loss_of) ∙ ap length r.losses_are ∙ length-append r.past_losses losses in
       omega arith
 
-  pub recent_drop : (loss : Loss) (cause : Cause) (m n : ℕ) → 0 < back → m ≡ length losses → n ≡ length causes → loss ≡ get_or losses (m - back) loss → cause ≡ get_or causes (n - back) cause
+  pub recent_drop : (loss : Handle) (cause : Cause) (m n : ℕ) → 0 < back → m ≡ length losses → n ≡ length causes → loss ≡ get_or losses (m - back) loss → cause ≡ get_or causes (n - back) cause
       → IsDropAt told lost (length lost - back) (record { tag = loss.tag; id = loss.id; cause = cause })
   recent_drop loss cause m n some m_is n_is loss_at cause_at =
       let few = losses_reach in

@@ -6,7 +6,7 @@ use Rattle.journal_core.specs.declared.event.Cause.{Cause}
 use Rattle.journal_core.specs.declared.event.Event.{Event}
 use Rattle.journal_core.specs.declared.event.Event.TheVariants.{Accepted, Sent, Dropped, Closed}
 use Rattle.shaper_core.specs.declared.answers.Dropped.{Dropped as Drop}
-use Rattle.shaper_core.specs.declared.answers.Loss.{Loss}
+use Rattle.shaper_core.specs.declared.answers.Handle.{Handle}
 
 -- the cause that a Dropped tells
 abbrev pub cause_of : Event → Option Cause
@@ -38,12 +38,12 @@ pub record IsDropAt (events : List Event) (lost : List Waiting) (n : ℕ) (d : D
   pub cause : slice_get (causes_of events) n ≡ Some d.cause
 
 -- what a lost packet is known by
-abbrev pub loss_of : Waiting → Loss
+abbrev pub loss_of : Waiting → Handle
 loss_of w = record { tag = w.packet.tag; id = w.id }
 
 -- Of the lost packets and of the causes the same number is forgotten, and no more than stand before the last acceptance.
-pub record AreRecent (losses : List Loss) (causes : List Cause) (told : List Event) (lost : List Waiting) : Type 0 where
-  pub past_losses : List Loss
+pub record AreRecent (losses : List Handle) (causes : List Cause) (told : List Event) (lost : List Waiting) : Type 0 where
+  pub past_losses : List Handle
   pub past_causes : List Cause
   pub losses_are : map loss_of lost ≡ past_losses ++ losses
   pub causes_are : causes_of told ≡ past_causes ++ causes
@@ -51,7 +51,7 @@ pub record AreRecent (losses : List Loss) (causes : List Cause) (told : List Eve
   pub settled : length past_causes ≤ settled_drops told
 
 -- the packets that are kept after an event
-abbrev pub noted_losses : Event → List Loss → List Cause → List Loss
+abbrev pub noted_losses : Event → List Handle → List Cause → List Handle
 noted_losses (Accepted lane id moment flow packet) losses causes =
     if length losses == length causes then [] else losses
 noted_losses (Sent id moment ecn mark) losses causes = losses
@@ -59,7 +59,7 @@ noted_losses (Dropped id moment cause) losses causes = losses
 noted_losses (Closed moment) losses causes = losses
 
 -- the causes that are kept after an event
-abbrev pub noted_causes : Event → List Loss → List Cause → List Cause
+abbrev pub noted_causes : Event → List Handle → List Cause → List Cause
 noted_causes (Accepted lane id moment flow packet) losses causes =
     if length losses == length causes then [] else causes
 noted_causes (Sent id moment ecn mark) losses causes = causes

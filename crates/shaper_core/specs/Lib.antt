@@ -1,5 +1,10 @@
 pub mod Drops
 pub mod DropsKept
+pub mod ShaperTotals
+pub mod Lives
+pub mod LivesKept
+pub mod Laws
 pub mod Shapers
+pub mod Calls
 pub mod ShaperKept
 pub mod Faults

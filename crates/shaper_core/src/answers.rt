@@ -3,6 +3,18 @@
 use sched_core::{Cause, Refusal, Sent};
 use thiserror::Error;
 
+/// What a packet is known by.
+#[derive(Clone, Copy, Debug, PartialEq, Eq)]
+pub struct Handle {
+    /// The packet's tag.
+    pub tag: u64,
+    /// The id that it was accepted with.
+    pub id: u64,
+}
+
+/// A packet that was flushed.
+pub type Flushed = Handle;
+
 /// A packet that was dropped.
 #[derive(Clone, Copy, Debug, PartialEq, Eq)]
 pub struct Dropped {
@@ -14,19 +26,10 @@ pub struct Dropped {
     pub cause: Cause,
 }
 
-/// What a lost packet is known by.
-#[derive(Clone, Copy, Debug, PartialEq, Eq)]
-pub(crate) struct Loss {
-    /// The packet's tag.
-    pub(crate) tag: u64,
-    /// The id that it was accepted with.
-    pub(crate) id: u64,
-}
-
 /// The answer to an enqueue that is accepted.
 #[derive(Clone, Copy, Debug, PartialEq, Eq)]
 pub struct Enqueued {
-    /// The packet's place in the order of acceptance, from 0.
+    /// The packet's place in the order of acceptance, from 0. It goes on over renewals.
     pub id: u64,
     /// The flow whose queue it went to.
     pub flow: u32,

@@ -3,7 +3,7 @@
 ghost use Rattle.std.specs.Prelude.{◌≡◌, ℕ, ◌+◌, ◌-◌, ◌<◌, ◌≤◌, [], length, vec_capacity, vec_len};
 ghost use Rattle.shaper_core.specs.Drops.{IsDropAt, causes_of, noted_causes, noted_losses, settled_drops};
 
-use crate::answers::{Dropped, Loss};
+use crate::answers::{Dropped, Handle};
 use packet_core::Waiting;
 use sched_core::{Cause, Event, GhostList, Keeps, Memory};
 use std::alloc::Global;
@@ -14,7 +14,7 @@ use std::marker::Model;
 /// there is memory for as many packets and causes.
 #[derive(Debug, Drop)]
 pub(crate) struct Drops {
-    losses: Vec<Loss>,
+    losses: Vec<Handle>,
     causes: Vec<Cause>,
     told: GhostList<Event>,
     lost: GhostList<Waiting>,
@@ -32,7 +32,7 @@ impl Model for Drops {
 }
 
 /// An event is told. At an acceptance, what was kept is forgotten where each packet has its cause.
-fn note(event: &Event, losses: &mut Vec<Loss>, causes: &mut Vec<Cause>)
+fn note(event: &Event, losses: &mut Vec<Handle>, causes: &mut Vec<Cause>)
     requires { vec_len causes.old < vec_capacity causes.old }
     ensures losses { losses.new.items ≡ noted_losses event.now losses.old.items causes.old.items }
     ensures causes { causes.new.items ≡ noted_causes event.now losses.old.items causes.old.items }
@@ -68,6 +68,11 @@ impl Drops {
         }
     }
 
+    /// Where its memory comes from.
+    pub(crate) fn allocator(&self) -> Global {
+        *self.losses.allocator()
+    }
+
     /// The drop that stands at that place from the end: the last one has 1.
     pub(crate) fn dropped(&self, back: usize) -> Dropped
         requires some { 0 < back }
@@ -99,7 +104,7 @@ impl Keeps<Event> for Drops {
 
     fn tell_loss(&mut self, event: Event, packet: &Waiting) {
         note(&event, &mut self.losses, &mut self.causes);
-        self.losses.push_reserved(Loss {
+        self.losses.push_reserved(Handle {
             tag: packet.packet.tag(),
             id: packet.id,
         });

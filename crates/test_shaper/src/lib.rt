@@ -5,6 +5,12 @@
 #[cfg(test)]
 mod buffers;
 #[cfg(test)]
+mod flushes;
+#[cfg(test)]
+mod reading;
+#[cfg(test)]
 mod refusals;
+#[cfg(test)]
+mod renewals;
 #[cfg(test)]
 mod shapers;

@@ -8,12 +8,32 @@ use test_support::{SEED, by_port, tuple};
 /// A shaper with four flows by the destination port, without marks, in which so many packets may wait. More of them
 /// are dropped one by one.
 pub(crate) fn shaper(rt: &(impl Abort + AllocGlobal), limit: u32) -> Shaper {
+    shaper_of(rt, limit, 1)
+}
+
+/// The same, but more of them are dropped so many at once at most.
+pub(crate) fn shaper_of(rt: &(impl Abort + AllocGlobal), limit: u32, batch: u32) -> Shaper {
+    let params = params(rt, limit, batch);
+    Shaper::open(rt.alloc(), params, SEED).expect(rt, "a shaper")
+}
+
+/// A shaper that is renewed after so many packets, in which so many may wait.
+pub(crate) fn shaper_renewed_after(
+    rt: &(impl Abort + AllocGlobal),
+    limit: u32,
+    packets: u64,
+) -> Shaper {
+    let params = params(rt, limit, 1);
+    let shaper = Shaper::open_with(rt.alloc(), params, SEED, packets);
+    shaper.expect(rt, "a shaper")
+}
+
+fn params<R: Abort>(rt: &R, limit: u32, batch: u32) -> Params {
     let mut fields = by_port(4);
     fields.ecn = EcnUse::Drop;
     fields.limit = limit;
-    fields.drop_batch = 1;
-    let params = Params::try_new(fields).ok().expect(rt, "parameters");
-    Shaper::open(rt.alloc(), params, SEED).expect(rt, "a shaper")
+    fields.drop_batch = batch;
+    Params::try_new(fields).ok().expect(rt, "parameters")
 }
 
 /// A packet of 1,000 bytes to that destination port, with that tag.

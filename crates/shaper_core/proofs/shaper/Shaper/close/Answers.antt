@@ -1,6 +1,15 @@
-use Rattle.shaper_core.proofs.ShaperSteps.{close_reaches}
+use Rattle.std.proofs.Common.{refl, subst}
+use Rattle.shaper_core.specs.ShaperKept.{shaping_of}
+use Rattle.shaper_core.specs.Shapers.{IsClosed, Shaping}
+use Rattle.shaper_core.proofs.ShapedSteps.{close_shaped}
 use Rattle.shaper_core.proofs.shaper.Shaper.close.Goals as goal
 
-pub invariant_of-self : goal.invariant_of-self
-invariant_of-self c =
-    close_reaches c.close.result c.self.inside.sched c.close.new.self c.args.moment c.self.inside.unread c.close.ensures.made c.close.ensures.unchanged c.self.invariant
+pub invariant_of-self-2 : goal.invariant_of-self-2
+invariant_of-self-2 c =
+    let new : Shaping = record (shaping_of c.self.inside) { sched = c.close.new.self } in
+    close_shaped (shaping_of c.self.inside) new c.args.moment c.has_laws.ensures.laws c.has_laws-2.ensures.laws c.self.invariant (record { advances = c.in_ok-close.ensures.made; rest = refl })
+
+pub returns-clause-made : goal.returns-clause-made
+returns-clause-made c =
+    let new : Shaping = record (shaping_of c.self.inside) { sched = c.close.new.self } in
+    subst (λ (t : Shaping). IsClosed t c.args.moment new) c.self.view_is (record { advances = c.in_ok-close.ensures.made; rest = refl })

@@ -1,7 +1,11 @@
-use Rattle.std.proofs.Common.{ℕ, ◌+◌, ◌-◌, arith, refl, subst}
+use Rattle.std.proofs.Common.{◌≡◌, ℕ, ◌+◌, ◌-◌, ◌<◌, ◌^◌, arith, refl, subst}
+use Rattle.std.specs.Prelude.{IfSome}
 use Rattle.sched_core.specs.Schedulers.{Scheduler, discipline_of}
 use Rattle.shaper_core.specs.declared.answers.Dequeued.{Dequeued}
+use Rattle.shaper_core.specs.ShaperKept.{shaping_of}
 use Rattle.shaper_core.specs.Shapers.{IsDequeued, Shaping}
+use Rattle.shaper_core.proofs.ShapedSteps.{dequeue_shaped}
+use Rattle.shaper_core.proofs.ShaperCalls.{sent_accepted, sent_fits}
 use Rattle.shaper_core.proofs.StepDrops.{dequeue_settles}
 use Rattle.shaper_core.proofs.shaper.Shaper.dequeue.Goals as goal
 
@@ -11,22 +15,47 @@ overflow_sub-drops c =
     let settles = dequeue_settles (discipline_of old) old.standing c.dequeue.new.self.standing c.args.moment c.in_ok-sent.sent c.in_ok-sent.ensures.made.gives in
     omega (arith, settles.more, c.count_drops.ensures.causes, c.count_drops-before.ensures.causes)
 
-pub invariant_of-self-2 : goal.invariant_of-self-2
-invariant_of-self-2 c =
+pub give-requires : goal.give-requires
+give-requires c =
     let old : Scheduler = c.self.inside.sched in
-    let settles = dequeue_settles (discipline_of old) old.standing c.dequeue.new.self.standing c.args.moment c.in_ok-sent.sent c.in_ok-sent.ensures.made.gives in
-    omega (arith, c.self.invariant, settles.more, settles.settled, c.count_drops.ensures.causes, c.count_drops-before.ensures.causes)
+    let accepted = sent_accepted old c.dequeue.new.self c.args.moment c.in_ok-sent.sent c.has_laws.ensures.laws c.in_ok-sent.ensures.made in
+    sent_fits c.self.inside.past.accepted old c.in_ok-sent.sent c.has_laws.ensures.laws accepted c.self.invariant.counted c.has_laws.ensures.ids c.self.invariant.few
 
-pub returns-clause-made : goal.returns-clause-made
-returns-clause-made c =
+abbrev new_of : goal.After-give → Shaping
+new_of c = record {
+  sched = c.dequeue.new.self;
+  unread = c.self.inside.unread + (c.count_drops.result - c.count_drops-before.result);
+  aside = c.self.inside.aside;
+  past = c.self.inside.past;
+  renew_after = c.self.inside.renew_after;
+  packets = c.give.new.packets;
+}
+
+abbrev said_of : goal.After-give → Dequeued
+said_of c = record { sent = c.give.result; drops = c.count_drops.result - c.count_drops-before.result }
+
+made_of : (c : goal.After-give) → IsDequeued (shaping_of c.self.inside) c.args.moment (said_of c) (new_of c)
+made_of c =
     let old : Scheduler = c.self.inside.sched in
     let new : Scheduler = c.dequeue.new.self in
     let settles = dequeue_settles (discipline_of old) old.standing new.standing c.args.moment c.in_ok-sent.sent c.in_ok-sent.ensures.made.gives in
-    let drops : ℕ = c.count_drops.result - c.count_drops-before.result in
-    let said : Dequeued = record { sent = c.in_ok-sent.sent; drops = drops } in
-    subst (λ (t : Shaping). IsDequeued t c.args.moment said (record { sched = new; unread = c.self.inside.unread + drops })) c.self.view_is
-    (record {
+    record {
+      sent = c.in_ok-sent.sent;
       serves = c.in_ok-sent.ensures.made;
+      packet = sent_accepted old new c.args.moment c.in_ok-sent.sent c.has_laws.ensures.laws c.in_ok-sent.ensures.made;
+      told = c.give.ensures.told;
       unread = refl;
       drops = omega (arith, settles.more, c.count_drops.ensures.lost, c.count_drops-before.ensures.lost, c.count_drops.ensures.causes, c.count_drops-before.ensures.causes);
-    })
+      rest = λ i. record (shaping_of c.self.inside) {
+        sched = new;
+        unread = c.self.inside.unread + (c.count_drops.result - c.count_drops-before.result);
+        packets = c.give.ensures.packets i;
+      };
+    }
+
+pub invariant_of-self-2 : goal.invariant_of-self-2
+invariant_of-self-2 c =
+    dequeue_shaped (shaping_of c.self.inside) (new_of c) c.args.moment (said_of c) c.has_laws.ensures.laws c.has_laws-2.ensures.laws c.self.invariant (made_of c)
+
+pub returns-clause-made : goal.returns-clause-made
+returns-clause-made c = subst (λ (t : Shaping). IsDequeued t c.args.moment (said_of c) (new_of c)) c.self.view_is (made_of c)

@@ -1,0 +1,111 @@
+-- What the calls from C do with the shaper behind a handle.
+use Rattle.std.specs.Prelude.{◌≡◌, ◌≢◌, ◌⊎◌, ℕ, ℤ, ◌+◌, ◌<◌, List, length, slice_index_or, Some, None}
+use Rattle.std.specs.declared.option.Option.{Option}
+use Rattle.std.specs.declared.option.Option.TheVariants as option
+use Rattle.packet_core.specs.Packets.{PacketParts}
+use Rattle.packet_core.specs.declared.flow.Seed.{Seed}
+use Rattle.packet_core.specs.declared.params.ParamFields.{ParamFields}
+use Rattle.journal_core.specs.Calls.{close_refusal}
+use Rattle.journal_core.specs.State.{refusal_of}
+use Rattle.journal_core.specs.declared.outcome.Answer.TheVariants as answer
+use Rattle.journal_core.specs.declared.step.CloseFault.{CloseFault}
+use Rattle.journal_core.specs.declared.step.MomentFault.{MomentFault}
+use Rattle.journal_core.specs.declared.step.Refusal.TheVariants as refusal
+use Rattle.journal_core.specs.declared.step.Sent.{Sent}
+use Rattle.journal_core.specs.declared.step.Step.TheVariants.{Close, Dequeue, Enqueue}
+use Rattle.sched_core.specs.Schedulers.{IsAdvanced}
+use Rattle.shaper_core.specs.Drops.{IsDropAt}
+use Rattle.shaper_core.specs.Faults.{IsFault}
+use Rattle.shaper_core.specs.Shapers.{IsDequeued, IsEnqueued, Shaping, events_of, lost_of, new_shaper, read_of}
+use Rattle.shaper_core.specs.declared.answers.Dequeued.{Dequeued}
+use Rattle.shaper_core.specs.declared.answers.Dropped.{Dropped}
+use Rattle.shaper_core.specs.declared.answers.EnqueueFault.{EnqueueFault}
+use Rattle.shaper_core.specs.declared.answers.Enqueued.{Enqueued}
+use Rattle.maltcove.specs.Records.{admitted_told, dropped_told, idle_told, nothing_told, sent_told}
+use Rattle.maltcove.specs.Statuses.{close_code, enqueue_code, moment_code}
+use Rattle.maltcove.specs.Texts.{IsWrong, SaysParams}
+use Rattle.maltcove.specs.declared.records.MaltcoveAdmitted.{MaltcoveAdmitted}
+use Rattle.maltcove.specs.declared.records.MaltcoveDropped.{MaltcoveDropped}
+use Rattle.maltcove.specs.declared.records.MaltcoveFault.{MaltcoveFault}
+use Rattle.maltcove.specs.declared.records.MaltcoveSent.{MaltcoveSent}
+use Rattle.maltcove.specs.declared.status.TheConstants.{BAD_SEED, BAD_WORDS, MEMORY}
+
+-- Both times there is a shaper behind the handle, and the two are in that relation.
+abbrev pub Behind : (Shaping → Shaping → Type 0) → Option Shaping → Option Shaping → Type 0
+Behind R (option.Some a) (option.Some b) = R a b
+Behind R (option.Some a) option.None = ⊥
+Behind R option.None b = ⊥
+
+-- Of the shaper behind the handle, if there is one, that holds.
+abbrev pub IfBehind : (Shaping → Type 0) → Option Shaping → Type 0
+IfBehind P (option.Some a) = P a
+IfBehind P option.None = Unit {0}
+
+-- A packet is accepted, and C reads what is said of it.
+pub record Admits (old : Shaping) (moment : ℕ) (packet : PacketParts) (out : MaltcoveAdmitted) (new : Shaping)
+    : Type 0 where
+  pub said : Enqueued
+  pub enqueued : IsEnqueued old moment packet said new
+  pub told : out ≡ admitted_told said
+
+-- An enqueue is refused for that, by the tests in their order.
+pub record RefusesEnqueue (old : Shaping) (moment : ℕ) (packet : PacketParts) (answer : ℤ) : Type 0 where
+  pub fault : EnqueueFault
+  pub is_fault : IsFault (refusal_of old.sched.standing.state (Enqueue moment 0 packet)) fault
+  pub code : answer ≡ enqueue_code fault
+
+-- A dequeue is made that sends a packet, and C reads what is said of it.
+pub record Sends (old : Shaping) (moment : ℕ) (out : MaltcoveSent) (new : Shaping) : Type 0 where
+  pub said : Dequeued
+  pub sent : Sent
+  pub dequeued : IsDequeued old moment said new
+  pub is_sent : said.sent ≡ Some sent
+  pub told : out ≡ sent_told sent said.drops
+
+-- A dequeue is made that sends none.
+pub record Idles (old : Shaping) (moment : ℕ) (out : MaltcoveSent) (new : Shaping) : Type 0 where
+  pub said : Dequeued
+  pub dequeued : IsDequeued old moment said new
+  pub none_sent : said.sent ≡ None
+  pub told : out ≡ idle_told said.drops
+
+-- A dequeue is refused for its moment.
+pub record RefusesDequeue (old : Shaping) (moment : ℕ) (answer : ℤ) : Type 0 where
+  pub fault : MomentFault
+  pub is_fault : refusal_of old.sched.standing.state (Dequeue moment) ≡ Some (refusal.Moment fault)
+  pub code : answer ≡ moment_code fault
+
+-- A shaper is opened by words and a seed.
+pub record Opens (words seed : List ℕ) (new : Shaping) : Type 0 where
+  pub params : ParamFields
+  pub says : SaysParams words params
+  pub secret : Seed
+  pub seed_is : secret.0 ≡ seed
+  pub is_new : new ≡ new_shaper params secret
+
+-- Why none is opened, and what C reads as the fault.
+abbrev pub RefusesOpen : List ℕ → List ℕ → MaltcoveFault → ℤ → Type 0
+RefusesOpen words seed told answer =
+    ((answer ≡ BAD_WORDS) × IsWrong words told)
+    ⊎ ((answer ≡ BAD_SEED) × (told ≡ nothing_told) × (length seed ≢ 16)
+    × ((params : ParamFields) × SaysParams words params))
+    ⊎ ((answer ≡ MEMORY) × (told ≡ nothing_told))
+
+-- A close is made.
+pub record Closes (old : Shaping) (moment : ℕ) (new : Shaping) : Type 0 where
+  pub advanced : IsAdvanced old.sched (Close moment) answer.Closed new.sched
+  pub unread : new.unread ≡ old.unread
+
+-- A close is refused for that.
+pub record RefusesClose (old : Shaping) (moment : ℕ) (answer : ℤ) : Type 0 where
+  pub fault : CloseFault
+  pub is_fault : refusal_of old.sched.standing.state (Close moment) ≡ Some (close_refusal fault)
+  pub code : answer ≡ close_code fault
+
+-- So many drops are read, and C reads them: the first of those that weren't, in their order.
+pub record ReadsDrops (old : Shaping) (outs : List MaltcoveDropped) (new : Shaping) : Type 0 where
+  pub each : (k : ℕ) (out : MaltcoveDropped) → k < length outs
+      → (d : Dropped) × IsDropAt (events_of old) (lost_of old) (read_of old + k) d
+      × (slice_index_or outs k out ≡ dropped_told d)
+  pub unread : old.unread ≡ new.unread + length outs
+  pub sched : new.sched ≡ old.sched

@@ -1,0 +1,52 @@
+//! What C holds: a scheduler, or none.
+
+ghost use Rattle.std.specs.Prelude.{◌≡◌, Some, None, MatchOption};
+ghost use Rattle.std.specs.Option.{is_some};
+
+use crate::handle::Handle;
+use shaper_core::Shaper;
+use std::alloc::Global;
+use std::mem;
+
+/// A scheduler, or none. C sets its 16 bytes to 0 for none, and changes none of them after.
+#[repr(C)]
+#[derive(Drop)]
+pub struct Maltcove {
+    pub(crate) handle: Handle,
+    pub(crate) is_open: bool,
+    ghost tied: { is_open ≡ is_some handle.value },
+}
+
+const _: () = prove!(size_of::<Maltcove>() == 16);
+
+/// None.
+pub(crate) fn none(alloc: Global) -> Maltcove
+    ensures { result.handle.value ≡ None }
+{
+    Maltcove {
+        handle: Handle::empty(alloc),
+        is_open: false,
+    }
+}
+
+/// Takes the scheduler out, if there is one.
+pub(crate) fn take(alloc: Global, m: &mut Maltcove) -> Option<Box<Shaper>>
+    ensures taken { MatchOption result (m.old.handle.value ≡ None) (λ b. m.old.handle.value ≡ Some b.value) }
+    ensures left { m.new.handle.value ≡ None }
+{
+    let old = mem::replace(m, none(alloc));
+    if !old.is_open {
+        return None;
+    }
+    Some(old.handle.into_box())
+}
+
+/// Puts the scheduler in, where there was none.
+pub(crate) fn put(m: &mut Maltcove, shaper: Box<Shaper>)
+    ensures { m.new.handle.value ≡ Some shaper.value }
+{
+    *m = Maltcove {
+        handle: Handle::of(shaper),
+        is_open: true,
+    };
+}

@@ -1,0 +1,82 @@
+use Rattle.std.proofs.Common.{◌≡◌, ℕ, ◌-◌, ◌+◌, ◌<◌, ◌^◌, [], ◌∷◌, ◌++◌, ap, arith, length, refl, subst, sym, ◌∙◌}
+use Rattle.journal_core.specs.declared.step.Admitted.{Admitted}
+use Rattle.journal_core.proofs.RefusalLemmas.{enqueue_open}
+use Rattle.sched_core.specs.Schedulers.{IsAdvanced, Scheduler, discipline_of}
+use Rattle.journal_core.specs.declared.outcome.Answer.TheVariants as answer
+use Rattle.journal_core.specs.declared.step.Step.TheVariants.{Enqueue}
+use Rattle.shaper_core.specs.declared.answers.Enqueued.{Enqueued}
+use Rattle.shaper_core.specs.ShaperKept.{shaping_of}
+use Rattle.shaper_core.specs.Shapers.{IsAccepted, Shaping}
+use Rattle.shaper_core.proofs.ShapedSteps.{accept_shaped}
+use Rattle.shaper_core.proofs.ShaperSteps.{advanced_with_room, room_stays}
+use Rattle.shaper_core.proofs.StepDrops.{enqueue_settles}
+use Rattle.shaper_core.proofs.shaper.Shaper.accept.Goals as goal
+
+pub overflow_sub-self : goal.overflow_sub-self
+overflow_sub-self c =
+    let old : Scheduler = c.self.inside.sched in
+    let made = advanced_with_room c.in_ok-admitted.ensures.made c.reserve.ensures.rest in
+    let settles = enqueue_settles (discipline_of old) old.standing c.reserve.new.self.standing c.args.moment 0 c.args.packet made.advances in
+    omega (arith, settles.more, c.count_drops.ensures.causes, c.count_drops-before.ensures.causes)
+
+pub overflow_add-id : goal.overflow_add-id
+overflow_add-id c =
+    let old : Scheduler = c.self.inside.sched in
+    let few : old.standing.state.next_id < 2 ^ 40 = (enqueue_open old.standing.state c.args.moment 0 c.args.packet c.in_ok-admitted.ensures.made.advances.fits).1 in
+    omega (arith, few, c.self.invariant.few, ap (λ (a : Admitted). a.id) c.in_ok-admitted.ensures.admitted)
+
+abbrev new_of : goal.After-accept → Shaping
+new_of c = record {
+  sched = c.reserve.new.self;
+  unread = c.count_drops.result - c.count_drops-before.result;
+  aside = c.self.inside.aside;
+  past = c.self.inside.past;
+  renew_after = c.self.inside.renew_after;
+  packets = c.accept.new.self;
+}
+
+abbrev said_of : goal.After-accept → Enqueued
+said_of c = record {
+  id = c.self.inside.past.accepted + c.in_ok-admitted.admitted.id;
+  flow = c.in_ok-admitted.admitted.flow;
+  drops = c.count_drops.result - c.count_drops-before.result;
+}
+
+made_of : (c : goal.After-accept) → c.self.inside.unread ≡ 0 → IsAccepted (shaping_of c.self.inside) c.args.moment c.args.packet (said_of c) (new_of c)
+made_of c read =
+    let old : Scheduler = c.self.inside.sched in
+    let new : Scheduler = c.reserve.new.self in
+    let made = advanced_with_room c.in_ok-admitted.ensures.made c.reserve.ensures.rest in
+    let settles = enqueue_settles (discipline_of old) old.standing new.standing c.args.moment 0 c.args.packet made.advances in
+    let id = ap (λ (a : Admitted). a.id) c.in_ok-admitted.ensures.admitted in
+    record {
+      advances = made;
+      id = ap (λ (n : ℕ). c.self.inside.past.accepted + n) id;
+      flow = ap (λ (a : Admitted). a.flow) c.in_ok-admitted.ensures.admitted;
+      read = read;
+      unread = refl;
+      drops = omega (arith, settles.more, c.count_drops.ensures.lost, c.count_drops-before.ensures.lost, c.count_drops.ensures.causes, c.count_drops-before.ensures.causes);
+      room = omega (arith, c.in_ok-admitted.ensures.room, room_stays c.reserve.result c.enqueue.new.self new c.reserve.ensures.ok c.reserve.ensures.err);
+      rest = λ i. record (shaping_of c.self.inside) {
+        sched = new;
+        unread = c.count_drops.result - c.count_drops-before.result;
+        packets = (c.accept.ensures ∙ (λ j. record c.self.inside.packets {
+          accepted = c.self.inside.packets.accepted ++ record { tag = c.tag.ensures j; id = c.self.inside.past.accepted + c.in_ok-admitted.admitted.id } ∷ [];
+        })) i;
+      };
+    }
+
+pub invariant_of-self-2 : goal.invariant_of-self-2
+invariant_of-self-2 c =
+    let read : c.self.inside.unread ≡ 0 = subst (λ (t : Shaping). t.unread ≡ 0) (sym c.self.view_is) c.requires in
+    accept_shaped (shaping_of c.self.inside) (new_of c) c.args.moment c.args.packet (said_of c) c.has_laws.ensures.laws c.has_laws-2.ensures.laws c.self.invariant (made_of c read)
+
+pub returns-clause-made : goal.returns-clause-made
+returns-clause-made c =
+    let read : c.self.inside.unread ≡ 0 = subst (λ (t : Shaping). t.unread ≡ 0) (sym c.self.view_is) c.requires in
+    subst (λ (t : Shaping). IsAccepted t c.args.moment c.args.packet (said_of c) (new_of c)) c.self.view_is (made_of c read)
+
+pub returns-clause-id : goal.returns-clause-id
+returns-clause-id c =
+    let id = ap (λ (a : Admitted). a.id) c.in_ok-admitted.ensures.admitted in
+    omega (arith, id, c.self.invariant.ids, ap (λ (t : Shaping). length t.packets.accepted) c.self.view_is)

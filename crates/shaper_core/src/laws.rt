@@ -1,0 +1,20 @@
+//! What holds of every list of calls, as the contract of a function that does nothing.
+
+ghost use Rattle.std.specs.Prelude.{ℕ, ◌++◌, List};
+ghost use Rattle.std.specs.List.Sorted.{IsPermutation};
+ghost use Rattle.packet_core.specs.Params.{AreInRange};
+ghost use Rattle.packet_core.specs.declared.flow.Seed.{Seed};
+ghost use Rattle.packet_core.specs.declared.params.ParamFields.{ParamFields};
+ghost use Rattle.shaper_core.specs.Calls.{AreCalled, Call, given_back, handed_in};
+ghost use Rattle.shaper_core.specs.Shapers.{Shaping, new_shaper, unread_packets, waiting_packets};
+
+/// Each packet that was handed in was given back once, by its tag and its id, or its drop wasn't read yet, or it waits;
+/// and nothing else was given back. So it is after every list of calls, whatever the parameters, the seed and the
+/// renewals: the packets handed in are, in another order, those that the calls gave back, those whose drops weren't
+/// read, and those that wait. A packet is given back by the dequeue that sends it, where its drop is read, or by the
+/// flush that takes it out.
+pub fn packets_are_given_back_once()
+    ensures { (p : ParamFields) (seed : Seed) (renew_after : ℕ) → AreInRange p
+        → (calls : List Call) (s : Shaping) → AreCalled (new_shaper p seed renew_after) calls s
+        → IsPermutation (handed_in calls) (given_back calls ++ unread_packets s ++ waiting_packets s) }
+{}

@@ -1,0 +1,74 @@
+//! The packets that went through a shaper, which proofs alone read.
+
+ghost use Rattle.std.specs.Prelude.{◌≡◌, [], ◌∷◌, ◌++◌};
+
+use crate::answers::Handle;
+use sched_core::GhostList;
+use std::marker::Model;
+
+/// The packets that a shaper accepted, those that a dequeue gave, those whose drops were read and those that were flushed,
+/// over all renewals. It takes no memory.
+#[derive(Debug, Drop)]
+pub(crate) struct Life {
+    accepted: GhostList<Handle>,
+    sent: GhostList<Handle>,
+    read: GhostList<Handle>,
+    flushed: GhostList<Handle>,
+}
+
+impl Model for Life {
+    ghost use Rattle.shaper_core.specs.Lives.{Packets};
+    ghost use Rattle.shaper_core.specs.LivesKept.{packets_of};
+
+    ghost Value = { Packets };
+
+    ghost view = { packets_of };
+}
+
+impl Life {
+    ghost use Rattle.shaper_core.specs.Lives.{no_packets};
+
+    /// No packet yet.
+    pub(crate) fn new() -> Life
+        ensures { result ≡ no_packets }
+    {
+        Life {
+            accepted: GhostList::new(),
+            sent: GhostList::new(),
+            read: GhostList::new(),
+            flushed: GhostList::new(),
+        }
+    }
+
+    /// A packet is accepted.
+    #[inline(always)]
+    pub(crate) fn accept(&mut self, packet: Handle)
+        ensures { self.new ≡ record self.old { accepted = self.old.accepted ++ packet ∷ [] } }
+    {
+        self.accepted = self.accepted.and(&packet);
+    }
+
+    /// A packet is given by a dequeue.
+    #[inline(always)]
+    pub(crate) fn send(&mut self, packet: Handle)
+        ensures { self.new ≡ record self.old { sent = self.old.sent ++ packet ∷ [] } }
+    {
+        self.sent = self.sent.and(&packet);
+    }
+
+    /// A packet's drop is read.
+    #[inline(always)]
+    pub(crate) fn read(&mut self, packet: Handle)
+        ensures { self.new ≡ record self.old { read = self.old.read ++ packet ∷ [] } }
+    {
+        self.read = self.read.and(&packet);
+    }
+
+    /// A packet is flushed.
+    #[inline(always)]
+    pub(crate) fn flush(&mut self, packet: Handle)
+        ensures { self.new ≡ record self.old { flushed = self.old.flushed ++ packet ∷ [] } }
+    {
+        self.flushed = self.flushed.and(&packet);
+    }
+}

@@ -1,0 +1,91 @@
+//! Packets that wait are given back by a flush.
+
+use crate::shapers::{packet, shaper};
+use sched_core::Cause;
+use shaper_core::{Dropped, Flushed, Shaper, ShaperTotals};
+use std::process::Abort;
+
+/// What stands where no packet was written.
+const NONE: Flushed = Flushed { tag: 999, id: 999 };
+
+/// The packet with that id, whose tag is 100 more.
+fn flushed(id: u64) -> Flushed {
+    Flushed { tag: 100 + id, id }
+}
+
+/// A packet comes to that port, with a tag 100 more than its id.
+fn come<R: Abort>(rt: &R, shaper: &mut Shaper, moment: u64, port: u16, id: u64) {
+    let enqueued = shaper.enqueue(moment, packet(rt, port, 100 + id)).ok();
+    assert!(rt; enqueued.expect(rt, "an accepted packet").id == id);
+}
+
+/// Packets 0, 2 and 4 wait in one flow, and 1 and 3 in another. A quantum is 1,514 bytes, so two packets of 1,000 go in
+/// a flow's first turn.
+fn flush_in_parts<R: Abort>(rt: &R, shaper: &mut Shaper) {
+    for id in 0..5 {
+        come(rt, shaper, 7, 1 + (id % 2) as u16, id);
+    }
+    let mut three = [NONE; 3];
+    assert!(rt; shaper.flush(&mut three) == 3 && shaper.queued() == 2);
+    assert!(rt; three == [flushed(0), flushed(2), flushed(1)]);
+    assert!(rt; shaper.flush(&mut []) == 0 && shaper.queued() == 2);
+    let mut four = [NONE; 4];
+    assert!(rt; shaper.flush(&mut four) == 2 && shaper.queued() == 0);
+    assert!(rt; four == [flushed(3), flushed(4), NONE, NONE]);
+    assert!(rt; shaper.flush(&mut four) == 0 && shaper.unread() == 0);
+    assert!(rt; four == [flushed(3), flushed(4), NONE, NONE] && shaper.last_moment() == 7);
+}
+
+/// Five packets of 1,000 bytes were accepted, and all of them flushed.
+fn all_flushed() -> ShaperTotals {
+    ShaperTotals {
+        accepted: 5,
+        accepted_bytes: 5_000,
+        flushed: 5,
+        flushed_bytes: 5_000,
+        ..ShaperTotals::default()
+    }
+}
+
+#[test]
+fn flush_gives_all_that_waits(rt: HostRuntime) {
+    let mut shaper = shaper(&rt, 30);
+    flush_in_parts(&rt, &mut shaper);
+    assert!(rt; shaper.totals() == all_flushed());
+    assert!(rt; shaper.close(7) == Ok(()) && shaper.totals().closed);
+}
+
+/// One packet is sent after 200 ms, which CoDel notes, and an arrival moves the moment on by more than an interval. So
+/// the flush's first packet is dropped by CoDel, and the others are flushed.
+fn flush_after_long_wait<R: Abort>(rt: &R, shaper: &mut Shaper) {
+    for id in 0..6 {
+        come(rt, shaper, 0, 1, id);
+    }
+    let dequeued = shaper.dequeue(200_000).ok().expect(rt, "a dequeue");
+    assert!(rt; dequeued.sent.expect(rt, "a packet").id == 0 && dequeued.drops == 0);
+    come(rt, shaper, 310_000, 1, 6);
+    let mut out = [NONE; 10];
+    assert!(rt; shaper.flush(&mut out) == 5 && shaper.queued() == 0);
+    for (place, packet) in out[..5].iter().enumerate() {
+        assert!(rt; *packet == flushed(2 + place as u64));
+    }
+    assert!(rt; out[5] == NONE && out[9] == NONE);
+    let dropped = Dropped {
+        tag: 101,
+        id: 1,
+        cause: Cause::Codel,
+    };
+    assert!(rt; shaper.next_drop() == Some(dropped) && shaper.next_drop().is_none());
+}
+
+#[test]
+fn flush_drops_what_waited_long(rt: HostRuntime) {
+    let mut shaper = shaper(&rt, 30);
+    flush_after_long_wait(&rt, &mut shaper);
+    let totals = shaper.totals();
+    assert!(rt; totals.accepted == 7 && totals.accepted_bytes == 7_000);
+    assert!(rt; totals.sent == 1 && totals.sent_bytes == 1_000);
+    assert!(rt; totals.flushed == 5 && totals.flushed_bytes == 5_000);
+    assert!(rt; totals.dropped_codel == 1 && totals.dropped_bytes == 1_000);
+    assert!(rt; totals.queued == 0 && totals.queued_bytes == 0);
+}

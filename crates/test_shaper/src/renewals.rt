@@ -1,0 +1,97 @@
+//! A shaper goes on with a scheduler as new after a number of packets.
+
+use crate::shapers::{packet, shaper_renewed_after};
+use sched_core::{MomentFault, Refusal};
+use shaper_core::{Dropped, EnqueueFault, Flushed, RENEW_AFTER, Shaper};
+use std::process::Abort;
+
+/// A packet comes to that port, with a tag 100 more than its id.
+fn come<R: Abort>(rt: &R, shaper: &mut Shaper, moment: u64, port: u16, id: u64) {
+    let enqueued = shaper.enqueue(moment, packet(rt, port, 100 + id)).ok();
+    assert!(rt; enqueued.expect(rt, "an accepted packet").id == id);
+}
+
+/// The packet with that id is sent.
+fn send<R: Abort>(rt: &R, shaper: &mut Shaper, moment: u64, id: u64) {
+    let dequeued = shaper.dequeue(moment).ok().expect(rt, "a dequeue");
+    let sent = dequeued.sent.expect(rt, "a packet");
+    assert!(rt; sent.id == id && sent.packet.tag() == 100 + id && sent.moment == moment);
+}
+
+/// Two packets of flow 2 are sent, and one of flow 1 is flushed. Flow 2 had two quanta of 1,514 bytes, and sent 2,000.
+fn pass_three<R: Abort>(rt: &R, shaper: &mut Shaper) {
+    come(rt, shaper, 1, 2, 0);
+    come(rt, shaper, 1, 2, 1);
+    come(rt, shaper, 2, 1, 2);
+    send(rt, shaper, 3, 0);
+    send(rt, shaper, 4, 1);
+    let mut out = [Flushed { tag: 0, id: 0 }];
+    assert!(rt; shaper.flush(&mut out) == 1 && out[0] == Flushed { tag: 102, id: 2 });
+    assert!(rt; shaper.queued() == 0 && shaper.flow_view(2).credits == 1_028);
+}
+
+/// The next packet comes to a scheduler as new, whose flow 2 has no credits. A moment before the last one is refused
+/// before it and after it. Ids and totals go on.
+fn renew_once<R: Abort>(rt: &R, shaper: &mut Shaper) {
+    pass_three(rt, shaper);
+    let before = MomentFault::Backwards { last: 4 };
+    let refused = EnqueueFault::Refused(Refusal::Moment(before));
+    assert!(rt; shaper.enqueue(3, packet(rt, 1, 103)) == Err(refused));
+    assert!(rt; shaper.flow_view(2).credits == 1_028);
+    come(rt, shaper, 4, 1, 3);
+    assert!(rt; shaper.flow_view(2).credits == 0 && shaper.flow_view(1).len == 1);
+    assert!(rt; shaper.dequeue(3) == Err(before) && shaper.last_moment() == 4);
+    send(rt, shaper, 5, 3);
+    let totals = shaper.totals();
+    assert!(rt; totals.accepted == 4 && totals.accepted_bytes == 4_000);
+    assert!(rt; totals.sent == 3 && totals.sent_bytes == 3_000);
+    assert!(rt; totals.flushed == 1 && totals.flushed_bytes == 1_000 && totals.queued == 0);
+}
+
+#[test]
+fn ids_totals_and_moments_go_on(rt: HostRuntime) {
+    let mut shaper = shaper_renewed_after(&rt, 4, 3);
+    renew_once(&rt, &mut shaper);
+}
+
+/// After 2^39 packets of one scheduler, and not after three.
+#[test]
+fn renewed_late_unless_asked_for(rt: HostRuntime) {
+    let mut shaper = shaper_renewed_after(&rt, 4, RENEW_AFTER);
+    pass_three(&rt, &mut shaper);
+    come(&rt, &mut shaper, 4, 1, 3);
+    assert!(rt; shaper.flow_view(2).credits == 1_028);
+}
+
+/// No renewal while a packet waits, and none while a drop is unread, since then no packet is accepted. Drops have their
+/// ids after a renewal, too.
+fn drop_after_renewal<R: Abort>(rt: &R, shaper: &mut Shaper) {
+    for round in 0..3 {
+        come(rt, shaper, round, 1, 2 * round);
+        come(rt, shaper, round, 1, 2 * round + 1);
+        let refused = shaper.enqueue(round, packet(rt, 1, 0));
+        assert!(rt; refused == Err(EnqueueFault::Unread));
+        let dropped = shaper.next_drop().expect(rt, "a drop");
+        let Dropped { tag, id, .. } = dropped;
+        assert!(rt; id == 2 * round && tag == 100 + id && shaper.unread() == 0);
+        send(rt, shaper, round, 2 * round + 1);
+    }
+    let totals = shaper.totals();
+    assert!(rt; totals.accepted == 6 && totals.sent == 3 && totals.dropped_overflow == 3);
+}
+
+#[test]
+fn drops_keep_their_ids(rt: HostRuntime) {
+    let mut shaper = shaper_renewed_after(&rt, 1, 2);
+    drop_after_renewal(&rt, &mut shaper);
+}
+
+#[test]
+fn closed_shaper_stays_closed(rt: HostRuntime) {
+    let mut shaper = shaper_renewed_after(&rt, 4, 3);
+    pass_three(&rt, &mut shaper);
+    assert!(rt; shaper.close(4) == Ok(()));
+    let refused = shaper.enqueue(5, packet(&rt, 1, 103));
+    assert!(rt; refused == Err(EnqueueFault::Refused(Refusal::ClosedAlready)));
+    assert!(rt; shaper.is_closed() && shaper.flow_view(2).credits == 1_028);
+}
