@@ -19,5 +19,5 @@ pub use packets::{Fate, PacketRecord, Packets};
 pub use percentiles::percentile;
 pub use series::series_text;
 pub use steps::steps_text;
-pub use summary::{Delays, MAX_EVENTS, Summary, summarize};
+pub use summary::{Delays, MAX_EVENTS, Summary, delays_of, summarize};
 pub use table::Queue;

@@ -237,7 +237,7 @@ impl Packets {
     }
 
     /// The five-tuples, in the order of their first arrivals.
-    pub(crate) fn tuples(&self) -> &[FiveTuple]
+    pub fn tuples(&self) -> &[FiveTuple]
         ensures { result.now ≡ self.now.tuples }
     {
         self.tuples.as_slice()

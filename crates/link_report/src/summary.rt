@@ -126,8 +126,8 @@ fn sent_bytes(packets: &[PacketRecord]) -> u64
     total
 }
 
-/// The delays of the packets that were sent.
-fn delays_of(alloc: Global, packets: &[PacketRecord]) -> Result<Vec<u64>, Memory>
+/// The delays of the packets that were sent, in microseconds, in their order. It fails for want of memory alone.
+pub fn delays_of(alloc: Global, packets: &[PacketRecord]) -> Result<Vec<u64>, Memory>
     ensures { IfOk result (λ delays. delays.items ≡ delays_of packets.now) }
 {
     let mut delays = Vec::new(alloc);
