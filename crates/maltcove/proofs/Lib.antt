@@ -1,2 +1,3 @@
 pub mod AsBox
 pub mod WordLemmas
+pub mod Readings

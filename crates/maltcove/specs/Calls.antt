@@ -1,5 +1,5 @@
 -- What the calls from C do with the shaper behind a handle.
-use Rattle.std.specs.Prelude.{◌≡◌, ◌≢◌, ◌⊎◌, ℕ, ℤ, ◌+◌, ◌<◌, List, length, slice_index_or, Some, None}
+use Rattle.std.specs.Prelude.{◌≡◌, ◌≢◌, ◌⊎◌, ℕ, ℤ, List, length, map, Some, None}
 use Rattle.std.specs.declared.option.Option.{Option}
 use Rattle.std.specs.declared.option.Option.TheVariants as option
 use Rattle.packet_core.specs.Packets.{PacketParts}
@@ -7,26 +7,26 @@ use Rattle.packet_core.specs.declared.flow.Seed.{Seed}
 use Rattle.packet_core.specs.declared.params.ParamFields.{ParamFields}
 use Rattle.journal_core.specs.Calls.{close_refusal}
 use Rattle.journal_core.specs.State.{refusal_of}
-use Rattle.journal_core.specs.declared.outcome.Answer.TheVariants as answer
 use Rattle.journal_core.specs.declared.step.CloseFault.{CloseFault}
 use Rattle.journal_core.specs.declared.step.MomentFault.{MomentFault}
 use Rattle.journal_core.specs.declared.step.Refusal.TheVariants as refusal
 use Rattle.journal_core.specs.declared.step.Sent.{Sent}
 use Rattle.journal_core.specs.declared.step.Step.TheVariants.{Close, Dequeue, Enqueue}
-use Rattle.sched_core.specs.Schedulers.{IsAdvanced}
-use Rattle.shaper_core.specs.Drops.{IsDropAt}
 use Rattle.shaper_core.specs.Faults.{IsFault}
-use Rattle.shaper_core.specs.Shapers.{IsDequeued, IsEnqueued, Shaping, events_of, lost_of, new_shaper, read_of}
+use Rattle.shaper_core.specs.Shapers.{AreFlushed, AreRead, FindsNone, IsDequeued, IsEnqueued, Shaping, new_shaper}
 use Rattle.shaper_core.specs.declared.answers.Dequeued.{Dequeued}
 use Rattle.shaper_core.specs.declared.answers.Dropped.{Dropped}
 use Rattle.shaper_core.specs.declared.answers.EnqueueFault.{EnqueueFault}
 use Rattle.shaper_core.specs.declared.answers.Enqueued.{Enqueued}
-use Rattle.maltcove.specs.Records.{admitted_told, dropped_told, idle_told, nothing_told, sent_told}
+use Rattle.shaper_core.specs.declared.answers.Handle.{Handle}
+use Rattle.shaper_core.specs.declared.shaper.TheConstants.{RENEW_AFTER}
+use Rattle.maltcove.specs.Records.{admitted_told, dropped_told, flushed_told, idle_told, nothing_told, sent_told}
 use Rattle.maltcove.specs.Statuses.{close_code, enqueue_code, moment_code}
 use Rattle.maltcove.specs.Texts.{IsWrong, SaysParams}
 use Rattle.maltcove.specs.declared.records.MaltcoveAdmitted.{MaltcoveAdmitted}
 use Rattle.maltcove.specs.declared.records.MaltcoveDropped.{MaltcoveDropped}
 use Rattle.maltcove.specs.declared.records.MaltcoveFault.{MaltcoveFault}
+use Rattle.maltcove.specs.declared.records.MaltcoveFlushed.{MaltcoveFlushed}
 use Rattle.maltcove.specs.declared.records.MaltcoveSent.{MaltcoveSent}
 use Rattle.maltcove.specs.declared.status.TheConstants.{BAD_SEED, BAD_WORDS, MEMORY}
 
@@ -81,7 +81,7 @@ pub record Opens (words seed : List ℕ) (new : Shaping) : Type 0 where
   pub says : SaysParams words params
   pub secret : Seed
   pub seed_is : secret.0 ≡ seed
-  pub is_new : new ≡ new_shaper params secret
+  pub is_new : new ≡ new_shaper params secret RENEW_AFTER
 
 -- Why none is opened, and what C reads as the fault.
 abbrev pub RefusesOpen : List ℕ → List ℕ → MaltcoveFault → ℤ → Type 0
@@ -91,21 +91,26 @@ RefusesOpen words seed told answer =
     × ((params : ParamFields) × SaysParams words params))
     ⊎ ((answer ≡ MEMORY) × (told ≡ nothing_told))
 
--- A close is made.
-pub record Closes (old : Shaping) (moment : ℕ) (new : Shaping) : Type 0 where
-  pub advanced : IsAdvanced old.sched (Close moment) answer.Closed new.sched
-  pub unread : new.unread ≡ old.unread
-
 -- A close is refused for that.
 pub record RefusesClose (old : Shaping) (moment : ℕ) (answer : ℤ) : Type 0 where
   pub fault : CloseFault
   pub is_fault : refusal_of old.sched.standing.state (Close moment) ≡ Some (close_refusal fault)
   pub code : answer ≡ close_code fault
 
--- So many drops are read, and C reads them: the first of those that weren't, in their order.
+-- Drops are read, and C reads them: each the first of those that weren't read.
 pub record ReadsDrops (old : Shaping) (outs : List MaltcoveDropped) (new : Shaping) : Type 0 where
-  pub each : (k : ℕ) (out : MaltcoveDropped) → k < length outs
-      → (d : Dropped) × IsDropAt (events_of old) (lost_of old) (read_of old + k) d
-      × (slice_index_or outs k out ≡ dropped_told d)
-  pub unread : old.unread ≡ new.unread + length outs
-  pub sched : new.sched ≡ old.sched
+  pub drops : List Dropped
+  pub reads : AreRead old drops new
+  pub told : outs ≡ map dropped_told drops
+
+-- Packets that wait are flushed, and C reads them.
+pub record Flushes (old : Shaping) (outs : List MaltcoveFlushed) (new : Shaping) : Type 0 where
+  pub packets : List Handle
+  pub flushes : AreFlushed old packets new
+  pub told : outs ≡ map flushed_told packets
+
+-- The same, and then none waits.
+pub record FlushesAllTold (old : Shaping) (outs : List MaltcoveFlushed) (new : Shaping) : Type 0 where
+  pub mid : Shaping
+  pub flushes : Flushes old outs mid
+  pub ends : FindsNone mid new

@@ -18,14 +18,16 @@ use Rattle.codel_core.specs.declared.served.Mark.TheVariants.{NoMark, CodelMark,
 use Rattle.journal_core.specs.declared.event.Cause.{Cause}
 use Rattle.journal_core.specs.declared.event.Cause.TheVariants.{Codel, Overflow}
 use Rattle.journal_core.specs.declared.step.Sent.{Sent}
-use Rattle.journal_core.specs.declared.totals.Totals.{Totals}
 use Rattle.fair_core.specs.declared.flow_view.FlowView.{FlowView}
 use Rattle.shaper_core.specs.declared.answers.Dropped.{Dropped}
 use Rattle.shaper_core.specs.declared.answers.Enqueued.{Enqueued}
+use Rattle.shaper_core.specs.declared.answers.Handle.{Handle}
+use Rattle.shaper_core.specs.declared.totals.ShaperTotals.{ShaperTotals}
 use Rattle.maltcove.specs.declared.records.MaltcoveAdmitted.{MaltcoveAdmitted}
 use Rattle.maltcove.specs.declared.records.MaltcoveDropped.{MaltcoveDropped}
 use Rattle.maltcove.specs.declared.records.MaltcoveFault.{MaltcoveFault}
 use Rattle.maltcove.specs.declared.records.MaltcoveFlow.{MaltcoveFlow}
+use Rattle.maltcove.specs.declared.records.MaltcoveFlushed.{MaltcoveFlushed}
 use Rattle.maltcove.specs.declared.records.MaltcovePacket.{MaltcovePacket}
 use Rattle.maltcove.specs.declared.records.MaltcoveParams.{MaltcoveParams}
 use Rattle.maltcove.specs.declared.records.MaltcoveSent.{MaltcoveSent}
@@ -107,8 +109,12 @@ cause_code Overflow = 1
 abbrev pub dropped_told : Dropped → MaltcoveDropped
 dropped_told d = record { tag = d.tag; id = d.id; cause = cause_code d.cause }
 
+-- what C reads of a packet that was flushed
+abbrev pub flushed_told : Handle → MaltcoveFlushed
+flushed_told packet = record { tag = packet.tag; id = packet.id }
+
 -- what C reads of the statistics
-abbrev pub totals_told : Totals → MaltcoveTotals
+abbrev pub totals_told : ShaperTotals → MaltcoveTotals
 totals_told t = record {
   accepted = t.accepted;
   accepted_bytes = t.accepted_bytes;
@@ -117,8 +123,8 @@ totals_told t = record {
   dropped_codel = t.dropped_codel;
   dropped_overflow = t.dropped_overflow;
   dropped_bytes = t.dropped_bytes;
-  flushed = 0;
-  flushed_bytes = 0;
+  flushed = t.flushed;
+  flushed_bytes = t.flushed_bytes;
   marked = t.marked;
   threshold_marked = t.threshold_marked;
   queued = t.queued;

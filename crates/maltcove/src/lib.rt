@@ -5,6 +5,7 @@
 #![tactic(auto)]
 
 mod handle;
+mod losses;
 mod opening;
 mod packets;
 mod parts;

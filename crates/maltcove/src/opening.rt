@@ -2,8 +2,9 @@
 
 ghost use Rattle.std.specs.Prelude.{◌≡◌, ◌≢◌, ◌↔◌, IfErr, IfOk, IfSome, IsOk, IsSome, None, map};
 ghost use Rattle.packet_core.specs.declared.flow.Seed.{Seed};
-ghost use Rattle.shaper_core.specs.Shapers.{new_shaper};
-ghost use Rattle.maltcove.specs.Calls.{Behind, Closes, IfBehind, Opens, RefusesClose, RefusesOpen};
+ghost use Rattle.shaper_core.specs.Shapers.{IsClosed, new_shaper};
+ghost use Rattle.shaper_core.specs.declared.shaper.TheConstants.{RENEW_AFTER};
+ghost use Rattle.maltcove.specs.Calls.{Behind, IfBehind, Opens, RefusesClose, RefusesOpen};
 ghost use Rattle.maltcove.specs.Records.{nothing_told};
 ghost use Rattle.maltcove.specs.Texts.{AreWords, IsWhy, SaysParams};
 ghost use Rattle.maltcove.specs.declared.status.TheConstants.{ALREADY_OPEN, NOT_OPEN, OK};
@@ -62,7 +63,7 @@ fn params_in(alloc: Global, text: &[u8]) -> Result<Params, NoParams>
 
 /// A scheduler with these parameters.
 fn shaper_with(alloc: Global, params: Params, seed: [u8; 16]) -> Option<Box<Shaper>>
-    ensures { IfSome result (λ s. (secret : Seed) × (secret.0 ≡ seed) × (s.value ≡ new_shaper params secret)) }
+    ensures { IfSome result (λ s. (secret : Seed) × (secret.0 ≡ seed) × (s.value ≡ new_shaper params secret RENEW_AFTER)) }
 {
     let shaper = Shaper::open(alloc, params, Seed(seed)).ok()?;
     Box::new(alloc, shaper).ok()
@@ -137,7 +138,7 @@ pub extern "C" fn maltcove_raw_free(alloc: Global, m: &mut Maltcove)
 
 /// Closes a scheduler.
 fn end(shaper: &mut Shaper, moment: u64) -> i32
-    ensures made { result ≡ OK → Closes shaper.old moment shaper.new }
+    ensures made { result ≡ OK → IsClosed shaper.old moment shaper.new }
     ensures refused { result ≢ OK → RefusesClose shaper.old moment result }
     ensures unchanged { result ≢ OK → shaper.new ≡ shaper.old }
     ensures open { result ≢ NOT_OPEN }
@@ -152,7 +153,7 @@ fn end(shaper: &mut Shaper, moment: u64) -> i32
 #[unsafe(no_mangle)]
 pub extern "C" fn maltcove_raw_close(alloc: Global, m: &mut Maltcove, moment: u64) -> i32
     ensures none { (result ≡ NOT_OPEN) ↔ (m.old.handle.value ≡ None) }
-    ensures made { result ≡ OK → Behind (λ a b. Closes a moment b) m.old.handle.value m.new.handle.value }
+    ensures made { result ≡ OK → Behind (λ a b. IsClosed a moment b) m.old.handle.value m.new.handle.value }
     ensures refused { result ≢ OK → IfBehind (λ a. RefusesClose a moment result) m.old.handle.value }
     ensures unchanged { result ≢ OK → m.new.handle.value ≡ m.old.handle.value }
 {

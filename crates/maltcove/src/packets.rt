@@ -234,33 +234,3 @@ pub extern "C" fn maltcove_raw_dequeue_burst(
     put(m, shaper);
     code
 }
-
-/// Reads drops into the places, as many as there are of both, and says how many.
-fn read_drops(shaper: &mut Shaper, out: &mut [MaltcoveDropped]) -> u64 {
-    let mut read = 0u64;
-    for place in out {
-        let Some(dropped) = shaper.next_drop() else {
-            break;
-        };
-        *place = dropped_of(&dropped);
-        read = read.wrapping_add(1);
-    }
-    read
-}
-
-/// Reads the drops that weren't read yet, as many as there is room for.
-#[unsafe(no_mangle)]
-pub extern "C" fn maltcove_raw_drops(
-    alloc: Global,
-    m: &mut Maltcove,
-    out: &mut [MaltcoveDropped],
-    read: &mut u64,
-) -> i32 {
-    *read = 0;
-    let Some(mut shaper) = take(alloc, m) else {
-        return NOT_OPEN;
-    };
-    *read = read_drops(&mut shaper, out);
-    put(m, shaper);
-    OK
-}

@@ -2,11 +2,11 @@
 
 ghost use Rattle.std.specs.Prelude.{◌≡◌, IfSome, IsNone};
 ghost use Rattle.packet_core.specs.Packets.{PacketParts};
-ghost use Rattle.maltcove.specs.Records.{Says, SaysInFlow, address_in, admitted_told, cause_code, dropped_told, ecn_bits, ecn_in, fault_told, flow_told, idle_told, mark_code, nothing_told, params_told, sent_told, totals_told};
+ghost use Rattle.maltcove.specs.Records.{Says, SaysInFlow, address_in, admitted_told, cause_code, dropped_told, ecn_bits, ecn_in, fault_told, flow_told, flushed_told, idle_told, mark_code, nothing_told, params_told, sent_told, totals_told};
 
 use packet_core::{Classify, Ecn, EcnUse, FiveTuple, Ip, Packet, ParamFault, Params};
-use sched_core::{Cause, FlowView, Mark, Sent, Totals};
-use shaper_core::{Dropped, Enqueued};
+use sched_core::{Cause, FlowView, Mark, Sent};
+use shaper_core::{Dropped, Enqueued, Handle, ShaperTotals};
 
 /// A packet that comes.
 #[repr(C)]
@@ -80,6 +80,18 @@ pub struct MaltcoveDropped {
 }
 
 const _: () = prove!(size_of::<MaltcoveDropped>() == 24);
+
+/// A packet that was flushed.
+#[repr(C)]
+#[derive(Drop)]
+pub struct MaltcoveFlushed {
+    /// Its tag.
+    pub(crate) tag: u64,
+    /// Its id.
+    pub(crate) id: u64,
+}
+
+const _: () = prove!(size_of::<MaltcoveFlushed>() == 16);
 
 /// What became of the packets.
 #[repr(C)]
@@ -310,8 +322,18 @@ pub(crate) fn dropped_of(dropped: &Dropped) -> MaltcoveDropped
     }
 }
 
+/// What C is told of a packet that was flushed.
+pub(crate) fn flushed_of(packet: &Handle) -> MaltcoveFlushed
+    ensures { result ≡ flushed_told packet.now }
+{
+    MaltcoveFlushed {
+        tag: packet.tag,
+        id: packet.id,
+    }
+}
+
 /// The statistics for C.
-pub(crate) fn totals_of(totals: &Totals) -> MaltcoveTotals
+pub(crate) fn totals_of(totals: &ShaperTotals) -> MaltcoveTotals
     ensures { result ≡ totals_told totals.now }
 {
     MaltcoveTotals {
@@ -322,8 +344,8 @@ pub(crate) fn totals_of(totals: &Totals) -> MaltcoveTotals
         dropped_codel: totals.dropped_codel,
         dropped_overflow: totals.dropped_overflow,
         dropped_bytes: totals.dropped_bytes,
-        flushed: 0,
-        flushed_bytes: 0,
+        flushed: totals.flushed,
+        flushed_bytes: totals.flushed_bytes,
         marked: totals.marked,
         threshold_marked: totals.threshold_marked,
         queued: totals.queued,

@@ -1,11 +1,9 @@
 //! The calls that look at a scheduler and change nothing.
 
 ghost use Rattle.std.specs.Prelude.{◌≡◌, ◌<◌, ◌≤◌, None};
-ghost use Rattle.journal_core.specs.Statistics.{statistics};
 ghost use Rattle.fair_core.specs.Shown.{flow_shown};
-ghost use Rattle.flow_core.specs.FlowLists.{waiting_in};
 ghost use Rattle.sched_core.specs.Schedulers.{flows_of};
-ghost use Rattle.shaper_core.specs.Shapers.{events_of};
+ghost use Rattle.shaper_core.specs.Shapers.{queued_in, totals_of};
 ghost use Rattle.maltcove.specs.Calls.{IfBehind};
 ghost use Rattle.maltcove.specs.Records.{flow_told, params_told, totals_told};
 ghost use Rattle.maltcove.specs.declared.status.TheConstants.{BAD_FLOW, NOT_OPEN, OK};
@@ -24,7 +22,7 @@ pub extern "C" fn maltcove_raw_totals(
     out: &mut MaltcoveTotals,
 ) -> i32
     ensures none { m.old.handle.value ≡ None → (result ≡ NOT_OPEN) × (out.new ≡ out.old) }
-    ensures shown { IfBehind (λ a. (result ≡ OK) × (out.new ≡ totals_told (statistics (events_of a)))) m.old.handle.value }
+    ensures shown { IfBehind (λ a. (result ≡ OK) × (out.new ≡ totals_told (totals_of a))) m.old.handle.value }
     ensures unchanged { m.new.handle.value ≡ m.old.handle.value }
 {
     let Some(shaper) = take(alloc, m) else {
@@ -39,7 +37,7 @@ pub extern "C" fn maltcove_raw_totals(
 #[unsafe(no_mangle)]
 pub extern "C" fn maltcove_raw_queued(alloc: Global, m: &mut Maltcove, out: &mut u64) -> i32
     ensures none { m.old.handle.value ≡ None → (result ≡ NOT_OPEN) × (out.new ≡ out.old) }
-    ensures shown { IfBehind (λ a. (result ≡ OK) × (out.new ≡ waiting_in (flows_of a.sched).lists)) m.old.handle.value }
+    ensures shown { IfBehind (λ a. (result ≡ OK) × (out.new ≡ queued_in a)) m.old.handle.value }
     ensures unchanged { m.new.handle.value ≡ m.old.handle.value }
 {
     let Some(shaper) = take(alloc, m) else {

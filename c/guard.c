@@ -1,0 +1,196 @@
+/*
+ * The calls of maltcove.h. Each answers null pointers, and then makes the proved call of the Rattle library, which
+ * takes none. No other thing is decided here.
+ */
+#include "maltcove.h"
+
+/* The proved calls (crates/maltcove). A slice is its place, which is never null, and then its length. */
+int32_t maltcove_raw_open(maltcove *m, const char *words, size_t words_len, const uint8_t *seed, size_t seed_len,
+			  maltcove_fault *fault);
+void maltcove_raw_free(maltcove *m);
+int32_t maltcove_raw_enqueue(maltcove *m, uint64_t now_us, const maltcove_packet *packet, maltcove_admitted *admitted);
+int32_t maltcove_raw_enqueue_flow(maltcove *m, uint64_t now_us, uint32_t flow, uint32_t len, uint8_t ecn, uint64_t tag,
+				  maltcove_admitted *admitted);
+int32_t maltcove_raw_dequeue(maltcove *m, uint64_t now_us, maltcove_sent *sent);
+int32_t maltcove_raw_dequeue_burst(maltcove *m, uint64_t now_us, maltcove_sent *sent, size_t n, uint64_t *given);
+int32_t maltcove_raw_drops(maltcove *m, maltcove_dropped *dropped, size_t n, uint64_t *read);
+int32_t maltcove_raw_flush(maltcove *m, maltcove_flushed *flushed, size_t n, uint64_t *given);
+int32_t maltcove_raw_close(maltcove *m, uint64_t now_us);
+int32_t maltcove_raw_is_closed(maltcove *m, bool *closed);
+int32_t maltcove_raw_queued(maltcove *m, uint64_t *queued);
+int32_t maltcove_raw_totals(maltcove *m, maltcove_totals_t *totals);
+int32_t maltcove_raw_flow(maltcove *m, uint32_t flow, maltcove_flow_t *view);
+int32_t maltcove_raw_params(maltcove *m, maltcove_params_t *params);
+
+int maltcove_open(maltcove *m, const char *words, size_t words_len, const uint8_t *seed, size_t seed_len,
+		  maltcove_fault *fault)
+{
+	static const uint8_t none[16];
+	maltcove_fault untold;
+
+	if (m == NULL || (words == NULL && words_len != 0) || (seed == NULL && seed_len != 0))
+		return MALTCOVE_NULL;
+	return maltcove_raw_open(m, words != NULL ? words : "", words_len, seed != NULL ? seed : none, seed_len,
+				 fault != NULL ? fault : &untold);
+}
+
+void maltcove_free(maltcove *m)
+{
+	if (m != NULL)
+		maltcove_raw_free(m);
+}
+
+int maltcove_enqueue(maltcove *m, uint64_t now_us, const maltcove_packet *packet, maltcove_admitted *admitted)
+{
+	if (m == NULL || packet == NULL || admitted == NULL)
+		return MALTCOVE_NULL;
+	return maltcove_raw_enqueue(m, now_us, packet, admitted);
+}
+
+int maltcove_enqueue_flow(maltcove *m, uint64_t now_us, uint32_t flow, uint32_t len, uint8_t ecn, uint64_t tag,
+			  maltcove_admitted *admitted)
+{
+	if (m == NULL || admitted == NULL)
+		return MALTCOVE_NULL;
+	return maltcove_raw_enqueue_flow(m, now_us, flow, len, ecn, tag, admitted);
+}
+
+int maltcove_dequeue(maltcove *m, uint64_t now_us, maltcove_sent *sent)
+{
+	if (m == NULL || sent == NULL)
+		return MALTCOVE_NULL;
+	return maltcove_raw_dequeue(m, now_us, sent);
+}
+
+/* A count, where the call was made. */
+static int64_t count_or(int32_t answer, uint64_t count)
+{
+	return answer < 0 ? answer : (int64_t)count;
+}
+
+int64_t maltcove_dequeue_burst(maltcove *m, uint64_t now_us, maltcove_sent *sent, size_t n)
+{
+	maltcove_sent none;
+	uint64_t given = 0;
+	int32_t answer;
+
+	if (m == NULL || (sent == NULL && n != 0))
+		return MALTCOVE_NULL;
+	answer = maltcove_raw_dequeue_burst(m, now_us, sent != NULL ? sent : &none, n, &given);
+	return count_or(answer, given);
+}
+
+int64_t maltcove_drops(maltcove *m, maltcove_dropped *dropped, size_t n)
+{
+	maltcove_dropped none;
+	uint64_t read = 0;
+	int32_t answer;
+
+	if (m == NULL || (dropped == NULL && n != 0))
+		return MALTCOVE_NULL;
+	answer = maltcove_raw_drops(m, dropped != NULL ? dropped : &none, n, &read);
+	return count_or(answer, read);
+}
+
+int64_t maltcove_flush(maltcove *m, maltcove_flushed *flushed, size_t n)
+{
+	maltcove_flushed none;
+	uint64_t given = 0;
+	int32_t answer;
+
+	if (m == NULL || (flushed == NULL && n != 0))
+		return MALTCOVE_NULL;
+	answer = maltcove_raw_flush(m, flushed != NULL ? flushed : &none, n, &given);
+	return count_or(answer, given);
+}
+
+int maltcove_close(maltcove *m, uint64_t now_us)
+{
+	if (m == NULL)
+		return MALTCOVE_NULL;
+	return maltcove_raw_close(m, now_us);
+}
+
+int maltcove_is_closed(maltcove *m)
+{
+	bool closed = false;
+	int32_t answer;
+
+	if (m == NULL)
+		return MALTCOVE_NULL;
+	answer = maltcove_raw_is_closed(m, &closed);
+	return answer < 0 ? answer : closed;
+}
+
+int64_t maltcove_queued(maltcove *m)
+{
+	uint64_t queued = 0;
+	int32_t answer;
+
+	if (m == NULL)
+		return MALTCOVE_NULL;
+	answer = maltcove_raw_queued(m, &queued);
+	return count_or(answer, queued);
+}
+
+int maltcove_totals(maltcove *m, maltcove_totals_t *totals)
+{
+	if (m == NULL || totals == NULL)
+		return MALTCOVE_NULL;
+	return maltcove_raw_totals(m, totals);
+}
+
+int maltcove_flow(maltcove *m, uint32_t flow, maltcove_flow_t *view)
+{
+	if (m == NULL || view == NULL)
+		return MALTCOVE_NULL;
+	return maltcove_raw_flow(m, flow, view);
+}
+
+int maltcove_params(maltcove *m, maltcove_params_t *params)
+{
+	if (m == NULL || params == NULL)
+		return MALTCOVE_NULL;
+	return maltcove_raw_params(m, params);
+}
+
+const char *maltcove_strerror(int answer)
+{
+	switch (answer) {
+	case MALTCOVE_OK: return "the call was made";
+	case MALTCOVE_IDLE: return "no packet waits";
+	case MALTCOVE_NOT_OPEN: return "the scheduler is not open";
+	case MALTCOVE_TOO_LARGE: return "the moment is 2^60 microseconds or more";
+	case MALTCOVE_BACKWARDS: return "the moment is before that of the last call";
+	case MALTCOVE_CLOSED: return "the scheduler was closed";
+	case MALTCOVE_EXHAUSTED: return "there are no more ids";
+	case MALTCOVE_MEMORY: return "a growth was refused";
+	case MALTCOVE_BAD_PACKET: return "a field of the packet is out of its range";
+	case MALTCOVE_BAD_WORDS: return "a word is no parameter";
+	case MALTCOVE_UNREAD: return "drops of earlier calls were not read";
+	case MALTCOVE_ALREADY_OPEN: return "the scheduler is open already";
+	case MALTCOVE_BAD_SEED: return "the seed has another length than 16 bytes";
+	case MALTCOVE_BAD_FLOW: return "there is no flow of that number";
+	case MALTCOVE_HASHED: return "the scheduler chooses the flows by a hash";
+	case MALTCOVE_NULL: return "a pointer is null";
+	default: return "no answer of this library";
+	}
+}
+
+const char *maltcove_fault_text(int kind)
+{
+	switch (kind) {
+	case MALTCOVE_WORDS_FINE: return "no word is wrong";
+	case MALTCOVE_UNKNOWN_WORD: return "the word names no parameter";
+	case MALTCOVE_MISSING_VALUE: return "no value stands after the parameter";
+	case MALTCOVE_NOT_A_NUMBER: return "the value is not written as a number or a time is";
+	case MALTCOVE_OUT_OF_RANGE: return "the value is out of its range";
+	case MALTCOVE_NOT_UTF8: return "the text is not UTF-8";
+	default: return "no fault of this library";
+	}
+}
+
+const char *maltcove_version(void)
+{
+	return MALTCOVE_VERSION;
+}

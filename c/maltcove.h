@@ -1,0 +1,304 @@
+/*
+ * maltcove.h: a packet scheduler by FQ-CoDel (RFC 8290), for C11 and C++17.
+ *
+ * A scheduler decides which packet goes next, which one is dropped and which one is marked. It holds no packet: the
+ * caller has the buffers, and gives each packet a tag of 64 bits, as the address of its buffer. Each tag that is handed
+ * in comes back once: as sent (maltcove_dequeue), as dropped (maltcove_drops) or as flushed (maltcove_flush).
+ *
+ *     maltcove m = MALTCOVE_INIT;
+ *     maltcove_open(&m, "flows 1024", 10, seed, 16, NULL);
+ *     maltcove_enqueue(&m, now, &packet, &admitted);      then maltcove_drops, where admitted.drops > 0
+ *     maltcove_dequeue(&m, now, &sent);                   then maltcove_drops, where sent.drops > 0
+ *     maltcove_flush(&m, flushed, 64);                    until it answers 0, then maltcove_drops
+ *     maltcove_free(&m);
+ *
+ * Link with -lmaltcove. The library needs malloc, realloc, free, memcpy, memmove and memset, and nothing else.
+ *
+ * Answers. A call answers MALTCOVE_OK, or a count from 0 on, or a negative number of the list below. After a negative
+ * one nothing has changed: neither the scheduler nor what the other pointers point to, but for the fault of
+ * maltcove_open.
+ *
+ * Units. Moments are whole microseconds below 2^60, of a clock that the caller chooses. Lengths are bytes.
+ *
+ * Clocks. A moment may equal the last one, and must not be before it: else the answer is MALTCOVE_BACKWARDS. So use a
+ * clock that doesn't step back, as CLOCK_MONOTONIC. Where moments come from the clocks of several processors, which may
+ * differ by a little, pass the later of the moment and the last one that was passed.
+ *
+ * Owners. The caller owns the struct maltcove, and the library owns its 16 bytes: no one else may copy or change them
+ * while the scheduler is open. The library keeps no pointer that is passed to a call.
+ *
+ * Memory. maltcove_open takes all memory, and no other call takes any but an enqueue at a renewal, once in 2^39 packets
+ * at most (see maltcove_enqueue). maltcove_free gives it back. heap.c has the three functions that the library takes
+ * memory by; a program that defines all three itself replaces them.
+ *
+ * Threads. A scheduler stays on the thread that opened it, one call at a time: that it may go to another one isn't
+ * proved yet. Two schedulers share nothing, so each thread may have its own. No call may come from a signal handler.
+ */
+#ifndef MALTCOVE_H
+#define MALTCOVE_H
+
+#include <stdbool.h>
+#include <stddef.h>
+#include <stdint.h>
+
+#ifdef __cplusplus
+extern "C" {
+#endif
+
+#define MALTCOVE_VERSION_MAJOR 0
+#define MALTCOVE_VERSION_MINOR 1
+#define MALTCOVE_VERSION_PATCH 0
+#define MALTCOVE_VERSION "0.1.0"
+
+/* A scheduler, or none. All bytes 0 are none. The fields are the library's own. */
+typedef struct maltcove {
+	void *inner;
+	bool is_open;
+} maltcove;
+
+#define MALTCOVE_INIT { NULL, false }
+
+/* What the calls answer. */
+enum {
+	MALTCOVE_OK = 0,            /* the call was made */
+	MALTCOVE_IDLE = 1,          /* the dequeue was made, and no packet waits */
+	MALTCOVE_NOT_OPEN = -1,     /* there is no scheduler */
+	MALTCOVE_TOO_LARGE = -2,    /* the moment is 2^60 or more */
+	MALTCOVE_BACKWARDS = -3,    /* the moment is before that of the last call that was made */
+	MALTCOVE_CLOSED = -4,       /* the scheduler was closed */
+	MALTCOVE_EXHAUSTED = -5,    /* there are no more ids: see maltcove_enqueue */
+	MALTCOVE_MEMORY = -6,       /* a growth was refused */
+	MALTCOVE_BAD_PACKET = -7,   /* a field of the packet is out of its range */
+	MALTCOVE_BAD_WORDS = -8,    /* a word is no parameter: the fault says which and why */
+	MALTCOVE_UNREAD = -9,       /* drops of earlier calls were not read */
+	MALTCOVE_ALREADY_OPEN = -10,
+	MALTCOVE_BAD_SEED = -11,    /* the seed has another length than 16 bytes */
+	MALTCOVE_BAD_FLOW = -12,    /* there is no flow of that number */
+	MALTCOVE_HASHED = -13,      /* the scheduler chooses the flows itself: the words lack classify dport */
+	MALTCOVE_NULL = -14         /* a pointer is null */
+};
+
+/* What is wrong with a parameter word. */
+enum {
+	MALTCOVE_WORDS_FINE = 0,
+	MALTCOVE_UNKNOWN_WORD = 1,  /* the word names no parameter, or no way to classify */
+	MALTCOVE_MISSING_VALUE = 2, /* no value stands after the parameter */
+	MALTCOVE_NOT_A_NUMBER = 3,  /* the value is not written as a number or a time is */
+	MALTCOVE_OUT_OF_RANGE = 4,  /* the value is out of its range */
+	MALTCOVE_NOT_UTF8 = 5       /* the text is not UTF-8; no place is named */
+};
+
+/* Which parameter word is wrong. */
+typedef struct maltcove_fault {
+	uint64_t place;             /* of the word, from 1; 0 where none is named */
+	int32_t kind;               /* MALTCOVE_UNKNOWN_WORD and so on */
+} maltcove_fault;
+
+/* A packet that comes. */
+typedef struct maltcove_packet {
+	uint64_t tag;               /* what the caller knows it by: any number */
+	uint32_t len;               /* bytes, 1 to 65535 */
+	uint16_t sport, dport;      /* ports in the host's byte order; 0 where the protocol has none */
+	uint8_t src[16], dst[16];   /* addresses in the network's byte order; of IPv4 the first four bytes */
+	uint8_t proto;              /* the protocol's number, as 6 for TCP and 17 for UDP */
+	uint8_t ecn;                /* the two bits of ECN, 0 to 3 (RFC 3168): 1 and 2 can be marked */
+	uint8_t version;            /* of IP, 4 or 6 */
+} maltcove_packet;
+
+/* What is said of a packet that was accepted. */
+typedef struct maltcove_admitted {
+	uint64_t id;                /* its place in the order of acceptance, from 0 */
+	uint64_t drops;             /* how many packets were dropped for it: read them by maltcove_drops */
+	uint32_t flow;              /* the flow that it went to */
+} maltcove_admitted;
+
+/* What CoDel or the threshold did to a packet that is sent. */
+enum {
+	MALTCOVE_NO_MARK = 0,
+	MALTCOVE_CODEL_MARK = 1,    /* CoDel marked it, in place of a drop */
+	MALTCOVE_THRESHOLD_MARK = 2 /* it had waited longer than ce_threshold */
+};
+
+/* A packet that is sent. */
+typedef struct maltcove_sent {
+	uint64_t tag, id;
+	uint64_t drops;             /* how many packets CoDel dropped before it: read them by maltcove_drops */
+	uint32_t len;
+	uint8_t ecn;                /* the field to be written into the packet: 3 where it was marked */
+	uint8_t mark;               /* MALTCOVE_NO_MARK and so on */
+} maltcove_sent;
+
+/* Why a packet was dropped. */
+enum {
+	MALTCOVE_BY_CODEL = 0,      /* it had waited too long */
+	MALTCOVE_BY_OVERFLOW = 1    /* more waited than limit or memory_limit allow */
+};
+
+/* A packet that was dropped. */
+typedef struct maltcove_dropped {
+	uint64_t tag, id;
+	uint8_t cause;              /* MALTCOVE_BY_CODEL or MALTCOVE_BY_OVERFLOW */
+} maltcove_dropped;
+
+/* A packet that was flushed. */
+typedef struct maltcove_flushed {
+	uint64_t tag, id;
+} maltcove_flushed;
+
+/* What became of the packets. accepted = sent + dropped_codel + dropped_overflow + flushed + queued. */
+typedef struct maltcove_totals {
+	uint64_t accepted, accepted_bytes;
+	uint64_t sent, sent_bytes;
+	uint64_t dropped_codel, dropped_overflow, dropped_bytes;
+	uint64_t flushed, flushed_bytes;
+	uint64_t marked;            /* sent with a mark of CoDel's */
+	uint64_t threshold_marked;  /* sent with a mark of the threshold's alone */
+	uint64_t queued, queued_bytes;
+	bool closed;
+} maltcove_totals_t;
+
+/* What is kept of a flow, as tc -s class shows it. */
+typedef struct maltcove_flow {
+	uint64_t queued, queued_bytes;
+	int64_t credits;            /* bytes that it may send before the next flow's turn */
+	uint64_t first_above;       /* CoDel: when packets will have been late for an interval; see has_first_above */
+	uint64_t drop_next;         /* CoDel: when the next packet is due to be dropped */
+	uint64_t count, last_count; /* CoDel: drops since dropping began, and the count it began with last */
+	bool has_first_above;       /* false: the last packet was not late, and first_above is 0 */
+	bool dropping;
+} maltcove_flow_t;
+
+/* The parameters, in the units of tc-fq_codel(8): packets, flows, bytes, microseconds. */
+typedef struct maltcove_params {
+	uint64_t target, interval;
+	uint64_t ce_threshold;      /* 0 where has_ce_threshold is false */
+	uint64_t memory_limit;      /* 0 where has_memory_limit is false */
+	uint32_t limit, flows, quantum, mtu, drop_batch;
+	bool has_ce_threshold, has_memory_limit;
+	bool ecn;                   /* mark, in place of dropping, what can be marked */
+	bool hash;                  /* flows by a hash of the five-tuple; false: classify dport */
+} maltcove_params_t;
+
+/*
+ * Opens a scheduler in *m, which has to be none, with the parameters that words say and with that seed.
+ *
+ * words are those of tc-fq_codel(8), and two more, as one text of words_len bytes with blanks or line ends between
+ * them; it needs no 0 at its end. NULL with length 0 is all standard values:
+ *
+ *     limit PACKETS        1 to 1048576 (10240)          target TIME        0 to 1000s (5ms)
+ *     flows NUMBER         1 to 65536 (1024)             interval TIME      1us to 1000s (100ms)
+ *     quantum BYTES        1 to 1000000 (1514)           ce_threshold TIME  0 to 1000s (off)
+ *     mtu BYTES            0 to 65535 (1514)             ecn, noecn         (ecn)
+ *     drop_batch PACKETS   1 to 1048576 (64)             classify hash      flows by the five-tuple (this)
+ *     memory_limit BYTES   1 to 2^40 (off)               classify dport     flows by the destination port
+ *
+ * A time is digits and then us, ms, s or nothing, which is microseconds.
+ *
+ * seed has seed_len bytes, which have to be 16. Senders who don't know it can't choose flows that collide; so take it
+ * from a source of random bytes.
+ *
+ * fault may be NULL. Else *fault says which word is wrong, after MALTCOVE_BAD_WORDS; after MALTCOVE_ALREADY_OPEN and
+ * MALTCOVE_NULL it is left as it was, and after all else it names none.
+ *
+ * Answers MALTCOVE_OK, MALTCOVE_NULL, MALTCOVE_ALREADY_OPEN, MALTCOVE_BAD_WORDS, MALTCOVE_BAD_SEED or MALTCOVE_MEMORY:
+ * where more than one applies, the first of these.
+ */
+int maltcove_open(maltcove *m, const char *words, size_t words_len, const uint8_t *seed, size_t seed_len,
+		  maltcove_fault *fault);
+
+/*
+ * Gives all memory back; *m is none then. What waits, and drops that weren't read, are forgotten: to have their tags
+ * back call maltcove_drops and maltcove_flush before. A call on none or NULL does nothing.
+ */
+void maltcove_free(maltcove *m);
+
+/*
+ * Accepts a packet at the moment now_us. The scheduler finds its flow by the words' classify. Where more packets or
+ * bytes wait then than limit or memory_limit allow, the flow that has most bytes loses packets from its head, as many
+ * as drop_batch at once. admitted->drops says how many, and they have to be read before the next enqueue.
+ *
+ * Answers MALTCOVE_OK, MALTCOVE_NULL, MALTCOVE_NOT_OPEN, MALTCOVE_BAD_PACKET (len, ecn or version), MALTCOVE_UNREAD,
+ * MALTCOVE_TOO_LARGE, MALTCOVE_BACKWARDS, MALTCOVE_CLOSED, MALTCOVE_EXHAUSTED or MALTCOVE_MEMORY: the first that
+ * applies.
+ *
+ * The end of ids. A scheduler has ids for 2^40 packets, which are 12.7 days at a million a second. It renews itself:
+ * after 2^39 packets, at the first enqueue that finds nothing waiting and all drops read, it goes on with flows and
+ * CoDel's states as new. Ids and totals go on, in 64 bits. A renewal takes memory for a scheduler as new, and gives the
+ * old one's back; where none is given the old one goes on, and the next such enqueue tries again. MALTCOVE_EXHAUSTED
+ * comes only where 2^40 packets came and none of them after the first 2^39 found nothing waiting.
+ */
+int maltcove_enqueue(maltcove *m, uint64_t now_us, const maltcove_packet *packet, maltcove_admitted *admitted);
+
+/*
+ * The same for a packet whose flow the caller has chosen, as by a hash that a network card made: flow modulo the number
+ * of flows. The words at maltcove_open have to say classify dport, else the answer is MALTCOVE_HASHED; it comes after
+ * MALTCOVE_NOT_OPEN in the order of answers.
+ */
+int maltcove_enqueue_flow(maltcove *m, uint64_t now_us, uint32_t flow, uint32_t len, uint8_t ecn, uint64_t tag,
+			  maltcove_admitted *admitted);
+
+/*
+ * Gives the packet that is next at the moment now_us. CoDel may have dropped packets before it: sent->drops says how
+ * many. They can be read at any time before the next enqueue. Write sent->ecn into the packet's header.
+ *
+ * Answers MALTCOVE_OK; MALTCOVE_IDLE where nothing waits, and then all of *sent is 0 but drops; MALTCOVE_NULL,
+ * MALTCOVE_NOT_OPEN, MALTCOVE_TOO_LARGE or MALTCOVE_BACKWARDS.
+ */
+int maltcove_dequeue(maltcove *m, uint64_t now_us, maltcove_sent *sent);
+
+/*
+ * Gives up to n packets at one moment, as n calls of maltcove_dequeue do. Answers how many, which is less than n where
+ * nothing waits any more, or a negative number as maltcove_dequeue. With n = 0, sent may be NULL. The drops of all of
+ * them can be read after.
+ */
+int64_t maltcove_dequeue_burst(maltcove *m, uint64_t now_us, maltcove_sent *sent, size_t n);
+
+/*
+ * Reads drops that weren't read yet, in the order of the drops, up to n of them. Answers how many, 0 where all were
+ * read, or MALTCOVE_NULL or MALTCOVE_NOT_OPEN. A drop stays until it is read: while one is left no packet is accepted
+ * (MALTCOVE_UNREAD), and dequeues go on. With n = 0, dropped may be NULL.
+ */
+int64_t maltcove_drops(maltcove *m, maltcove_dropped *dropped, size_t n);
+
+/*
+ * Takes up to n packets that wait out of the scheduler and gives their tags, so that the caller can free their buffers.
+ * They leave as by maltcove_dequeue at the last moment, and count as flushed, not as sent. What CoDel drops on the way
+ * is a drop as any other: read it by maltcove_drops after. Answers how many, and less than n only where no packet is
+ * left; or MALTCOVE_NULL or MALTCOVE_NOT_OPEN. With n = 0, flushed may be NULL.
+ */
+int64_t maltcove_flush(maltcove *m, maltcove_flushed *flushed, size_t n);
+
+/* From here on no packet is accepted; dequeues go on. Answers MALTCOVE_OK, MALTCOVE_NULL, MALTCOVE_NOT_OPEN,
+ * MALTCOVE_TOO_LARGE, MALTCOVE_BACKWARDS or MALTCOVE_CLOSED, the last at a second close. */
+int maltcove_close(maltcove *m, uint64_t now_us);
+
+/* 1 after a close and 0 before, or MALTCOVE_NULL or MALTCOVE_NOT_OPEN. */
+int maltcove_is_closed(maltcove *m);
+
+/* How many packets wait, or MALTCOVE_NULL or MALTCOVE_NOT_OPEN. */
+int64_t maltcove_queued(maltcove *m);
+
+/* The statistics of all packets so far, as tc -s qdisc shows them. Answers MALTCOVE_OK, MALTCOVE_NULL or
+ * MALTCOVE_NOT_OPEN. In C++ the struct is maltcove_totals_t, as the function has the name of the tag. */
+int maltcove_totals(maltcove *m, maltcove_totals_t *totals);
+
+/* What is kept of a flow, from 0. Answers MALTCOVE_OK, MALTCOVE_NULL, MALTCOVE_NOT_OPEN or MALTCOVE_BAD_FLOW. */
+int maltcove_flow(maltcove *m, uint32_t flow, maltcove_flow_t *view);
+
+/* The parameters. Answers MALTCOVE_OK, MALTCOVE_NULL or MALTCOVE_NOT_OPEN. */
+int maltcove_params(maltcove *m, maltcove_params_t *params);
+
+/* The text of an answer, in English, without a line end: never NULL. */
+const char *maltcove_strerror(int answer);
+
+/* The text of a fault's kind, likewise. */
+const char *maltcove_fault_text(int kind);
+
+/* The version of the library, as MALTCOVE_VERSION is that of the header. */
+const char *maltcove_version(void);
+
+#ifdef __cplusplus
+}
+#endif
+
+#endif

@@ -1,0 +1,408 @@
+/*
+ * What each call of maltcove.h answers: refusals, and that nothing changes by them; drops, flushes and bursts; what is
+ * shown; and each tag given back once over random calls.
+ */
+#include "layout.h"
+
+#include <stdio.h>
+#include <stdlib.h>
+#include <string.h>
+
+static maltcove m = MALTCOVE_INIT;
+static const uint8_t seed[16] = { 0 };
+
+static void check_at(bool right, const char *what, int line)
+{
+	if (!right) {
+		fprintf(stderr, "calls.c:%d: wrong: %s\n", line, what);
+		exit(1);
+	}
+}
+#define CHECK(what) check_at(what, #what, __LINE__)
+
+static void open_with(const char *words)
+{
+	maltcove_fault fault = { 7, 7 };
+
+	CHECK(maltcove_open(&m, words, strlen(words), seed, 16, &fault) == MALTCOVE_OK);
+	CHECK(m.is_open && fault.place == 0 && fault.kind == MALTCOVE_WORDS_FINE);
+}
+
+static maltcove_packet packet_of(uint16_t dport, uint32_t len, uint64_t tag)
+{
+	maltcove_packet p;
+
+	memset(&p, 0, sizeof p);
+	p.tag = tag;
+	p.len = len;
+	p.dport = dport;
+	p.proto = 17;
+	p.version = 4;
+	return p;
+}
+
+static int enqueue(uint64_t moment, uint16_t dport, uint32_t len, uint64_t tag, maltcove_admitted *admitted)
+{
+	maltcove_packet p = packet_of(dport, len, tag);
+
+	return maltcove_enqueue(&m, moment, &p, admitted);
+}
+
+/* A text of words that is refused: at this place, for this. */
+static void refuse_words(const char *words, uint64_t place, int kind)
+{
+	maltcove_fault fault = { 7, 7 };
+
+	CHECK(maltcove_open(&m, words, strlen(words), seed, 16, &fault) == MALTCOVE_BAD_WORDS);
+	CHECK(fault.place == place && fault.kind == kind);
+	CHECK(maltcove_open(&m, words, strlen(words), seed, 16, NULL) == MALTCOVE_BAD_WORDS);
+	CHECK(!m.is_open && m.inner == NULL);
+}
+
+static void words_and_seeds(void)
+{
+	maltcove_fault fault = { 7, 7 };
+	maltcove_params_t p;
+
+	refuse_words("limit 1000 brown", 3, MALTCOVE_UNKNOWN_WORD);
+	refuse_words("classify port", 2, MALTCOVE_UNKNOWN_WORD);
+	refuse_words("noecn limit", 2, MALTCOVE_MISSING_VALUE);
+	refuse_words(" limit\t1k ", 2, MALTCOVE_NOT_A_NUMBER);
+	refuse_words("target 5ms flows 0", 4, MALTCOVE_OUT_OF_RANGE);
+	refuse_words("limit 1000 \xff", 0, MALTCOVE_NOT_UTF8);
+	CHECK(maltcove_open(&m, "", 0, seed, 15, &fault) == MALTCOVE_BAD_SEED && !m.is_open);
+	CHECK(maltcove_open(&m, "", 0, NULL, 0, &fault) == MALTCOVE_BAD_SEED && !m.is_open);
+	CHECK(maltcove_open(&m, NULL, 0, seed, 16, NULL) == MALTCOVE_OK);
+	CHECK(maltcove_params(&m, &p) == MALTCOVE_OK);
+	CHECK(p.limit == 10240 && p.flows == 1024 && p.quantum == 1514 && p.mtu == 1514 && p.drop_batch == 64);
+	CHECK(p.target == 5000 && p.interval == 100000 && p.ecn && p.hash);
+	CHECK(!p.has_ce_threshold && p.ce_threshold == 0 && !p.has_memory_limit && p.memory_limit == 0);
+	fault.place = fault.kind = 7;
+	CHECK(maltcove_open(&m, "brown", 5, seed, 16, &fault) == MALTCOVE_ALREADY_OPEN);
+	CHECK(fault.place == 7 && fault.kind == 7 && m.is_open);
+	maltcove_free(&m);
+	open_with("limit 7 flows 9 quantum 300 mtu 100 target 1ms interval 2s ce_threshold 3us memory_limit 4000 "
+		  "drop_batch 5 noecn classify dport");
+	CHECK(maltcove_params(&m, &p) == MALTCOVE_OK);
+	CHECK(p.limit == 7 && p.flows == 9 && p.quantum == 300 && p.mtu == 100 && p.drop_batch == 5);
+	CHECK(p.target == 1000 && p.interval == 2000000 && !p.ecn && !p.hash);
+	CHECK(p.has_ce_threshold && p.ce_threshold == 3 && p.has_memory_limit && p.memory_limit == 4000);
+	maltcove_free(&m);
+}
+
+/* Every call on none, and every call with a null pointer. */
+static void none_and_null(void)
+{
+	maltcove_packet p = packet_of(1, 100, 1);
+	maltcove_admitted admitted;
+	maltcove_sent sent;
+	maltcove_dropped dropped;
+	maltcove_flushed flushed;
+	maltcove_totals_t totals;
+	maltcove_flow_t view;
+	maltcove_params_t params;
+
+	for (int i = 0; i < 2; i++) {
+		maltcove *at = i == 0 ? &m : NULL;
+		int answer = i == 0 ? MALTCOVE_NOT_OPEN : MALTCOVE_NULL;
+
+		CHECK(maltcove_enqueue(at, 0, &p, &admitted) == answer);
+		CHECK(maltcove_enqueue_flow(at, 0, 1, 100, 0, 1, &admitted) == answer);
+		CHECK(maltcove_dequeue(at, 0, &sent) == answer);
+		CHECK(maltcove_dequeue_burst(at, 0, &sent, 1) == answer);
+		CHECK(maltcove_drops(at, &dropped, 1) == answer);
+		CHECK(maltcove_flush(at, &flushed, 1) == answer);
+		CHECK(maltcove_close(at, 0) == answer);
+		CHECK(maltcove_is_closed(at) == answer);
+		CHECK(maltcove_queued(at) == answer);
+		CHECK(maltcove_totals(at, &totals) == answer);
+		CHECK(maltcove_flow(at, 0, &view) == answer);
+		CHECK(maltcove_params(at, &params) == answer);
+		maltcove_free(at);
+	}
+	CHECK(maltcove_open(NULL, "", 0, seed, 16, NULL) == MALTCOVE_NULL);
+	CHECK(maltcove_open(&m, NULL, 1, seed, 16, NULL) == MALTCOVE_NULL);
+	CHECK(maltcove_open(&m, "", 0, NULL, 16, NULL) == MALTCOVE_NULL);
+	open_with("classify dport");
+	CHECK(maltcove_enqueue(&m, 0, NULL, &admitted) == MALTCOVE_NULL);
+	CHECK(maltcove_enqueue(&m, 0, &p, NULL) == MALTCOVE_NULL);
+	CHECK(maltcove_enqueue_flow(&m, 0, 1, 100, 0, 1, NULL) == MALTCOVE_NULL);
+	CHECK(maltcove_dequeue(&m, 0, NULL) == MALTCOVE_NULL);
+	CHECK(maltcove_dequeue_burst(&m, 0, NULL, 1) == MALTCOVE_NULL);
+	CHECK(maltcove_dequeue_burst(&m, 0, NULL, 0) == 0);
+	CHECK(maltcove_drops(&m, NULL, 1) == MALTCOVE_NULL);
+	CHECK(maltcove_drops(&m, NULL, 0) == 0);
+	CHECK(maltcove_flush(&m, NULL, 1) == MALTCOVE_NULL);
+	CHECK(maltcove_flush(&m, NULL, 0) == 0);
+	CHECK(maltcove_totals(&m, NULL) == MALTCOVE_NULL);
+	CHECK(maltcove_flow(&m, 0, NULL) == MALTCOVE_NULL);
+	CHECK(maltcove_params(&m, NULL) == MALTCOVE_NULL);
+	CHECK(maltcove_queued(&m) == 0);
+	maltcove_free(&m);
+	maltcove_free(&m);
+	CHECK(!m.is_open && m.inner == NULL);
+}
+
+static void totals_are(uint64_t accepted, uint64_t sent, uint64_t dropped, uint64_t flushed, uint64_t queued)
+{
+	maltcove_totals_t t;
+
+	CHECK(maltcove_totals(&m, &t) == MALTCOVE_OK);
+	CHECK(t.accepted == accepted && t.sent == sent && t.dropped_codel + t.dropped_overflow == dropped);
+	CHECK(t.flushed == flushed && t.queued == queued);
+	CHECK(t.accepted_bytes == t.sent_bytes + t.dropped_bytes + t.flushed_bytes + t.queued_bytes);
+	CHECK(maltcove_queued(&m) == (int64_t)queued);
+}
+
+/* Refused packets, each in its case, and nothing changes. */
+static void refusals(void)
+{
+	maltcove_admitted admitted = { 7, 7, 7 };
+	maltcove_sent sent;
+	maltcove_packet p = packet_of(1, 100, 1);
+
+	open_with("classify dport flows 16");
+	CHECK(enqueue(50, 1, 0, 1, &admitted) == MALTCOVE_BAD_PACKET);
+	CHECK(enqueue(50, 1, 65536, 1, &admitted) == MALTCOVE_BAD_PACKET);
+	p.ecn = 4;
+	CHECK(maltcove_enqueue(&m, 50, &p, &admitted) == MALTCOVE_BAD_PACKET);
+	p.ecn = 3, p.version = 5;
+	CHECK(maltcove_enqueue(&m, 50, &p, &admitted) == MALTCOVE_BAD_PACKET);
+	CHECK(maltcove_enqueue_flow(&m, 50, 1, 0, 0, 1, &admitted) == MALTCOVE_BAD_PACKET);
+	CHECK(maltcove_enqueue_flow(&m, 50, 1, 100, 4, 1, &admitted) == MALTCOVE_BAD_PACKET);
+	CHECK(enqueue(1ull << 60, 1, 100, 1, &admitted) == MALTCOVE_TOO_LARGE);
+	CHECK(admitted.id == 7 && admitted.drops == 7 && admitted.flow == 7);
+	totals_are(0, 0, 0, 0, 0);
+	CHECK(enqueue(50, 17, 100, 1, &admitted) == MALTCOVE_OK);
+	CHECK(admitted.id == 0 && admitted.drops == 0 && admitted.flow == 1);
+	CHECK(enqueue(49, 1, 100, 1, &admitted) == MALTCOVE_BACKWARDS);
+	CHECK(maltcove_dequeue(&m, 49, &sent) == MALTCOVE_BACKWARDS);
+	CHECK(maltcove_dequeue(&m, 1ull << 60, &sent) == MALTCOVE_TOO_LARGE);
+	CHECK(maltcove_dequeue_burst(&m, 49, &sent, 1) == MALTCOVE_BACKWARDS);
+	CHECK(maltcove_close(&m, 49) == MALTCOVE_BACKWARDS && maltcove_is_closed(&m) == 0);
+	CHECK(maltcove_close(&m, 50) == MALTCOVE_OK && maltcove_is_closed(&m) == 1);
+	CHECK(maltcove_close(&m, 50) == MALTCOVE_CLOSED);
+	CHECK(enqueue(50, 1, 100, 1, &admitted) == MALTCOVE_CLOSED);
+	CHECK(maltcove_dequeue(&m, 50, &sent) == MALTCOVE_OK && sent.tag == 1 && sent.len == 100);
+	CHECK(maltcove_dequeue(&m, 50, &sent) == MALTCOVE_IDLE);
+	CHECK(sent.tag == 0 && sent.id == 0 && sent.drops == 0 && sent.len == 0 && sent.ecn == 0 && sent.mark == 0);
+	totals_are(1, 1, 0, 0, 0);
+	maltcove_free(&m);
+	open_with("classify hash");
+	CHECK(maltcove_enqueue_flow(&m, 0, 1, 100, 0, 1, &admitted) == MALTCOVE_HASHED);
+	maltcove_free(&m);
+}
+
+/* Drops wait for their reader, and keep packets out. */
+static void drops_wait(void)
+{
+	maltcove_admitted admitted;
+	maltcove_dropped drops[3];
+	maltcove_sent sent;
+
+	open_with("limit 4 drop_batch 3 classify dport flows 4 noecn");
+	for (uint64_t tag = 100; tag < 104; tag++)
+		CHECK(enqueue(0, 2, 500, tag, &admitted) == MALTCOVE_OK && admitted.drops == 0);
+	CHECK(maltcove_drops(&m, drops, 3) == 0);
+	CHECK(enqueue(0, 2, 500, 104, &admitted) == MALTCOVE_OK && admitted.id == 4 && admitted.drops > 0);
+	CHECK(admitted.drops <= 3);
+	CHECK(enqueue(0, 2, 500, 105, &admitted) == MALTCOVE_UNREAD);
+	CHECK(maltcove_dequeue(&m, 0, &sent) == MALTCOVE_OK && sent.drops == 0);
+	CHECK(sent.tag == 100 + admitted.drops && sent.id == admitted.drops);
+	for (uint64_t i = 0; i < admitted.drops; i++) {
+		CHECK(maltcove_drops(&m, drops, 1) == 1);
+		CHECK(drops[0].tag == 100 + i && drops[0].id == i && drops[0].cause == MALTCOVE_BY_OVERFLOW);
+	}
+	CHECK(maltcove_drops(&m, drops, 3) == 0);
+	CHECK(enqueue(0, 2, 500, 105, &admitted) == MALTCOVE_OK && admitted.id == 5);
+	maltcove_free(&m);
+}
+
+/* CoDel drops in a dequeue, and marks what can be marked. */
+static void codel_drops(void)
+{
+	maltcove_admitted admitted;
+	maltcove_dropped drops[2];
+	maltcove_sent sent;
+	maltcove_flow_t view;
+
+	open_with("target 1ms interval 10ms mtu 0 classify dport flows 2 noecn");
+	for (uint64_t tag = 0; tag < 6; tag++)
+		CHECK(enqueue(0, 0, 1000, tag, &admitted) == MALTCOVE_OK);
+	CHECK(maltcove_dequeue(&m, 1000, &sent) == MALTCOVE_OK && sent.tag == 0 && sent.drops == 0);
+	CHECK(maltcove_flow(&m, 0, &view) == MALTCOVE_OK && view.has_first_above && view.first_above == 11000);
+	CHECK(view.queued == 5 && view.queued_bytes == 5000 && !view.dropping && view.credits == 1514 - 1000);
+	CHECK(maltcove_dequeue(&m, 11000, &sent) == MALTCOVE_OK && sent.tag == 2 && sent.drops == 1);
+	CHECK(maltcove_drops(&m, drops, 2) == 1);
+	CHECK(drops[0].tag == 1 && drops[0].id == 1 && drops[0].cause == MALTCOVE_BY_CODEL);
+	CHECK(maltcove_flow(&m, 0, &view) == MALTCOVE_OK);
+	CHECK(view.dropping && view.count == 1 && view.drop_next == 21000);
+	CHECK(maltcove_flow(&m, 1, &view) == MALTCOVE_OK && view.queued == 0 && !view.has_first_above);
+	CHECK(maltcove_flow(&m, 2, &view) == MALTCOVE_BAD_FLOW);
+	maltcove_free(&m);
+	open_with("target 1ms interval 10ms mtu 0 classify dport flows 2 ecn");
+	for (uint64_t tag = 0; tag < 3; tag++)
+		CHECK(maltcove_enqueue_flow(&m, 0, 5, 1000, 2, tag, &admitted) == MALTCOVE_OK && admitted.flow == 1);
+	CHECK(maltcove_dequeue(&m, 1000, &sent) == MALTCOVE_OK && sent.ecn == 2 && sent.mark == MALTCOVE_NO_MARK);
+	CHECK(maltcove_dequeue(&m, 11000, &sent) == MALTCOVE_OK && sent.tag == 1 && sent.drops == 0);
+	CHECK(sent.ecn == 3 && sent.mark == MALTCOVE_CODEL_MARK);
+	maltcove_free(&m);
+	open_with("target 1s ce_threshold 1ms classify dport flows 1");
+	CHECK(maltcove_enqueue_flow(&m, 0, 0, 1000, 1, 0, &admitted) == MALTCOVE_OK);
+	CHECK(maltcove_dequeue(&m, 1001, &sent) == MALTCOVE_OK);
+	CHECK(sent.ecn == 3 && sent.mark == MALTCOVE_THRESHOLD_MARK);
+	maltcove_free(&m);
+}
+
+/* Bursts stop where nothing waits, and flushes give all tags that wait. */
+static void bursts_and_flushes(void)
+{
+	maltcove_admitted admitted;
+	maltcove_sent sent[4];
+	maltcove_flushed flushed[4];
+	bool seen[10] = { false };
+	int64_t n, all = 0;
+
+	open_with("classify dport flows 3");
+	for (uint64_t tag = 0; tag < 6; tag++)
+		CHECK(enqueue(9, 1, 100, tag, &admitted) == MALTCOVE_OK);
+	CHECK(maltcove_dequeue_burst(&m, 9, sent, 4) == 4);
+	for (uint64_t i = 0; i < 4; i++)
+		CHECK(sent[i].tag == i && sent[i].id == i && sent[i].len == 100);
+	CHECK(maltcove_dequeue_burst(&m, 9, sent, 4) == 2 && sent[0].tag == 4 && sent[1].tag == 5);
+	CHECK(maltcove_dequeue_burst(&m, 9, sent, 4) == 0);
+	for (uint64_t tag = 0; tag < 10; tag++)
+		CHECK(enqueue(9, (uint16_t)tag, 100, tag, &admitted) == MALTCOVE_OK && admitted.id == 6 + tag);
+	while ((n = maltcove_flush(&m, flushed, 4)) > 0) {
+		all += n;
+		for (int64_t i = 0; i < n; i++) {
+			CHECK(flushed[i].tag < 10 && !seen[flushed[i].tag]);
+			CHECK(flushed[i].id == 6 + flushed[i].tag);
+			seen[flushed[i].tag] = true;
+		}
+	}
+	CHECK(n == 0 && all == 10);
+	totals_are(16, 6, 0, 10, 0);
+	CHECK(enqueue(9, 1, 100, 16, &admitted) == MALTCOVE_OK && admitted.id == 16);
+	CHECK(maltcove_dequeue_burst(&m, 9, sent, 4) == 1 && sent[0].tag == 16);
+	maltcove_free(&m);
+}
+
+enum { ROUNDS = 200000 };
+
+static uint64_t random_state = 0x9e3779b97f4a7c15u;
+
+static uint32_t random_below(uint32_t n)
+{
+	random_state ^= random_state >> 12;
+	random_state ^= random_state << 25;
+	random_state ^= random_state >> 27;
+	return (uint32_t)((random_state * 0x2545f4914f6cdd1du >> 32) * n >> 32);
+}
+
+/* A tag comes back: it has to be out, and is in then. */
+static void give_back(bool *out, uint64_t tag, uint64_t id)
+{
+	CHECK(tag < ROUNDS && out[tag] && id == tag);
+	out[tag] = false;
+}
+
+static uint64_t read_random(bool *out)
+{
+	maltcove_dropped drops[5];
+	uint64_t all = 0;
+	int64_t n;
+
+	while ((n = maltcove_drops(&m, drops, 1 + random_below(5))) > 0) {
+		all += (uint64_t)n;
+		for (int64_t i = 0; i < n; i++)
+			give_back(out, drops[i].tag, drops[i].id);
+	}
+	return all;
+}
+
+static uint64_t flush_random(bool *out)
+{
+	maltcove_flushed flushed[5];
+	uint64_t all = 0;
+	int64_t n;
+
+	while ((n = maltcove_flush(&m, flushed, 1 + random_below(5))) > 0) {
+		all += (uint64_t)n;
+		for (int64_t i = 0; i < n; i++)
+			give_back(out, flushed[i].tag, flushed[i].id);
+	}
+	CHECK(n == 0 && maltcove_queued(&m) == 0);
+	return all;
+}
+
+/* Each tag that is handed in comes back once: sent, dropped or flushed. A packet's tag is its id here. */
+static void tags_come_back(void)
+{
+	bool *out = (bool *)calloc(ROUNDS, sizeof *out);
+	uint64_t next = 0, sent_count = 0, drops = 0, flushed_count = 0, moment = 0;
+	maltcove_admitted admitted;
+	maltcove_sent sent[3];
+	int64_t n;
+
+	CHECK(out != NULL);
+	open_with("limit 200 flows 32 target 500us interval 5ms drop_batch 16 memory_limit 150000");
+	for (uint32_t i = 0; i < ROUNDS; i++) {
+		moment += random_below(30);
+		if (random_below(10) < 8) {
+			maltcove_packet p = packet_of((uint16_t)random_below(100), 1 + random_below(1500), next);
+
+			p.ecn = (uint8_t)random_below(4);
+			CHECK(maltcove_enqueue(&m, moment, &p, &admitted) == MALTCOVE_OK && admitted.id == next);
+			out[next++] = true;
+			drops += read_random(out);
+		} else {
+			n = maltcove_dequeue_burst(&m, moment, sent, 1 + random_below(3));
+			CHECK(n >= 0);
+			for (int64_t k = 0; k < n; k++)
+				give_back(out, sent[k].tag, sent[k].id);
+			sent_count += (uint64_t)n;
+			drops += read_random(out);
+		}
+		if (random_below(5000) == 0) {
+			flushed_count += flush_random(out);
+			drops += read_random(out);
+		}
+		CHECK((uint64_t)maltcove_queued(&m) == next - sent_count - drops - flushed_count);
+	}
+	totals_are(next, sent_count, drops, flushed_count, next - sent_count - drops - flushed_count);
+	CHECK(drops > 1000 && sent_count > 1000 && flushed_count > 100);
+	flush_random(out);
+	read_random(out);
+	for (uint64_t tag = 0; tag < next; tag++)
+		CHECK(!out[tag]);
+	maltcove_free(&m);
+	free(out);
+}
+
+/* Each answer and each kind of fault has a text of its own. */
+static void texts(void)
+{
+	for (int a = MALTCOVE_NULL; a <= MALTCOVE_IDLE; a++)
+		for (int b = MALTCOVE_NULL; b < a; b++)
+			CHECK(strcmp(maltcove_strerror(a), maltcove_strerror(b)) != 0);
+	for (int a = MALTCOVE_WORDS_FINE; a <= MALTCOVE_NOT_UTF8; a++)
+		for (int b = MALTCOVE_WORDS_FINE; b < a; b++)
+			CHECK(strcmp(maltcove_fault_text(a), maltcove_fault_text(b)) != 0);
+	CHECK(strcmp(maltcove_strerror(2), maltcove_strerror(-15)) == 0);
+	CHECK(strcmp(maltcove_version(), MALTCOVE_VERSION) == 0);
+}
+
+int main(void)
+{
+	words_and_seeds();
+	none_and_null();
+	refusals();
+	drops_wait();
+	codel_drops();
+	bursts_and_flushes();
+	tags_come_back();
+	texts();
+	puts("calls: all as they should be");
+	return 0;
+}

@@ -1,0 +1,150 @@
+/*
+ * The heap of the library replaced by one that refuses growths: each growth of maltcove_open in turn, and then each
+ * after it. No block may be lost, and no call but maltcove_open may ask for memory.
+ */
+#include "layout.h"
+
+#include <stdio.h>
+#include <stdlib.h>
+#include <string.h>
+
+struct given {
+	bool ok;
+	void *block;
+};
+
+#ifdef __cplusplus
+extern "C" {
+#endif
+struct given rattle_alloc(size_t bytes, size_t align);
+struct given rattle_realloc(void *block, size_t kept, size_t bytes, size_t align);
+void rattle_dealloc(void *block);
+#ifdef __cplusplus
+}
+#endif
+
+/* Growths until one is refused, blocks that are held, growths so far. */
+static long left = -1, held, growths;
+static char nothing[16];
+
+static bool refuses(void)
+{
+	growths++;
+	if (left == 0)
+		return true;
+	left -= left > 0;
+	return false;
+}
+
+struct given rattle_alloc(size_t bytes, size_t align)
+{
+	struct given answer = { false, nothing };
+
+	if (refuses())
+		return answer;
+	answer.block = malloc(bytes != 0 ? bytes : align);
+	answer.ok = answer.block != NULL;
+	held += answer.ok;
+	return answer;
+}
+
+struct given rattle_realloc(void *block, size_t kept, size_t bytes, size_t align)
+{
+	struct given answer = { false, nothing };
+
+	(void)kept;
+	if (refuses())
+		return answer;
+	answer.block = realloc(block, bytes != 0 ? bytes : align);
+	answer.ok = answer.block != NULL;
+	return answer;
+}
+
+void rattle_dealloc(void *block)
+{
+	held--;
+	free(block);
+}
+
+static void check(bool right, const char *what)
+{
+	if (!right) {
+		fprintf(stderr, "growths: wrong: %s\n", what);
+		exit(1);
+	}
+}
+
+static const char words[] = "limit 100 flows 64 classify dport target 1ms interval 10ms";
+static const uint8_t seed[16] = { 0 };
+static maltcove m = MALTCOVE_INIT;
+
+/* Each growth of an open refused in turn, and how many there are. */
+static long refuse_each(void)
+{
+	maltcove_fault fault;
+	int answer;
+
+	for (long n = 0;; n++) {
+		left = n;
+		answer = maltcove_open(&m, words, strlen(words), seed, 16, &fault);
+		if (answer == MALTCOVE_OK)
+			return n;
+		check(answer == MALTCOVE_MEMORY, "a refused growth answers MALTCOVE_MEMORY");
+		check(m.inner == NULL && !m.is_open, "a failed open leaves none");
+		check(held == 0, "a failed open gives all blocks back");
+	}
+}
+
+/* Reads all drops, and says how many. */
+static uint64_t read_all(void)
+{
+	maltcove_dropped drops[16];
+	uint64_t all = 0;
+	int64_t n;
+
+	while ((n = maltcove_drops(&m, drops, 16)) > 0)
+		all += (uint64_t)n;
+	check(n == 0, "drops can be read");
+	return all;
+}
+
+/* Many calls with every growth refused. Packets come faster than they go, so that each call drops in turn. */
+static void refuse_all(uint64_t rounds)
+{
+	maltcove_admitted admitted;
+	maltcove_sent sent;
+	uint64_t lost = 0, went = 0;
+	long before = growths;
+
+	left = 0;
+	for (uint64_t i = 0; i < rounds; i++) {
+		check(maltcove_enqueue_flow(&m, i * 100, (uint32_t)(i % 77), 1000, i & 3, i, &admitted) == MALTCOVE_OK,
+		      "a packet is accepted where every growth is refused");
+		check(admitted.id == i, "ids count the packets");
+		lost += read_all();
+		if (i % 3 != 0)
+			continue;
+		check(maltcove_dequeue(&m, i * 100, &sent) == MALTCOVE_OK, "a packet goes");
+		went++;
+		lost += read_all();
+	}
+	check(went + lost + (uint64_t)maltcove_queued(&m) == rounds, "each packet goes, is lost or waits");
+	check(lost > rounds / 2, "packets were lost");
+	check(growths == before, "no call asks for memory");
+}
+
+int main(void)
+{
+	maltcove_flushed flushed[64];
+	long opened = refuse_each();
+
+	check(opened > 0, "an open takes memory");
+	refuse_all(100000);
+	while (maltcove_flush(&m, flushed, 64) > 0)
+		;
+	check(maltcove_queued(&m) == 0, "nothing waits after a flush");
+	maltcove_free(&m);
+	check(held == 0, "no block is left after maltcove_free");
+	printf("growths: each of %ld growths of an open refused, and all after it in 100000 rounds\n", opened);
+	return 0;
+}

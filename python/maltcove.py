@@ -1,0 +1,443 @@
+"""A packet scheduler by FQ-CoDel (RFC 8290), proved: the library of ``maltcove.h`` for Python.
+
+A scheduler holds no packet. Each packet has a tag, a number of the caller's own, that comes back once: as ``Sent``,
+``Dropped`` or ``Flushed``. Moments are whole microseconds below 2**60, and must not step back.
+
+    with Scheduler("limit 1000 target 5ms", seed) as scheduler:
+        admitted = scheduler.enqueue(0, Packet(tag=42, len=1000, src="10.0.0.1", dst="10.0.0.2"))
+        lost = list(scheduler.drops())
+        sent = scheduler.dequeue(1500)
+
+The shared library is the one that the variable ``MALTCOVE_LIBRARY`` names, else ``../c/build/libmaltcove.so`` beside
+this file, else the system's.
+"""
+
+from __future__ import annotations
+
+import ctypes
+import ctypes.util
+import enum
+import ipaddress
+import os
+import pathlib
+from collections.abc import Iterator
+from dataclasses import dataclass
+from typing import NamedTuple, Optional, Union
+
+__all__ = [
+    "Admitted", "Cause", "Dropped", "Error", "Flow", "Flushed", "Mark", "Packet", "Params", "Scheduler", "Sent",
+    "Status", "Totals", "WordError", "WordFault", "version",
+]
+
+
+class Status(enum.IntEnum):
+    """What a call answers, as ``maltcove.h`` names it. The negative ones are refusals, which change nothing."""
+
+    OK = 0
+    IDLE = 1
+    NOT_OPEN = -1
+    TOO_LARGE = -2
+    BACKWARDS = -3
+    CLOSED = -4
+    EXHAUSTED = -5
+    MEMORY = -6
+    BAD_PACKET = -7
+    BAD_WORDS = -8
+    UNREAD = -9
+    ALREADY_OPEN = -10
+    BAD_SEED = -11
+    BAD_FLOW = -12
+    HASHED = -13
+    NULL = -14
+
+
+class WordFault(enum.IntEnum):
+    """What is wrong with a parameter word."""
+
+    UNKNOWN_WORD = 1
+    MISSING_VALUE = 2
+    NOT_A_NUMBER = 3
+    OUT_OF_RANGE = 4
+    NOT_UTF8 = 5
+
+
+class Mark(enum.IntEnum):
+    """What marked a packet that is sent."""
+
+    NONE = 0
+    CODEL = 1
+    THRESHOLD = 2
+
+
+class Cause(enum.IntEnum):
+    """Why a packet was dropped."""
+
+    CODEL = 0
+    OVERFLOW = 1
+
+
+class _Maltcove(ctypes.Structure):
+    _fields_ = [("inner", ctypes.c_void_p), ("is_open", ctypes.c_bool)]
+
+
+class _Fault(ctypes.Structure):
+    _fields_ = [("place", ctypes.c_uint64), ("kind", ctypes.c_int32)]
+
+
+class _Packet(ctypes.Structure):
+    _fields_ = [
+        ("tag", ctypes.c_uint64), ("len", ctypes.c_uint32), ("sport", ctypes.c_uint16), ("dport", ctypes.c_uint16),
+        ("src", ctypes.c_uint8 * 16), ("dst", ctypes.c_uint8 * 16), ("proto", ctypes.c_uint8), ("ecn", ctypes.c_uint8),
+        ("version", ctypes.c_uint8),
+    ]
+
+
+class _Admitted(ctypes.Structure):
+    _fields_ = [("id", ctypes.c_uint64), ("drops", ctypes.c_uint64), ("flow", ctypes.c_uint32)]
+
+
+class _Sent(ctypes.Structure):
+    _fields_ = [
+        ("tag", ctypes.c_uint64), ("id", ctypes.c_uint64), ("drops", ctypes.c_uint64), ("len", ctypes.c_uint32),
+        ("ecn", ctypes.c_uint8), ("mark", ctypes.c_uint8),
+    ]
+
+
+class _Dropped(ctypes.Structure):
+    _fields_ = [("tag", ctypes.c_uint64), ("id", ctypes.c_uint64), ("cause", ctypes.c_uint8)]
+
+
+class _Flushed(ctypes.Structure):
+    _fields_ = [("tag", ctypes.c_uint64), ("id", ctypes.c_uint64)]
+
+
+class _Totals(ctypes.Structure):
+    _fields_ = [
+        (name, ctypes.c_uint64)
+        for name in (
+            "accepted", "accepted_bytes", "sent", "sent_bytes", "dropped_codel", "dropped_overflow", "dropped_bytes",
+            "flushed", "flushed_bytes", "marked", "threshold_marked", "queued", "queued_bytes",
+        )
+    ] + [("closed", ctypes.c_bool)]
+
+
+class _Flow(ctypes.Structure):
+    _fields_ = [
+        ("queued", ctypes.c_uint64), ("queued_bytes", ctypes.c_uint64), ("credits", ctypes.c_int64),
+        ("first_above", ctypes.c_uint64), ("drop_next", ctypes.c_uint64), ("count", ctypes.c_uint64),
+        ("last_count", ctypes.c_uint64), ("has_first_above", ctypes.c_bool), ("dropping", ctypes.c_bool),
+    ]
+
+
+class _Params(ctypes.Structure):
+    _fields_ = [
+        ("target", ctypes.c_uint64), ("interval", ctypes.c_uint64), ("ce_threshold", ctypes.c_uint64),
+        ("memory_limit", ctypes.c_uint64), ("limit", ctypes.c_uint32), ("flows", ctypes.c_uint32),
+        ("quantum", ctypes.c_uint32), ("mtu", ctypes.c_uint32), ("drop_batch", ctypes.c_uint32),
+        ("has_ce_threshold", ctypes.c_bool), ("has_memory_limit", ctypes.c_bool), ("ecn", ctypes.c_bool),
+        ("hash", ctypes.c_bool),
+    ]
+
+
+# The sizes that the library has for them.
+_SIZES = {
+    _Maltcove: 16, _Fault: 16, _Packet: 56, _Admitted: 24, _Sent: 32, _Dropped: 24, _Flushed: 16, _Totals: 112,
+    _Flow: 64, _Params: 56,
+}
+
+
+def _load() -> ctypes.CDLL:
+    """The shared library, with the types of its calls. Each has its types: without them a struct would go by value."""
+    beside = pathlib.Path(__file__).resolve().parent.parent / "c" / "build" / "libmaltcove.so"
+    named = os.environ.get("MALTCOVE_LIBRARY")
+    if not named:
+        named = str(beside) if beside.exists() else ctypes.util.find_library("maltcove")
+    if not named:
+        raise ImportError("no libmaltcove.so: run make -C c, or name one by MALTCOVE_LIBRARY")
+    for struct, size in _SIZES.items():
+        if ctypes.sizeof(struct) != size:
+            raise ImportError(f"{struct.__name__} has {ctypes.sizeof(struct)} bytes here, and {size} in the library")
+    library = ctypes.CDLL(named)
+    u8, u32, u64, size_t, to = ctypes.c_uint8, ctypes.c_uint32, ctypes.c_uint64, ctypes.c_size_t, ctypes.POINTER
+    of_int, of_count, of_text = ctypes.c_int, ctypes.c_int64, ctypes.c_char_p
+    m = to(_Maltcove)
+    calls = {
+        "open": (of_int, [m, ctypes.c_char_p, size_t, ctypes.c_char_p, size_t, to(_Fault)]),
+        "free": (None, [m]),
+        "enqueue": (of_int, [m, u64, to(_Packet), to(_Admitted)]),
+        "enqueue_flow": (of_int, [m, u64, u32, u32, u8, u64, to(_Admitted)]),
+        "dequeue": (of_int, [m, u64, to(_Sent)]),
+        "dequeue_burst": (of_count, [m, u64, to(_Sent), size_t]),
+        "drops": (of_count, [m, to(_Dropped), size_t]),
+        "flush": (of_count, [m, to(_Flushed), size_t]),
+        "close": (of_int, [m, u64]),
+        "is_closed": (of_int, [m]),
+        "queued": (of_count, [m]),
+        "totals": (of_int, [m, to(_Totals)]),
+        "flow": (of_int, [m, u32, to(_Flow)]),
+        "params": (of_int, [m, to(_Params)]),
+        "strerror": (of_text, [of_int]),
+        "version": (of_text, []),
+    }
+    for name, (result, arguments) in calls.items():
+        call = getattr(library, "maltcove_" + name)
+        call.restype, call.argtypes = result, arguments
+    return library
+
+
+_library = _load()
+
+
+class Error(Exception):
+    """A call was refused, and nothing has changed."""
+
+    def __init__(self, status: Status) -> None:
+        super().__init__(_library.maltcove_strerror(status).decode())
+        self.status = status
+
+
+class WordError(Error):
+    """A parameter word is wrong: its place, from 1, and in what way."""
+
+    def __init__(self, place: int, fault: WordFault) -> None:
+        super().__init__(Status.BAD_WORDS)
+        self.args = (f"parameter word {place}: {fault.name}",)
+        self.place, self.fault = place, fault
+
+
+def _made(answer: int) -> int:
+    """An answer that is no refusal."""
+    if answer < 0:
+        raise Error(Status(answer))
+    return answer
+
+
+def _in_range(name: str, number: int, below: int) -> int:
+    """A number that C's type has. ctypes would cut it off."""
+    if not 0 <= number < below:
+        raise ValueError(f"{name} is {number}, and has to be from 0 to {below - 1}")
+    return number
+
+
+Address = Union[str, ipaddress.IPv4Address, ipaddress.IPv6Address]
+
+
+@dataclass(frozen=True)
+class Packet:
+    """A packet that comes. Both addresses are of one version of IP."""
+
+    tag: int
+    len: int
+    src: Address = "0.0.0.0"
+    dst: Address = "0.0.0.0"
+    sport: int = 0
+    dport: int = 0
+    proto: int = 17
+    ecn: int = 0
+
+    def _record(self) -> _Packet:
+        src, dst = ipaddress.ip_address(self.src), ipaddress.ip_address(self.dst)
+        record = _Packet(
+            tag=_in_range("tag", self.tag, 1 << 64), len=_in_range("len", self.len, 1 << 32),
+            sport=_in_range("sport", self.sport, 1 << 16), dport=_in_range("dport", self.dport, 1 << 16),
+            proto=_in_range("proto", self.proto, 256), ecn=_in_range("ecn", self.ecn, 256),
+            version=src.version if src.version == dst.version else 0,
+        )
+        record.src[: len(src.packed)] = src.packed
+        record.dst[: len(dst.packed)] = dst.packed
+        return record
+
+
+class Admitted(NamedTuple):
+    """What is said of a packet that was accepted. So many packets were dropped for it."""
+
+    id: int
+    flow: int
+    drops: int
+
+
+class Sent(NamedTuple):
+    """A packet that is sent, with its ECN field as it has to be written. So many were dropped before it."""
+
+    tag: int
+    id: int
+    len: int
+    ecn: int
+    mark: Mark
+    drops: int
+
+
+class Dropped(NamedTuple):
+    """A packet that was dropped."""
+
+    tag: int
+    id: int
+    cause: Cause
+
+
+class Flushed(NamedTuple):
+    """A packet that was flushed."""
+
+    tag: int
+    id: int
+
+
+class Totals(NamedTuple):
+    """What became of all packets so far."""
+
+    accepted: int
+    accepted_bytes: int
+    sent: int
+    sent_bytes: int
+    dropped_codel: int
+    dropped_overflow: int
+    dropped_bytes: int
+    flushed: int
+    flushed_bytes: int
+    marked: int
+    threshold_marked: int
+    queued: int
+    queued_bytes: int
+    closed: bool
+
+
+class Flow(NamedTuple):
+    """What is kept of a flow. ``first_above`` is None where the last packet wasn't late."""
+
+    queued: int
+    queued_bytes: int
+    credits: int
+    first_above: Optional[int]
+    drop_next: int
+    count: int
+    last_count: int
+    dropping: bool
+
+
+class Params(NamedTuple):
+    """The parameters, in packets, flows, bytes and microseconds. None where one is off."""
+
+    limit: int
+    flows: int
+    quantum: int
+    mtu: int
+    target: int
+    interval: int
+    ce_threshold: Optional[int]
+    memory_limit: Optional[int]
+    drop_batch: int
+    ecn: bool
+    hash: bool
+
+
+def _sent(record: _Sent) -> Sent:
+    return Sent(record.tag, record.id, record.len, record.ecn, Mark(record.mark), record.drops)
+
+
+class Scheduler:
+    """A scheduler with the parameters that words say, those of tc-fq_codel(8). ``free`` or the end of a ``with``
+    block gives its memory back; what waits then is forgotten. It stays on the thread that made it."""
+
+    def __init__(self, words: str = "", seed: bytes = bytes(16)) -> None:
+        self._m = _Maltcove()
+        fault = _Fault()
+        text = words.encode()
+        answer = _library.maltcove_open(self._m, text, len(text), seed, len(seed), fault)
+        if answer == Status.BAD_WORDS:
+            raise WordError(fault.place, WordFault(fault.kind))
+        _made(answer)
+
+    def __enter__(self) -> "Scheduler":
+        return self
+
+    def __exit__(self, *_: object) -> None:
+        self.free()
+
+    def __del__(self) -> None:
+        self.free()
+
+    def free(self) -> None:
+        """Gives all memory back. A later call but this one is refused."""
+        _library.maltcove_free(self._m)
+
+    def enqueue(self, now_us: int, packet: Packet) -> Admitted:
+        """Accepts a packet. Read ``drops`` before the next one, where there are any."""
+        admitted = _Admitted()
+        moment = _in_range("now_us", now_us, 1 << 64)
+        _made(_library.maltcove_enqueue(self._m, moment, packet._record(), admitted))
+        return Admitted(admitted.id, admitted.flow, admitted.drops)
+
+    def enqueue_flow(self, now_us: int, flow: int, length: int, ecn: int = 0, tag: int = 0) -> Admitted:
+        """Accepts a packet into a flow, modulo their number, where the words say ``classify dport``."""
+        admitted = _Admitted()
+        _made(_library.maltcove_enqueue_flow(
+            self._m, _in_range("now_us", now_us, 1 << 64), _in_range("flow", flow, 1 << 32),
+            _in_range("length", length, 1 << 32), _in_range("ecn", ecn, 256), _in_range("tag", tag, 1 << 64), admitted,
+        ))
+        return Admitted(admitted.id, admitted.flow, admitted.drops)
+
+    def dequeue(self, now_us: int) -> Optional[Sent]:
+        """Gives the next packet, or None where none waits."""
+        record = _Sent()
+        answer = _made(_library.maltcove_dequeue(self._m, _in_range("now_us", now_us, 1 << 64), record))
+        return None if answer == Status.IDLE else _sent(record)
+
+    def dequeue_burst(self, now_us: int, most: int) -> list[Sent]:
+        """Gives up to so many packets at one moment."""
+        records = (_Sent * most)()
+        given = _made(_library.maltcove_dequeue_burst(self._m, _in_range("now_us", now_us, 1 << 64), records, most))
+        return [_sent(record) for record in records[:given]]
+
+    def drops(self) -> Iterator[Dropped]:
+        """The drops that weren't read yet, in their order. Each is read as the iterator gives it."""
+        record = _Dropped()
+        while _made(_library.maltcove_drops(self._m, record, 1)):
+            yield Dropped(record.tag, record.id, Cause(record.cause))
+
+    def flush(self) -> Iterator[Flushed]:
+        """Takes out what waits, as dequeues at the last moment do. Each packet is flushed as the iterator gives it.
+        What CoDel drops on the way is there to be read, by ``drops``."""
+        record = _Flushed()
+        while _made(_library.maltcove_flush(self._m, record, 1)):
+            yield Flushed(record.tag, record.id)
+
+    def close(self, now_us: int) -> None:
+        """From here on no packet is accepted; dequeues go on."""
+        _made(_library.maltcove_close(self._m, _in_range("now_us", now_us, 1 << 64)))
+
+    def is_closed(self) -> bool:
+        """Whether there was a close."""
+        return _made(_library.maltcove_is_closed(self._m)) == 1
+
+    def queued(self) -> int:
+        """How many packets wait."""
+        return _made(_library.maltcove_queued(self._m))
+
+    def totals(self) -> Totals:
+        """The statistics of all packets so far."""
+        record = _Totals()
+        _made(_library.maltcove_totals(self._m, record))
+        return Totals(*(getattr(record, name) for name in Totals._fields))
+
+    def flow(self, flow: int) -> Flow:
+        """What is kept of a flow, from 0."""
+        f = _Flow()
+        _made(_library.maltcove_flow(self._m, _in_range("flow", flow, 1 << 32), f))
+        return Flow(
+            f.queued, f.queued_bytes, f.credits, f.first_above if f.has_first_above else None, f.drop_next, f.count,
+            f.last_count, f.dropping,
+        )
+
+    def params(self) -> Params:
+        """The parameters."""
+        p = _Params()
+        _made(_library.maltcove_params(self._m, p))
+        return Params(
+            p.limit, p.flows, p.quantum, p.mtu, p.target, p.interval, p.ce_threshold if p.has_ce_threshold else None,
+            p.memory_limit if p.has_memory_limit else None, p.drop_batch, p.ecn, p.hash,
+        )
+
+
+def version() -> str:
+    """The version of the library, as 0.1.0."""
+    return _library.maltcove_version().decode()

@@ -1,0 +1,109 @@
+//! Why a call is refused.
+
+use std::ffi::c_int;
+use std::fmt::{self, Display, Formatter};
+
+/// What is wrong with a parameter word.
+#[derive(Clone, Copy, Debug, PartialEq, Eq, Hash)]
+pub enum WordFault {
+    /// The word names no parameter, or no way to classify.
+    UnknownWord,
+    /// No value stands after the parameter.
+    MissingValue,
+    /// The value isn't written as a number or a time is.
+    NotANumber,
+    /// The value is out of its range.
+    OutOfRange,
+}
+
+/// Why a call is refused. Nothing has changed then.
+#[derive(Clone, Copy, Debug, PartialEq, Eq, Hash)]
+pub enum Error {
+    /// The moment is 2^60 microseconds or more.
+    TooLarge,
+    /// The moment is before that of the last call.
+    Backwards,
+    /// The scheduler was closed.
+    Closed,
+    /// There are no more ids: something waited all the time while 2^39 packets came.
+    Exhausted,
+    /// A growth was refused.
+    Memory,
+    /// A packet has 0 bytes or more than 65,535, or addresses of two versions of IP.
+    BadPacket,
+    /// A word is no parameter.
+    BadWords {
+        /// The place of the word, from 1.
+        place: u64,
+        /// What is wrong with it.
+        fault: WordFault,
+    },
+    /// Drops of earlier calls weren't read: see [`Scheduler::drops`](crate::Scheduler::drops).
+    Unread,
+    /// There is no flow of that number.
+    BadFlow,
+    /// The scheduler chooses the flows itself: its words lack `classify dport`.
+    Hashed,
+}
+
+impl Error {
+    /// The error that an answer of C names. The answers that the types of this crate rule out are none.
+    pub(crate) fn of(answer: c_int) -> Error {
+        match answer {
+            -2 => Error::TooLarge,
+            -3 => Error::Backwards,
+            -4 => Error::Closed,
+            -5 => Error::Exhausted,
+            -6 => Error::Memory,
+            -7 => Error::BadPacket,
+            -9 => Error::Unread,
+            -12 => Error::BadFlow,
+            -13 => Error::Hashed,
+            _ => unreachable!("the library answered {answer}"),
+        }
+    }
+
+    /// The error of a word. A text of Rust is UTF-8, so no other kind comes.
+    pub(crate) fn of_word(place: u64, kind: i32) -> Error {
+        let fault = match kind {
+            1 => WordFault::UnknownWord,
+            2 => WordFault::MissingValue,
+            3 => WordFault::NotANumber,
+            4 => WordFault::OutOfRange,
+            _ => unreachable!("the library named the fault {kind}"),
+        };
+        Error::BadWords { place, fault }
+    }
+}
+
+impl Display for WordFault {
+    fn fmt(&self, f: &mut Formatter<'_>) -> fmt::Result {
+        f.write_str(match self {
+            WordFault::UnknownWord => "it names no parameter",
+            WordFault::MissingValue => "no value stands after it",
+            WordFault::NotANumber => "it is no number and no time",
+            WordFault::OutOfRange => "it is out of its range",
+        })
+    }
+}
+
+impl Display for Error {
+    fn fmt(&self, f: &mut Formatter<'_>) -> fmt::Result {
+        f.write_str(match self {
+            Error::TooLarge => "the moment is 2^60 microseconds or more",
+            Error::Backwards => "the moment is before that of the last call",
+            Error::Closed => "the scheduler was closed",
+            Error::Exhausted => "there are no more ids",
+            Error::Memory => "a growth was refused",
+            Error::BadPacket => "a field of the packet is out of its range",
+            Error::BadWords { place, fault } => {
+                return write!(f, "parameter word {place}: {fault}")
+            }
+            Error::Unread => "drops of earlier calls were not read",
+            Error::BadFlow => "there is no flow of that number",
+            Error::Hashed => "the scheduler chooses the flows by a hash",
+        })
+    }
+}
+
+impl std::error::Error for Error {}
