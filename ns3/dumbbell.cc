@@ -193,10 +193,10 @@ class Dumbbell
         }
         const uint64_t sent = DynamicCast<UdpClient>(m_pings.Get(0))->GetTotalTx() / 100;
         const QueueDisc::Stats& stats = m_disc->GetStats();
-        std::printf("%s%s,%d,%u,%u,%.3f,%.4f,%.2f,%.2f,%.2f,%.2f,%llu,%.2f,%.2f,%u,%u\n", m_options.queue.c_str(),
-                    m_options.exactRoot ? "-exact" : "", m_options.ecn ? 1 : 0, m_options.flows, m_options.seed,
-                    sum / 1e6 / m_options.seconds, sum * sum / (m_options.flows * squares), g_oneWay.At(0.5),
-                    g_oneWay.At(0.95), g_oneWay.At(0.99), g_oneWay.At(1),
+        std::printf("%s,%d,%u,%u,%.3f,%.4f,%.2f,%.2f,%.2f,%.2f,%llu,%.2f,%.2f,%u,%u\n", Name().c_str(),
+                    m_options.ecn ? 1 : 0, m_options.flows, m_options.seed, sum / 1e6 / m_options.seconds,
+                    sum * sum / (m_options.flows * squares), g_oneWay.At(0.5), g_oneWay.At(0.95), g_oneWay.At(0.99),
+                    g_oneWay.At(1),
                     static_cast<unsigned long long>(sent - g_oneWay.Count()), g_sojourn.At(0.5), g_sojourn.At(0.99),
                     stats.nTotalDroppedPackets, stats.nTotalMarkedPackets);
     }
@@ -218,6 +218,16 @@ class Dumbbell
     }
 
   private:
+    /** The queue, with what an experiment changed in it. */
+    std::string Name() const
+    {
+        std::string name = m_options.queue;
+        name += m_options.exactRoot ? " exactRoot" : "";
+        name += m_options.mtu > 0 ? " mtu=" + std::to_string(m_options.mtu) : "";
+        name += m_options.minBytes > 0 ? " minBytes=" + std::to_string(m_options.minBytes) : "";
+        return name;
+    }
+
     /** A host on either side, with links of 100 Mbit/s. */
     void Attach(uint32_t i)
     {
