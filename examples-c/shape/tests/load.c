@@ -18,7 +18,7 @@ struct load {
 
 /* What came, and what was seen of it. */
 struct counts {
-	uint64_t came, bad, left, fates[FATE_REFUSED + 1];
+	uint64_t came, bad, left, marks, fates[FATE_REFUSED + 1];
 };
 
 static void count_fate(void *context, const struct buffer *buffer, enum fate fate, uint64_t now)
@@ -28,6 +28,15 @@ static void count_fate(void *context, const struct buffer *buffer, enum fate fat
 	(void)now;
 	CHECK(buffer->is_out);
 	counts->fates[fate]++;
+	if (fate == FATE_SENT) {
+		struct packet_view view;
+
+		/* what leaves says what the queue answered */
+		CHECK(packet_parse(buffer->bytes, buffer->count, &view) == PACKET_FINE && view.ecn == buffer->ecn);
+		CHECK(view.version == 6 || header_sum(buffer->bytes) == 0xffff);
+		CHECK(buffer->mark == 0 || (buffer->view.ecn != 0 && view.ecn == 3));
+		counts->marks += buffer->mark != 0;
+	}
 }
 
 /* A packet of one of 40 flows: a few of them send most of the packets. One in a hundred is cut off. */
@@ -101,6 +110,7 @@ static void check_counts(const struct shaper *shaper, const struct counts *count
 	CHECK(totals.queued == 0 && totals.queued_bytes == 0);
 	CHECK(counts->fates[FATE_SENT] == totals.sent && counts->fates[FATE_FLUSHED] == totals.flushed);
 	CHECK(counts->fates[FATE_CODEL] == totals.dropped_codel);
+	CHECK(counts->marks == totals.marked + totals.threshold_marked);
 	CHECK(counts->fates[FATE_OVERFLOW] == totals.dropped_overflow);
 	/* the load was one: all that can happen has happened */
 	CHECK(counts->bad > 0 && totals.dropped_overflow > 0 && totals.flushed > 0 && counts->left > 0);

@@ -112,6 +112,10 @@ static void test_bad_v6(void)
 	bytes[49] = 255; /* a routing header of 2,048 bytes */
 	CHECK(packet_parse(bytes, 140, &view) == PACKET_LIES);
 	bytes[49] = 2;
+	bytes[97] = 255; /* the last extension header, of 2,048 bytes */
+	CHECK(packet_parse(bytes, 140, &view) == PACKET_LIES);
+	CHECK(view.len == 0 && view.version == 0 && view.ecn == 0 && view.src[15] == 0);
+	bytes[97] = 0;
 	bytes[4] = 255; /* 65,380 bytes after the header */
 	CHECK(packet_parse(bytes, 140, &view) == PACKET_LIES);
 }
@@ -181,6 +185,36 @@ static void test_pool(void)
 	pool_give(&pool, buffers[1]);
 	CHECK(pool.out == 0 && pool.taken == 3 && pool.given == 3);
 	CHECK(!pool_is_whole(&pool)); /* as one was given back twice */
+	pool_close(&pool);
+}
+
+/* A queue of two packets: the third is dropped, two leave in their order, and a flush gives the rest back. */
+static void test_fifo(void)
+{
+	struct pool pool;
+	struct queue queue = { .kind = &fifo_kind, .pool = &pool };
+	struct queue_totals totals;
+	struct buffer *buffers[3], *taken[3];
+	char fault[160];
+
+	CHECK(pool_open(&pool, 3));
+	CHECK(!fifo_kind.open(&queue, "limit 0", (const uint8_t[16]){ 0 }, fault, sizeof fault));
+	CHECK(!fifo_kind.open(&queue, "limit 2 noecn", (const uint8_t[16]){ 0 }, fault, sizeof fault));
+	CHECK(fifo_kind.open(&queue, "limit 2", (const uint8_t[16]){ 0 }, fault, sizeof fault));
+	for (int i = 0; i < 3; i++) {
+		CHECK((buffers[i] = pool_take(&pool)) != NULL);
+		buffers[i]->view.len = 100;
+		fifo_kind.put(&queue, 5, buffers[i]);
+	}
+	CHECK(pool.out == 2);
+	CHECK(fifo_kind.take(&queue, 6, taken, 1) == 1 && taken[0] == buffers[0]);
+	pool_give(&pool, taken[0]);
+	fifo_kind.totals(&queue, &totals);
+	CHECK(totals.accepted == 3 && totals.sent == 1 && totals.sent_bytes == 100 && totals.dropped_overflow == 1);
+	CHECK(totals.queued == 1 && totals.queued_bytes == 100);
+	fifo_kind.flush(&queue, 7);
+	CHECK(fifo_kind.take(&queue, 8, taken, 3) == 0 && pool_is_whole(&pool));
+	fifo_kind.close(&queue);
 	pool_close(&pool);
 }
 
@@ -275,10 +309,11 @@ int main(void)
 	test_checksum();
 	test_ecn_of_v6();
 	test_pool();
+	test_fifo();
 	test_link_is_exact();
 	test_link_room();
 	test_amounts();
 	test_options();
-	printf("units: 11 tests passed\n");
+	printf("units: 12 tests passed\n");
 	return 0;
 }
