@@ -89,14 +89,14 @@ static void print_table(const struct table *table, const char *queue)
 	for (size_t id = 0; id < table->count; id++) {
 		const struct row *row = &table->rows[id];
 
-		printf("%s,%zu,%llu,%lu,%lu,%u,%llu,%s,%llu", queue, id, (unsigned long long)row->tuple,
+		printf("%s,%zu,%llu,%lu,%lu,%u,%llu,%s,%llu,%llu,", queue, id, (unsigned long long)row->tuple,
 		       (unsigned long)row->flow, (unsigned long)row->view.len, row->view.ecn,
-		       (unsigned long long)row->arrived, fates[row->fate], (unsigned long long)row->at);
+		       (unsigned long long)row->arrived, fates[row->fate], (unsigned long long)row->at,
+		       (unsigned long long)(row->at - row->arrived));
 		if (row->fate == FATE_SENT)
-			printf(",%llu,%u,%s,%llu\n", (unsigned long long)(row->at - row->arrived), row->ecn, marks[row->mark],
-			       (unsigned long long)row->place);
+			printf("%u,%s,%llu\n", row->ecn, marks[row->mark], (unsigned long long)row->place);
 		else
-			printf(",,,,\n");
+			printf(",,\n");
 	}
 }
 
