@@ -1,10 +1,10 @@
 /*
- * dumbbell.cc: several TCP flows and a UDP flow like a ping's share a link, behind one of several queue discs. It prints a
- * row of what came of it.
+ * dumbbell.cc: several TCP flows and a UDP flow like a ping's share a link, behind one of several queue discs. It
+ * prints a row of what came of it.
  *
  *   dumbbell --queue=maltcove|fqcodel|fifo [--flows=4] [--seconds=60] [--ecn] [--rate=10Mbps] [--seed=1] [--header]
  *
- * Experiments: --exactRoot gives ns-3's CoDel an exact root; --mtu sets Maltcove's Mtu, and --minBytes CoDel's MinBytes.
+ * Experiments: --exactRoot gives ns-3's CoDel an exact root; --mtu sets Maltcove's Mtu, --minBytes CoDel's MinBytes.
  */
 #include "exact-root.h"
 #include "maltcove-queue-disc.h"
@@ -238,8 +238,8 @@ class Dumbbell
         NetDeviceContainer right = access.Install(m_routers.Get(1), m_right.Get(i));
         const std::string number = std::to_string(i);
         Ipv4AddressHelper(("10.2." + number + ".0").c_str(), "255.255.255.0").Assign(left);
-        Ipv4InterfaceContainer ends = Ipv4AddressHelper(("10.3." + number + ".0").c_str(), "255.255.255.0").Assign(right);
-        m_addresses.push_back(ends.GetAddress(1));
+        Ipv4AddressHelper far(("10.3." + number + ".0").c_str(), "255.255.255.0");
+        m_addresses.push_back(far.Assign(right).GetAddress(1));
     }
 
     Options m_options;
@@ -272,8 +272,8 @@ main(int argc, char** argv)
     line.Parse(argc, argv);
     if (options.header)
     {
-        std::printf("queue,ecn,flows,seed,goodput_mbit,jain,one_way_p50_ms,one_way_p95_ms,one_way_p99_ms,one_way_most_ms,"
-                    "udp_lost,sojourn_p50_ms,sojourn_p99_ms,drops,marks\n");
+        std::printf("queue,ecn,flows,seed,goodput_mbit,jain,one_way_p50_ms,one_way_p95_ms,one_way_p99_ms,"
+                    "one_way_most_ms,udp_lost,sojourn_p50_ms,sojourn_p99_ms,drops,marks\n");
         return 0;
     }
     SetDefaults(options);

@@ -359,8 +359,8 @@ MaltcoveQueueDisc::InitializeParams()
     maltcove_fault fault;
     const int answer = maltcove_open(&m_scheduler, words.data(), words.size(), seed, sizeof seed, &fault);
     NS_ABORT_MSG_UNLESS(answer == MALTCOVE_OK,
-                        "MaltcoveQueueDisc: " << maltcove_strerror(answer) << ": word " << fault.place << " of '" << words
-                                              << "': " << maltcove_fault_text(fault.kind));
+                        "MaltcoveQueueDisc: " << maltcove_strerror(answer) << ": word " << fault.place << " of '"
+                                              << words << "': " << maltcove_fault_text(fault.kind));
 }
 
 } // namespace ns3

@@ -23,8 +23,8 @@ class MaltcoveStore;
  * The attributes that FqCoDelQueueDisc has too have the same names, meanings and standard values: UseEcn, CeThreshold,
  * Interval, Target, MaxSize, Flows, DropBatchSize and Perturbation. Mtu and MemoryLimit are this disc's own.
  *
- * Without a packet filter the scheduler finds an item's flow by a hash of its five-tuple, and Perturbation is the seed of
- * that hash. With filters the flow is what they answer, modulo Flows, and an item that none knows is dropped.
+ * Without a packet filter the scheduler finds an item's flow by a hash of its five-tuple, and Perturbation is the seed
+ * of that hash. With filters the flow is what they answer, modulo Flows, and an item that none knows is dropped.
  */
 class MaltcoveQueueDisc : public QueueDisc
 {

@@ -1,5 +1,5 @@
 /*
- * maltcove-store.h: the items that wait in a MaltcoveQueueDisc, so that ns-3 counts them. An item leaves from any place.
+ * maltcove-store.h: the items that wait in a MaltcoveQueueDisc, so that ns-3 counts them. One leaves from any place.
  */
 #ifndef MALTCOVE_STORE_H
 #define MALTCOVE_STORE_H

@@ -1,7 +1,7 @@
 /*
- * test-counts.cc: the queue disc counts what the scheduler counts, gives the items that the scheduler gives, and keeps the
- * laws of ns-3's statistics. Items come and go at random; a second scheduler, which the test drives itself, gets the same
- * packets.
+ * test-counts.cc: the queue disc counts what the scheduler counts, gives the items that the scheduler gives, and keeps
+ * the laws of ns-3's statistics. Items come and go at random; a second scheduler, which the test drives itself, gets
+ * the same packets.
  */
 #include "maltcove-queue-disc.h"
 
@@ -99,8 +99,9 @@ MakePacket(const Flow& flow, uint32_t payload, uint64_t tag)
     packet.sport = static_cast<uint16_t>(1000 + flow.number);
     packet.dport = 443;
     packet.ecn = flow.ecn;
-    std::memcpy(packet.src, flow.isIpv6 ? "\x20\x01\x0d\xb8\0\0\0\0\0\0\0\0\0\0\0\1" : "\12\0\0\1", flow.isIpv6 ? 16 : 4);
-    std::memcpy(packet.dst, flow.isIpv6 ? "\x20\x01\x0d\xb8\0\0\0\0\0\0\0\0\0\0\0\2" : "\12\0\0\2", flow.isIpv6 ? 16 : 4);
+    const size_t size = flow.isIpv6 ? 16 : 4;
+    std::memcpy(packet.src, flow.isIpv6 ? "\x20\x01\x0d\xb8\0\0\0\0\0\0\0\0\0\0\0\1" : "\12\0\0\1", size);
+    std::memcpy(packet.dst, flow.isIpv6 ? "\x20\x01\x0d\xb8\0\0\0\0\0\0\0\0\0\0\0\2" : "\12\0\0\2", size);
     return packet;
 }
 
@@ -180,7 +181,8 @@ class Pair
     void CheckUse()
     {
         const maltcove_totals_t totals = m_disc->GetTotals();
-        CHECK(totals.dropped_codel > 0 && totals.dropped_overflow > 0 && totals.marked > 0 && totals.threshold_marked > 0);
+        CHECK(totals.dropped_codel > 0 && totals.dropped_overflow > 0);
+        CHECK(totals.marked > 0 && totals.threshold_marked > 0);
         std::printf("counts: %llu accepted, %llu sent, %llu dropped by CoDel, %llu at a limit, %llu and %llu marked\n",
                     static_cast<unsigned long long>(totals.accepted), static_cast<unsigned long long>(totals.sent),
                     static_cast<unsigned long long>(totals.dropped_codel),
@@ -256,7 +258,8 @@ Step(Pair* pair, Ptr<UniformRandomVariable> random)
     }
     for (uint32_t n = random->GetInteger(1, random->GetInteger(0, 300) ? 2 : 200); n > 0; n--)
     {
-        const auto number = static_cast<uint8_t>(random->GetInteger(0, 2) ? random->GetInteger(0, 2) : random->GetInteger(0, 19));
+        const uint32_t flows = random->GetInteger(0, 2) ? 2 : 19;
+        const auto number = static_cast<uint8_t>(random->GetInteger(0, flows));
         pair->Enqueue({number, number % 2 == 1, static_cast<uint8_t>(number % 4)}, random->GetInteger(50, 1400));
     }
 }
@@ -294,7 +297,8 @@ TestAttributes()
             continue;
         }
         CHECK(mine.checker->GetValueTypeName() == other.checker->GetValueTypeName());
-        CHECK(mine.initialValue->SerializeToString(mine.checker) == other.initialValue->SerializeToString(other.checker));
+        CHECK(mine.initialValue->SerializeToString(mine.checker) ==
+              other.initialValue->SerializeToString(other.checker));
         same++;
     }
     CHECK(same == 8);

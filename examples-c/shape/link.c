@@ -5,7 +5,7 @@
 
 #include <string.h>
 
-/* Reads digits from *text on, and leaves *text after them. Answers whether there were some, of a number up to `most`. */
+/* Reads digits from *text on, and leaves *text after them. Answers whether there were some, of a number up to most. */
 static bool read_digits(const char **text, uint64_t most, uint64_t *number)
 {
 	const char *at = *text;

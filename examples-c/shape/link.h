@@ -18,7 +18,8 @@ struct link {
 /* Reads a rate as tc(8) writes it, as 20mbit or 1250kbps. Answers whether it is one, of 1000bit to 1tbit. */
 bool link_read_rate(const char *text, uint64_t *rate);
 
-/* Reads a time as 10ms: digits and us, ms, s or nothing, which is microseconds. Answers whether it is one, up to 1000s. */
+/* Reads a time as 10ms: digits and us, ms, s or nothing, which is microseconds. Answers whether it is one, up to 1000s.
+ */
 bool link_read_time(const char *text, uint64_t *nanoseconds);
 
 /* A link that is idle. */
@@ -31,8 +32,8 @@ void link_wake(struct link *link, uint64_t now);
 void link_send(struct link *link, uint32_t len);
 
 /*
- * How many packets the link starts up to now, whatever their lengths are, of at most `longest` bytes: 0 where it is busy
- * or idle. So many can be asked for at once, as the program wakes late.
+ * How many packets the link starts up to now, whatever their lengths are, of `longest` bytes at most: 0 where it is
+ * busy or idle. So many can be asked for at once, as the program wakes late.
  */
 size_t link_room(const struct link *link, uint64_t now, uint32_t longest);
 

@@ -1,6 +1,6 @@
 /*
- * queue_linux.c: packets wait in Linux's own sch_fq_codel, built in user space, to be compared with Maltcove. The kernel's
- * files aren't kept here: setup.h of the harness includes them.
+ * queue_linux.c: packets wait in Linux's own sch_fq_codel, built in user space, to be compared with Maltcove. The
+ * kernel's files aren't kept here: setup.h of the harness includes them.
  */
 #include "setup.h"
 

@@ -1,6 +1,6 @@
 /*
- * queue_maltcove.c: packets wait in Maltcove. A packet's tag is the address of its buffer, and each tag comes back once:
- * sent, dropped or flushed.
+ * queue_maltcove.c: packets wait in Maltcove. A packet's tag is the address of its buffer, and each tag comes back
+ * once: sent, dropped or flushed.
  */
 #include "queue.h"
 

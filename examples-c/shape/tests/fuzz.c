@@ -1,6 +1,6 @@
 /*
- * fuzz.c: packets of random bytes, and packets that were right before they were spoilt or cut off. Each stands in a block
- * of just its size, so that a sanitizer sees a byte that is read past it.
+ * fuzz.c: packets of random bytes, and packets that were right before they were spoilt or cut off. Each stands in a
+ * block of just its size, so that a sanitizer sees a byte that is read past it.
  *
  *   fuzz [COUNT [SEED]]
  */

@@ -286,7 +286,8 @@ static void test_options(void)
 	char fault[160];
 
 	CHECK(read_words(&options, (const char *[]){ "--in", "a", "limit", "5", "--rate", "1mbit", "noecn", "--delay", "2ms",
-	      "--queue", "fifo", "--seed", "00112233445566778899aabbccddeeff", "--out", "b", "--buffers", "77", NULL }, fault));
+	      "--queue", "fifo", "--seed", "00112233445566778899aabbccddeeff", "--out", "b", "--buffers", "77", NULL },
+	      fault));
 	CHECK(strcmp(options.in, "a") == 0 && strcmp(options.out, "b") == 0 && options.rate == 1000000);
 	CHECK(options.delay == 2000000 && options.kind == &fifo_kind && options.buffers == 77);
 	CHECK(strcmp(options.words, "limit 5 noecn") == 0 && options.has_seed && options.seed[15] == 0xff);
