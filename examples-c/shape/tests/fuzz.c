@@ -1,0 +1,111 @@
+/*
+ * fuzz.c: packets of random bytes, and packets that were right before they were spoilt or cut off. Each stands in a
+ * block of just its size, so that a sanitizer sees a byte that is read past it.
+ *
+ *   fuzz [COUNT [SEED]]
+ */
+#include <string.h>
+
+#include "check.h"
+
+enum { LONGEST = 1600 };
+
+static struct packet_view random_view(uint64_t *state)
+{
+	static const uint8_t protos[] = { 6, 17, 1, 58, 50, 132 };
+	struct packet_view view = { 0 };
+
+	view.version = random_below(state, 2) ? 4 : 6;
+	view.proto = protos[random_below(state, sizeof protos)];
+	view.ecn = (uint8_t)random_below(state, 4);
+	view.len = 44 + random_below(state, LONGEST - 44);
+	view.sport = (uint16_t)random_below(state, 65536);
+	view.dport = (uint16_t)random_below(state, 65536);
+	for (int i = 0; i < (view.version == 4 ? 4 : 16); i++) {
+		view.src[i] = (uint8_t)random_below(state, 256);
+		view.dst[i] = (uint8_t)random_below(state, 256);
+	}
+	if (view.proto != 6 && view.proto != 17)
+		view.sport = view.dport = 0;
+	return view;
+}
+
+/* Writes the ECN field of a packet, and compares what is read before and after. */
+static void write_and_compare(uint8_t *bytes, size_t count, const struct packet_view *before, uint8_t ecn)
+{
+	struct packet_view after, wanted = *before;
+	uint16_t sum = before->version == 4 ? header_sum(bytes) : 0;
+
+	packet_write_ecn(bytes, ecn);
+	CHECK(packet_parse(bytes, count, &after) == PACKET_FINE);
+	wanted.ecn = ecn;
+	CHECK(memcmp(&after, &wanted, sizeof after) == 0);
+	/* a right sum stays right, and so does a wrong one, but for the two forms of 0 */
+	if (before->version == 4)
+		CHECK(header_sum(bytes) % 0xffff == sum % 0xffff);
+}
+
+/* Spoils some bytes, most of them in the headers. */
+static void spoil(uint64_t *state, uint8_t *bytes, uint32_t count)
+{
+	for (uint32_t n = 1 + random_below(state, 4); n > 0; n--) {
+		uint32_t front = random_below(state, 2) && count > 100 ? 100 : count;
+
+		bytes[random_below(state, front)] = (uint8_t)random_below(state, 256);
+	}
+}
+
+/* Reads a packet in a block of just its size. Answers whether it was found fine. */
+static int read_alone(uint64_t *state, const uint8_t *bytes, uint32_t count)
+{
+	uint8_t *block = malloc(count > 0 ? count : 1);
+	struct packet_view view;
+	int is_fine;
+
+	CHECK(block != NULL);
+	memcpy(block, bytes, count);
+	is_fine = packet_parse(block, count, &view) == PACKET_FINE;
+	if (is_fine) {
+		CHECK(view.len <= count && (view.version == 4 || view.version == 6) && view.ecn <= 3);
+		write_and_compare(block, count, &view, (uint8_t)random_below(state, 4));
+	}
+	free(block);
+	return is_fine;
+}
+
+int main(int argc, char **argv)
+{
+	uint64_t count = argc > 1 ? strtoull(argv[1], NULL, 10) : 1000000;
+	uint64_t state = argc > 2 ? strtoull(argv[2], NULL, 10) : 1;
+	uint64_t fine = 0;
+	uint8_t bytes[LONGEST];
+
+	for (uint64_t i = 0; i < count; i++) {
+		struct packet_view view = random_view(&state), read;
+		uint32_t length = view.len;
+
+		CHECK(build_packet(bytes, &view, random_below(&state, ALL_EXTRAS + 1)));
+		CHECK(packet_parse(bytes, length, &read) == PACKET_FINE);
+		CHECK(memcmp(&read, &view, sizeof view) == 0);
+		switch (random_below(&state, 4)) {
+		case 0: /* random bytes after the version */
+			length = random_below(&state, 200);
+			for (uint32_t k = 1; k < length; k++)
+				bytes[k] = (uint8_t)random_below(&state, 256);
+			break;
+		case 1:
+			length = random_below(&state, length);
+			break;
+		case 2:
+			spoil(&state, bytes, length);
+			break;
+		default:
+			spoil(&state, bytes, length);
+			length = random_below(&state, length);
+		}
+		fine += (uint64_t)read_alone(&state, bytes, length);
+	}
+	CHECK(fine > count / 20 && fine < count - count / 20);
+	printf("fuzz: %llu packets, %llu of them fine\n", (unsigned long long)count, (unsigned long long)fine);
+	return 0;
+}
