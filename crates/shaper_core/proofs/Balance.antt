@@ -1,5 +1,5 @@
 -- What a step of the scheduler moves from one place to another.
-use Rattle.std.proofs.Common.{◌≡◌, ℕ, ◌+◌, ◌-◌, ◌<◌, ◌≤◌, List, [], ◌∷◌, ◌++◌, drop, length, map, sum_by, refl, ap, subst, sym, ◌∙◌, arith}
+use Rattle.std.proofs.Common.{◌≡◌, ℕ, ◌+◌, ◌≤◌, List, [], ◌∷◌, ◌++◌, drop, length, map, sum_by, refl, ap, ◌∙◌, arith}
 use Rattle.std.specs.List.{flat_map}
 use Rattle.std.proofs.lemmas.List.{drop-append-le}
 use Rattle.std.proofs.lemmas.List.Sorted.{sum_by-IsPermutation}
@@ -29,7 +29,7 @@ module _ (old new : Scheduler) (come gone : List Waiting) (before : IsLawful old
   -- Over any of the lost packets behind a number of them: what comes stays or goes.
   pub moves_balance : (read : ℕ) → read ≤ length (lost_packets old.standing.events) → (g : Waiting → ℕ)
       → sum_by g (drop read (lost_packets new.standing.events)) + sum_by g (queued_of new) + sum_by g gone
-          ≡ sum_by g (drop read (lost_packets old.standing.events)) + sum_by g (queued_of old) + sum_by g come
+      ≡ sum_by g (drop read (lost_packets old.standing.events)) + sum_by g (queued_of old) + sum_by g come
   moves_balance read few g =
       let lost = lost_packets old.standing.events in
       let whole : (s : Scheduler) → IsLawful s → sum_by g (accepted_packets s.standing.events) ≡ sum_by g (sent_packets s.standing.events) + sum_by g (lost_packets s.standing.events) + sum_by g (queued_of s) =

@@ -1,11 +1,7 @@
 -- The packets stay in balance.
-use Rattle.std.proofs.Common.{◌≡◌, ℕ, ◌+◌, ◌-◌, ◌≤◌, List, [], ◌∷◌, ◌++◌, drop, length, map, sum_by, refl, ap, subst, sym, ◌∙◌, arith}
-use Rattle.std.specs.List.{flat_map}
-use Rattle.std.proofs.lemmas.List.{length-append}
+use Rattle.std.proofs.Common.{◌≡◌, ℕ, ◌+◌, ◌≤◌, List, [], ◌∷◌, ◌++◌, drop, length, map, sum_by, ap, ◌∙◌, arith}
 use Rattle.std.proofs.lemmas.List.Sums.{sum_by-append, sum_by-cons}
 use Rattle.packet_core.specs.declared.packet.Waiting.{Waiting}
-use Rattle.journal_core.specs.Losses.{lost_packets}
-use Rattle.sched_core.specs.Schedulers.{flows_of}
 use Rattle.shaper_core.specs.declared.answers.Handle.{Handle}
 use Rattle.shaper_core.specs.Laws.{IsLawful}
 use Rattle.shaper_core.specs.ShaperKept.{AreBalanced}

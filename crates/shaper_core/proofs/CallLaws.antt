@@ -1,5 +1,5 @@
 -- What holds after every list of calls.
-use Rattle.std.proofs.Common.{◌≡◌, ℕ, ◌+◌, ◌-◌, ◌≤◌, Bool, false, List, [], ◌∷◌, ◌++◌, length, map, sum_by, Option, Some, None, option_map, ◌==◌, ◌&&◌, refl, ap, subst, sym, ◌∙◌, inl, inr, arith, append-nil}
+use Rattle.std.proofs.Common.{◌≡◌, ℕ, ◌+◌, ◌≤◌, Bool, false, List, [], ◌∷◌, ◌++◌, length, map, sum_by, Option, Some, None, option_map, ◌==◌, ◌&&◌, refl, ap, subst, sym, inl, inr, arith, append-nil}
 use Rattle.std.specs.Prelude.{IfSome}
 use Rattle.std.proofs.lemmas.Bool.{and_parts, eq-eqb, eqb-true}
 use Rattle.std.proofs.lemmas.List.Elements.{All-nil}
@@ -28,7 +28,7 @@ use Rattle.shaper_core.specs.Calls.{AreCalled, Call, IsCalled, answered, given_b
 use Rattle.shaper_core.specs.Calls.Call.{enqueued, dequeued, read, flushed, closed}
 use Rattle.shaper_core.specs.Laws.{IsLawful}
 use Rattle.shaper_core.specs.ShaperKept.{AreBalanced}
-use Rattle.shaper_core.specs.Shapers.{AreFlushed, AreRead, FindsNone, FlushesAll, IsAccepted, IsClosed, IsDequeued, IsDue, IsEnqueued, IsFlushed, IsRead, Shaping, drop_handle, events_of, handle_of, lost_of, new_shaper, renewed, renumbered, sent_handle, sent_handles, unread_packets, waiting_packets}
+use Rattle.shaper_core.specs.Shapers.{AreFlushed, AreRead, FindsNone, IsAccepted, IsClosed, IsDequeued, IsDue, IsEnqueued, Shaping, drop_handle, events_of, handle_of, lost_of, new_shaper, renewed, renumbered, sent_handle, sent_handles, unread_packets, waiting_packets}
 use Rattle.shaper_core.proofs.Balanced.{gone_sum, sum_push}
 use Rattle.shaper_core.proofs.Multisets.{Tells, same_sums}
 use Rattle.shaper_core.proofs.Renewals.{none_queued, renewed_balanced}

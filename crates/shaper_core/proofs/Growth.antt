@@ -1,5 +1,5 @@
 -- What comes to the packets that a journal names, as events come to its end.
-use Rattle.std.proofs.Common.{◌≡◌, ℕ, ◌+◌, ◌≤◌, Bool, cond, List, [], ◌∷◌, ◌++◌, length, map, sum_by, Option, refl, ap, subst, sym, ◌∙◌, arith}
+use Rattle.std.proofs.Common.{◌≡◌, ℕ, ◌+◌, ◌≤◌, Bool, cond, List, ◌++◌, length, map, Option, ap, ◌∙◌, arith}
 use Rattle.std.specs.Prelude.{count_by}
 use Rattle.std.specs.List.{filter_map}
 use Rattle.std.proofs.lemmas.List.{length-append, map-append}
@@ -58,7 +58,7 @@ module _ (old made : List Event) (found : AreFound (acceptances old) (fate_ids o
   pub has_grown : HasGrown (statistics old) (statistics all)
   has_grown = record {
     sent = let more : length (filter_map sent_of all) ≡ length (filter_map sent_of old) + length (filter_map sent_of made) = ap length (filter_map-append sent_of old made) ∙ length-append (filter_map sent_of old) (filter_map sent_of made) in
-    omega arith;
+        omega arith;
     bytes = bytes_grow;
     marked = count_grows is_marked;
     threshold_marked = count_grows is_threshold_marked;

@@ -1,5 +1,5 @@
 -- What packets are known by.
-use Rattle.std.proofs.Common.{◌≡◌, ℕ, ◌+◌, ◌<◌, ◌==◌, List, [], ◌∷◌, length, map, get_or, Option, Some, None, option_map, IsSomeAnd, refl, ap, sym, subst, ◌∙◌, inl, inr, arith, eq-eqb, ne_eqb}
+use Rattle.std.proofs.Common.{◌≡◌, ℕ, ◌+◌, ◌<◌, List, [], ◌∷◌, length, map, get_or, Option, Some, None, option_map, IsSomeAnd, refl, ap, sym, subst, ◌∙◌, inl, inr, arith, eq-eqb, ne_eqb}
 use Rattle.std.specs.Prelude.{slice_get}
 use Rattle.std.specs.List.{AllByRecursion, cons_option, range_with_len}
 use Rattle.std.proofs.lemmas.Bool.{cases_eq}
@@ -9,12 +9,11 @@ use Rattle.packet_core.specs.declared.packet.Waiting.{Waiting}
 use Rattle.journal_core.specs.declared.event.Event.{Event}
 use Rattle.journal_core.specs.Happened.{Acceptance, acceptances, named, waiting_of}
 use Rattle.journal_core.specs.JournalLaws.{IdsInOrder}
-use Rattle.journal_core.specs.Losses.{lost_packets, packets_named, waited_as}
+use Rattle.journal_core.specs.Losses.{lost_packets, packets_named}
 use Rattle.journal_core.specs.Statistics.{dropped_of}
 use Rattle.journal_core.proofs.IdLemmas.{id_of, ids_below}
 use Rattle.std.specs.List.{filter_map}
 use Rattle.shaper_core.specs.declared.answers.Dropped.{Dropped}
-use Rattle.shaper_core.specs.declared.answers.Handle.{Handle}
 use Rattle.shaper_core.specs.Drops.{IsDropAt}
 use Rattle.shaper_core.specs.Shapers.{handle_of}
 

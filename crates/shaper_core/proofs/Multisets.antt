@@ -1,9 +1,9 @@
 -- Lists that are the same but for their order.
-use Rattle.std.proofs.Common.{◌≡◌, ℕ, ◌+◌, ◌<◌, Bool, true, false, cond, List, [], ◌∷◌, ◌++◌, sum_by, ap, refl, sym, subst, ◌∙◌, inl, inr, arith}
+use Rattle.std.proofs.Common.{◌≡◌, ℕ, ◌<◌, Bool, true, cond, List, [], ◌∷◌, ◌++◌, sum_by, ap, sym, subst, inl, inr, arith}
 use Rattle.std.specs.List.Sorted.{IsPermutation}
-use Rattle.std.proofs.lemmas.Bool.{cases_Bool, cases_eq, eq-eqb, ne_eqb}
+use Rattle.std.proofs.lemmas.Bool.{cases_Bool}
 use Rattle.std.proofs.lemmas.List.Sums.{sum_by-append, sum_by-cons}
-use Rattle.std.proofs.lemmas.List.Sorted.{IsPermutation-cons, IsPermutation-middle, IsPermutation-refl, IsPermutation-sym, IsPermutation-trans, sum_by-IsPermutation}
+use Rattle.std.proofs.lemmas.List.Sorted.{IsPermutation-cons, IsPermutation-middle, IsPermutation-refl, IsPermutation-sym, IsPermutation-trans}
 
 -- A test of whether two are one.
 pub record Tells {X : Type 0} (same : X → X → Bool) : Type 0 where
@@ -45,13 +45,13 @@ module _ {X : Type 0} (same : X → X → Bool) (tells : Tells same) where
       let same_count = sums (as_often x) in
       let s = stands x ys (omega arith) in
       let rest : (f : X → ℕ) → sum_by f xs ≡ sum_by f (s.before ++ s.after) = λ f.
-          let whole = sums f in
-          let here : sum_by f ys ≡ sum_by f (s.before ++ x ∷ s.after) = ap (sum_by f) s.is in
-          let a = sum_by-cons f x xs in
-          let b = sum_by-append f s.before (x ∷ s.after) in
-          let c = sum_by-cons f x s.after in
-          let d = sum_by-append f s.before s.after in
-          omega arith in
+      let whole = sums f in
+      let here : sum_by f ys ≡ sum_by f (s.before ++ x ∷ s.after) = ap (sum_by f) s.is in
+      let a = sum_by-cons f x xs in
+      let b = sum_by-append f s.before (x ∷ s.after) in
+      let c = sum_by-cons f x s.after in
+      let d = sum_by-append f s.before s.after in
+      omega arith in
       subst (IsPermutation (x ∷ xs)) (sym s.is)
       (IsPermutation-trans (x ∷ xs) (x ∷ (s.before ++ s.after)) (s.before ++ x ∷ s.after) (IsPermutation-cons x xs (s.before ++ s.after) (same_sums xs (s.before ++ s.after) rest))
       (IsPermutation-sym (s.before ++ x ∷ s.after) (x ∷ (s.before ++ s.after)) (IsPermutation-middle s.before x s.after)))

@@ -1,5 +1,5 @@
 -- How drops are read, and packets flushed, into a list, one by one.
-use Rattle.std.proofs.Common.{◌≡◌, ℕ, ◌+◌, ◌-◌, ◌<◌, ◌≤◌, List, [], ◌∷◌, ◌++◌, drop, length, set, take, ap, refl, subst, sym, ◌∙◌, arith}
+use Rattle.std.proofs.Common.{◌≡◌, ℕ, ◌+◌, ◌<◌, List, [], ◌∷◌, ◌++◌, drop, length, set, take, ap, refl, subst, sym, ◌∙◌, arith}
 use Rattle.std.proofs.lemmas.List.{drop-drop, drop-set-lt, take_more_set}
 use Rattle.shaper_core.specs.declared.answers.Dropped.{Dropped}
 use Rattle.shaper_core.specs.declared.answers.Handle.{Handle}

@@ -1,16 +1,13 @@
 -- What holds of a shaper holds after a renewal.
-use Rattle.std.proofs.Common.{◌≡◌, ℕ, zero, suc, ◌+◌, ◌-◌, ◌≤◌, List, [], ◌∷◌, ◌++◌, drop, length, map, replicate, sum_by, refl, ap, sym, ◌∙◌, arith}
+use Rattle.std.proofs.Common.{◌≡◌, ℕ, zero, suc, ◌+◌, ◌-◌, List, [], ◌∷◌, drop, length, map, replicate, sum_by, refl, ap, ◌∙◌, arith}
 use Rattle.std.specs.List.{flat_map}
 use Rattle.std.proofs.Math.ListN.{drop_of_length-le}
 use Rattle.std.proofs.Math.Seq.{drop-nil}
 use Rattle.std.proofs.lemmas.List.Concat.{length-flat_map}
 use Rattle.packet_core.specs.declared.packet.Waiting.{Waiting}
-use Rattle.flow_core.specs.FlowLists.{waiting_in}
-use Rattle.journal_core.specs.Statistics.{statistics}
-use Rattle.sched_core.specs.Schedulers.{Scheduler, flows_of}
-use Rattle.shaper_core.specs.declared.answers.Handle.{Handle}
+use Rattle.sched_core.specs.Schedulers.{flows_of}
 use Rattle.shaper_core.specs.ShaperKept.{AreBalanced, IsShaped}
-use Rattle.shaper_core.specs.Shapers.{IsDue, Shaping, events_of, handle_of, lost_of, queued_in, read_of, renewed, totals_of, unread_packets, waiting_packets}
+use Rattle.shaper_core.specs.Shapers.{IsDue, Shaping, handle_of, lost_of, queued_in, renewed, totals_of, unread_packets, waiting_packets}
 
 nothing : {X : Type 0} (xs : List X) → length xs ≡ 0 → xs ≡ []
 nothing [] none = refl

@@ -1,15 +1,13 @@
 -- What holds of a shaper holds after each call.
-use Rattle.std.proofs.Common.{◌≡◌, ℕ, zero, suc, ◌+◌, ◌-◌, ◌<◌, ◌≤◌, List, [], ◌∷◌, ◌++◌, drop, drop-cons, get_or, length, map, sum_by, Option, Some, None, IsSomeAnd, option_map, refl, ap, subst, sym, ◌∙◌, arith, append-nil}
+use Rattle.std.proofs.Common.{◌≡◌, ℕ, suc, ◌+◌, ◌-◌, ◌<◌, ◌≤◌, List, [], ◌∷◌, drop, drop-cons, get_or, length, map, sum_by, Option, Some, None, refl, ap, subst, sym, ◌∙◌, arith}
 use Rattle.std.specs.Prelude.{IfSome, slice_get}
 use Rattle.std.proofs.lemmas.List.{drop-map, length-append}
 use Rattle.std.proofs.lemmas.Option.{get_or_from_slice_get, slice_get_within}
 use Rattle.std.proofs.lemmas.List.Sums.{sum_by-append, sum_by-cons}
 use Rattle.packet_core.specs.Packets.{PacketParts}
-use Rattle.packet_core.specs.declared.packet.Waiting.{Waiting}
 use Rattle.journal_core.specs.Losses.{IsOfAccepted, lost_packets}
 use Rattle.journal_core.specs.State.{arrival}
 use Rattle.journal_core.specs.Statistics.{statistics}
-use Rattle.journal_core.specs.declared.event.Event.{Event}
 use Rattle.journal_core.specs.declared.step.Sent.{Sent}
 use Rattle.journal_core.specs.declared.totals.Totals.{Totals}
 use Rattle.journal_core.proofs.StepTotals.{adds_accepted, adds_closed, adds_sent}
@@ -20,12 +18,12 @@ use Rattle.shaper_core.specs.declared.answers.Enqueued.{Enqueued}
 use Rattle.shaper_core.specs.declared.answers.Handle.{Handle}
 use Rattle.shaper_core.specs.declared.totals.Aside.{Aside}
 use Rattle.shaper_core.specs.declared.totals.ShaperTotals.{ShaperTotals}
-use Rattle.shaper_core.specs.Drops.{causes_of, settled_drops}
+use Rattle.shaper_core.specs.Drops.{causes_of}
 use Rattle.shaper_core.specs.Laws.{IsLawful}
 use Rattle.shaper_core.specs.ShaperKept.{AreBalanced, IsShaped}
 use Rattle.shaper_core.specs.ShaperTotals.{HasGrown, IsWithin, more_aside}
 use Rattle.shaper_core.specs.Shapers.{IsAccepted, IsClosed, IsDequeued, IsFlushed, IsIdle, IsRead, Shaping, drop_handle, events_of, handle_of, lost_of, read_of, sent_handle, sent_handles, unread_packets}
-use Rattle.shaper_core.proofs.Balanced.{IsNoted, balance_noted, gone_sum, sum_push, weighs}
+use Rattle.shaper_core.proofs.Balanced.{balance_noted, gone_sum, sum_push, weighs}
 use Rattle.shaper_core.proofs.DropCounts.{lost_counted}
 use Rattle.shaper_core.proofs.StepDrops.{close_settles, dequeue_settles, enqueue_settles}
 use Rattle.shaper_core.proofs.StepMoves.{close_grows, close_loses, close_moves, enqueue_grows, enqueue_moves, idle_moves, sent_moves, served_grows}
@@ -203,7 +201,7 @@ flush_shaped old new packet before after s d =
       past = refl;
       accepted = refl;
       aside = subst (λ (a : Aside). IsWithin a (statistics (events_of new))) (sym d.aside)
-      (aside_more old.aside (statistics (events_of old)) (statistics (events_of new)) s.aside (served_grows old.sched new.sched old.sched.standing.state.last (Some d.sent) before d.serves));
+          (aside_more old.aside (statistics (events_of old)) (statistics (events_of new)) s.aside (served_grows old.sched new.sched old.sched.standing.state.last (Some d.sent) before d.serves));
       gone = λ f. omega (arith, sum_push f old.packets.flushed packet, sum_by-cons f (sent_handle old.past.accepted d.sent) [], ap f d.handle);
     }))
 
@@ -219,7 +217,7 @@ idle_shaped old new before after s d =
       past = refl;
       accepted = refl;
       aside = subst (λ (a : Aside). IsWithin a (statistics (events_of new))) (sym d.aside)
-      (aside_more old.aside (statistics (events_of old)) (statistics (events_of new)) s.aside (served_grows old.sched new.sched old.sched.standing.state.last None before d.serves));
+          (aside_more old.aside (statistics (events_of old)) (statistics (events_of new)) s.aside (served_grows old.sched new.sched old.sched.standing.state.last None before d.serves));
       gone = λ f. omega arith;
     }))
 

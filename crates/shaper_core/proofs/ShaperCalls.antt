@@ -1,5 +1,5 @@
 -- What the calls of a shaper say.
-use Rattle.std.proofs.Common.{◌≡◌, ◌≢◌, ℕ, ◌+◌, ◌-◌, ◌<◌, ◌≤◌, ◌^◌, ◌⊎◌, List, [], ◌∷◌, ◌++◌, length, map, sum_by, Option, Some, None, option_map, Result, Ok, Err, IsSomeAnd, refl, ap, subst, sym, ◌∙◌, inl, inr, arith, append-nil}
+use Rattle.std.proofs.Common.{◌≡◌, ◌≢◌, ℕ, ◌+◌, ◌-◌, ◌<◌, ◌≤◌, ◌^◌, ◌⊎◌, List, ◌++◌, length, map, sum_by, Option, Some, None, option_map, Result, Ok, Err, IsSomeAnd, refl, ap, subst, sym, ◌∙◌, inl, inr, arith, append-nil}
 use Rattle.std.specs.Prelude.{IfErr, IfOk, IfSome, OnErr}
 use Rattle.std.proofs.lemmas.List.Sums.{sum_by-append}
 use Rattle.packet_core.specs.Packets.{PacketParts}
@@ -21,7 +21,6 @@ use Rattle.journal_core.proofs.KnownPackets.{answers_accepted}
 use Rattle.journal_core.proofs.StepTotals.{adds_sent, given_count}
 use Rattle.sched_core.specs.Schedulers.{IsServed, Scheduler, discipline_of}
 use Rattle.sched_core.proofs.KeptScheduler.{fifo}
-use Rattle.shaper_core.specs.declared.answers.Dropped.{Dropped}
 use Rattle.shaper_core.specs.declared.answers.Enqueued.{Enqueued}
 use Rattle.shaper_core.specs.declared.answers.Handle.{Handle}
 use Rattle.shaper_core.specs.declared.totals.Aside.{Aside}

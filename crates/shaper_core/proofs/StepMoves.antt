@@ -1,5 +1,5 @@
 -- What each step of the scheduler accepts and sends.
-use Rattle.std.proofs.Common.{◌≡◌, ℕ, ◌+◌, ◌<◌, List, [], ◌∷◌, ◌++◌, length, map, Option, Some, None, option_map, IsSomeAnd, refl, ap, subst, sym, ◌∙◌, append-nil}
+use Rattle.std.proofs.Common.{◌≡◌, ℕ, ◌<◌, List, [], ◌∷◌, ◌++◌, length, map, Option, Some, None, option_map, IsSomeAnd, refl, ap, subst, sym, ◌∙◌, append-nil}
 use Rattle.std.specs.List.{filter_map}
 use Rattle.std.proofs.lemmas.List.Elements.{filter_map-append}
 use Rattle.packet_core.specs.Packets.{PacketParts}
@@ -8,15 +8,14 @@ use Rattle.codel_core.specs.Verdict.{sent_ecn}
 use Rattle.journal_core.specs.declared.event.Cause.{Cause}
 use Rattle.journal_core.specs.declared.event.Cause.TheVariants as cause
 use Rattle.journal_core.specs.declared.event.Event.{Event}
-use Rattle.journal_core.specs.declared.outcome.Answer.{Answer}
 use Rattle.journal_core.specs.declared.outcome.Answer.TheVariants as answer
 use Rattle.journal_core.specs.declared.step.Sent.{Sent}
 use Rattle.journal_core.specs.declared.step.Step.TheVariants.{Close, Enqueue}
-use Rattle.journal_core.specs.Calls.{Advances, Gives, Standing, sent_at}
-use Rattle.journal_core.specs.Disciplines.{Discipline, Given}
+use Rattle.journal_core.specs.Calls.{sent_at}
+use Rattle.journal_core.specs.Disciplines.{Given}
 use Rattle.journal_core.specs.Happened.{Acceptance, acceptance_of, acceptances, fate_ids, named, waiting_of}
-use Rattle.journal_core.specs.Losses.{IsOfAccepted, accepted_packets, lost_packets, packets_named, sent_packets, waited_as}
-use Rattle.journal_core.specs.State.{State, arrival}
+use Rattle.journal_core.specs.Losses.{IsOfAccepted, accepted_packets, lost_packets, packets_named, sent_packets}
+use Rattle.journal_core.specs.State.{arrival}
 use Rattle.journal_core.specs.Statistics.{dropped_of, sent_of, statistics}
 use Rattle.journal_core.specs.Steps.{drop_event, sent_events}
 use Rattle.journal_core.proofs.FlowShares.{AreFound}
@@ -81,9 +80,10 @@ ids_of (Some sent) = sent.id ∷ []
 served_ids : (moment : ℕ) (dropped : List Waiting) (given : Option Given) → (acceptances (map (drop_event moment cause.Codel) dropped ++ sent_events moment given) ≡ [])
     × (filter_map sent_of (map (drop_event moment cause.Codel) dropped ++ sent_events moment given) ≡ ids_of (option_map (sent_at moment) given))
 served_ids moment dropped given =
-    let drops = map (drop_event moment cause.Codel) dropped in
-    (filter_map-append acceptance_of drops (sent_events moment given) ∙ ap (λ l. l ++ acceptances (sent_events moment given)) (drops_accept_none moment cause.Codel dropped) ∙ accepts given,
-    filter_map-append sent_of drops (sent_events moment given) ∙ ap (λ l. l ++ filter_map sent_of (sent_events moment given)) (drops_send_none moment cause.Codel dropped) ∙ sends given)
+    let drops = map (drop_event moment cause.Codel) dropped in (
+      filter_map-append acceptance_of drops (sent_events moment given) ∙ ap (λ l. l ++ acceptances (sent_events moment given)) (drops_accept_none moment cause.Codel dropped) ∙ accepts given,
+      filter_map-append sent_of drops (sent_events moment given) ∙ ap (λ l. l ++ filter_map sent_of (sent_events moment given)) (drops_send_none moment cause.Codel dropped) ∙ sends given,
+    )
   where
     accepts : (given : Option Given) → acceptances (sent_events moment given) ≡ []
     accepts None = refl

@@ -7,7 +7,7 @@ use Rattle.shaper_core.specs.declared.answers.Dequeued.{Dequeued}
 use Rattle.shaper_core.specs.declared.answers.Dropped.{Dropped}
 use Rattle.shaper_core.specs.declared.answers.Enqueued.{Enqueued}
 use Rattle.shaper_core.specs.declared.answers.Handle.{Handle}
-use Rattle.shaper_core.specs.Shapers.{AreFlushed, AreRead, FlushesAll, IsClosed, IsDequeued, IsEnqueued, Shaping, drop_handle, sent_handle}
+use Rattle.shaper_core.specs.Shapers.{AreFlushed, AreRead, FlushesAll, IsClosed, IsDequeued, IsEnqueued, Shaping, drop_handle}
 
 -- A call that changed a shaper, with its arguments and its answer: an enqueue that was accepted, a dequeue, the drops
 -- that were read, the packets that were flushed, and the close. One that is refused changes nothing.

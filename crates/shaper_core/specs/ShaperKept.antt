@@ -5,7 +5,7 @@ use Rattle.shaper_core.specs.declared.answers.Handle.{Handle}
 use Rattle.shaper_core.specs.declared.shaper.Shaper.TheInside.{Inside}
 use Rattle.shaper_core.specs.Drops.{causes_of, settled_drops}
 use Rattle.shaper_core.specs.ShaperTotals.{IsWithin}
-use Rattle.shaper_core.specs.Shapers.{Shaping, events_of, lost_of, unread_packets, waiting_packets}
+use Rattle.shaper_core.specs.Shapers.{Shaping, events_of, unread_packets, waiting_packets}
 
 abbrev pub shaping_of : Inside → Shaping
 shaping_of s = record {
@@ -21,8 +21,8 @@ shaping_of s = record {
 abbrev pub AreBalanced : Shaping → Type 0
 AreBalanced s =
     (f : Handle → ℕ) → sum_by f s.packets.accepted
-        ≡ sum_by f s.packets.sent + sum_by f s.packets.read + sum_by f s.packets.flushed
-        + sum_by f (unread_packets s) + sum_by f (waiting_packets s)
+    ≡ sum_by f s.packets.sent + sum_by f s.packets.read + sum_by f s.packets.flushed
+    + sum_by f (unread_packets s) + sum_by f (waiting_packets s)
 
 -- The drops that weren't read came after the last acceptance; the scheduler's ids count its acceptances; no more was
 -- flushed than sent; the statistics of the schedulers before add up, and leave ids; and the packets are in balance.

@@ -1,12 +1,15 @@
-//! What holds of every list of calls, as the contract of a function that does nothing.
+//! What holds of every list of calls, as the contract of a function that does nothing, and that a shaper may change
+//! threads.
 
-ghost use Rattle.std.specs.Prelude.{ℕ, ◌++◌, List};
+ghost use Rattle.std.specs.Prelude.{◌≡◌, ℕ, ◌++◌, List};
 ghost use Rattle.std.specs.List.Sorted.{IsPermutation};
 ghost use Rattle.packet_core.specs.Params.{AreInRange};
 ghost use Rattle.packet_core.specs.declared.flow.Seed.{Seed};
 ghost use Rattle.packet_core.specs.declared.params.ParamFields.{ParamFields};
 ghost use Rattle.shaper_core.specs.Calls.{AreCalled, Call, given_back, handed_in};
 ghost use Rattle.shaper_core.specs.Shapers.{Shaping, new_shaper, unread_packets, waiting_packets};
+
+use crate::shaper::Shaper;
 
 /// Each packet that was handed in was given back once, by its tag and its id, or its drop wasn't read yet, or it waits;
 /// and nothing else was given back. So it is after every list of calls, whatever the parameters, the seed and the
@@ -18,3 +21,17 @@ pub fn packets_are_given_back_once()
         → (calls : List Call) (s : Shaping) → AreCalled (new_shaper p seed renew_after) calls s
         → IsPermutation (handed_in calls) (given_back calls ++ unread_packets s ++ waiting_packets s) }
 {}
+
+/// A shaper may be handed to another thread, with all that it owns: one thread at a time calls it.
+pub fn handed_over(shaper: Shaper) -> Shaper
+    ensures { result ≡ shaper }
+{
+    sendable(shaper)
+}
+
+/// Only what may go to another thread is taken.
+fn sendable<T: Send>(value: T) -> T
+    ensures { result ≡ value }
+{
+    value
+}

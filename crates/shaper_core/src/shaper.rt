@@ -20,7 +20,9 @@ use crate::drops::Drops;
 use crate::life::Life;
 use crate::totals::{Aside, ShaperTotals};
 use packet_core::{Packet, Params, Seed};
-use sched_core::{CloseFault, FlowView, MAX_ACCEPTED, MAX_MOMENT, Memory, MomentFault, Refusal, Sched, Sent};
+use sched_core::{
+    CloseFault, FlowView, MAX_ACCEPTED, MAX_MOMENT, Memory, MomentFault, Refusal, Sched, Sent,
+};
 use std::alloc::Global;
 use std::marker::Model;
 

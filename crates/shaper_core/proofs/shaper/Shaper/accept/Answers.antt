@@ -1,9 +1,7 @@
 use Rattle.std.proofs.Common.{◌≡◌, ℕ, ◌-◌, ◌+◌, ◌<◌, ◌^◌, [], ◌∷◌, ◌++◌, ap, arith, length, refl, subst, sym, ◌∙◌}
 use Rattle.journal_core.specs.declared.step.Admitted.{Admitted}
 use Rattle.journal_core.proofs.RefusalLemmas.{enqueue_open}
-use Rattle.sched_core.specs.Schedulers.{IsAdvanced, Scheduler, discipline_of}
-use Rattle.journal_core.specs.declared.outcome.Answer.TheVariants as answer
-use Rattle.journal_core.specs.declared.step.Step.TheVariants.{Enqueue}
+use Rattle.sched_core.specs.Schedulers.{Scheduler, discipline_of}
 use Rattle.shaper_core.specs.declared.answers.Enqueued.{Enqueued}
 use Rattle.shaper_core.specs.ShaperKept.{shaping_of}
 use Rattle.shaper_core.specs.Shapers.{IsAccepted, Shaping}

@@ -1,5 +1,4 @@
-use Rattle.std.proofs.Common.{◌≡◌, ℕ, ◌+◌, ◌-◌, ◌<◌, ◌^◌, arith, refl, subst}
-use Rattle.std.specs.Prelude.{IfSome}
+use Rattle.std.proofs.Common.{◌+◌, ◌-◌, arith, refl, subst}
 use Rattle.sched_core.specs.Schedulers.{Scheduler, discipline_of}
 use Rattle.shaper_core.specs.declared.answers.Dequeued.{Dequeued}
 use Rattle.shaper_core.specs.ShaperKept.{shaping_of}

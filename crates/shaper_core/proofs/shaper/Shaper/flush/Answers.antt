@@ -1,4 +1,4 @@
-use Rattle.std.proofs.Common.{◌≡◌, ℕ, ◌+◌, ◌<◌, length, arith, inr, subst, sym, ◌∙◌}
+use Rattle.std.proofs.Common.{◌≡◌, ℕ, ◌+◌, ◌<◌, length, arith, inr, subst, ◌∙◌}
 use Rattle.shaper_core.specs.Shapers.{KeepsSent, totals_of}
 use Rattle.shaper_core.proofs.Readings.{Flushing, flushes_none, flushes_on, kept_on}
 use Rattle.shaper_core.proofs.shaper.Shaper.flush.Goals as goal
@@ -35,5 +35,5 @@ returns-in_default c =
       none = λ idle. absurd (c.if-queued-eq0.false (c.queued.ensures ∙ idle));
       rest = f.rest;
       totals = subst (λ (n : ℕ). KeepsSent (totals_of c.args.self.now) n (totals_of c.flush_next.new.self)) same
-      (kept_on c.args.self.now c.loop-place.self c.flush_next.new.self c.loop-place.place 0 f.totals c.in_default.ensures.totals);
+          (kept_on c.args.self.now c.loop-place.self c.flush_next.new.self c.loop-place.place 0 f.totals c.in_default.ensures.totals);
     }

@@ -1,11 +1,11 @@
-use Rattle.std.proofs.Common.{◌≡◌, ℕ, ◌+◌, ◌-◌, ◌<◌, ◌^◌, arith, refl, subst, sym, ap, ◌∙◌}
-use Rattle.std.specs.Prelude.{Option, option_map}
+use Rattle.std.proofs.Common.{◌≡◌, ◌+◌, ◌-◌, arith, refl, subst, sym, ◌∙◌}
+use Rattle.std.specs.Prelude.{Option}
 use Rattle.shaper_core.specs.declared.answers.Handle.{Handle}
 use Rattle.journal_core.specs.Statistics.{statistics}
 use Rattle.sched_core.specs.Schedulers.{Scheduler, discipline_of}
 use Rattle.shaper_core.specs.ShaperKept.{shaping_of}
-use Rattle.shaper_core.specs.ShaperTotals.{HasGrown, IsWithin, more_aside}
-use Rattle.shaper_core.specs.Shapers.{FlushesOne, KeepsSent, Shaping, flushed_by, sent_handle, totals_of}
+use Rattle.shaper_core.specs.ShaperTotals.{more_aside}
+use Rattle.shaper_core.specs.Shapers.{FlushesOne, KeepsSent, Shaping, flushed_by, totals_of}
 use Rattle.shaper_core.proofs.ShaperCalls.{kept_sent, one_shaped, sent_accepted, sent_fits, taken_one}
 use Rattle.shaper_core.proofs.StepDrops.{dequeue_settles}
 use Rattle.shaper_core.proofs.StepMoves.{served_grows}

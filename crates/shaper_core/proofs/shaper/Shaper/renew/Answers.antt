@@ -1,9 +1,7 @@
-use Rattle.std.proofs.Common.{◌≡◌, ℕ, ◌+◌, inr, ap, subst, sym, ◌∙◌}
-use Rattle.journal_core.specs.Statistics.{statistics}
-use Rattle.sched_core.specs.Schedulers.{Scheduler}
+use Rattle.std.proofs.Common.{◌≡◌, ◌+◌, inr, ap, subst, sym, ◌∙◌}
 use Rattle.shaper_core.specs.declared.totals.ShaperTotals.{ShaperTotals}
 use Rattle.shaper_core.specs.ShaperKept.{IsShaped, shaping_of}
-use Rattle.shaper_core.specs.Shapers.{IsDue, Shaping, open_scheduler, renewed, totals_of}
+use Rattle.shaper_core.specs.Shapers.{IsDue, open_scheduler, renewed, totals_of}
 use Rattle.shaper_core.proofs.Renewals.{renewed_shaped}
 use Rattle.shaper_core.proofs.shaper.Shaper.renew.Goals as goal
 
