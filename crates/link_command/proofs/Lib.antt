@@ -1,1 +1,10 @@
 pub mod ArrivalLemmas
+pub mod CommandLineLemmas
+pub mod CountLemmas
+pub mod GivenFaults
+pub mod InputLemmas
+pub mod PlainLemmas
+pub mod RequestLemmas
+pub mod RunLemmas
+pub mod TextLemmas
+pub mod ValueLemmas

@@ -1,1 +1,10 @@
+pub mod ArrivalTexts
+pub mod CommandLine
 pub mod Faults
+pub mod FaultsOn
+pub mod InputFaults
+pub mod PlainWords
+pub mod Rates
+pub mod Runs
+pub mod RunsSaid
+pub mod Values

@@ -1,41 +1,81 @@
 //! The arrivals that a trace has.
 
-ghost use Rattle.std.specs.Prelude.{◌<◌, ◌≤◌, IfOk, length};
+ghost use Rattle.std.specs.Prelude.{◌≡◌, ◌<◌, ◌≤◌, ℕ, IfErr, IfOk, IfSome, Ok, Some, length, map};
+ghost use Rattle.row_core.specs.Traces.{IsFaultOf, trace_of};
 ghost use Rattle.link_core.specs.Arrivals.{AreArrivals};
+ghost use Rattle.link_command.specs.ArrivalTexts.{IsArrivalText, IsPlaceFault, arrival_step, step_fault, without_lane};
+ghost use Rattle.link_command.specs.InputFaults.{IsInputFault, IsToldAt};
 
-use crate::faults::{ProgramFault, RowFault};
+use crate::faults::{Found, ProgramFault, RowFault};
+use crate::fields::faulty_field;
 use journal_core::Step;
 use link_core::{Arrival, MAX_ARRIVAL_MOMENT, MAX_ARRIVALS};
 use row_core::{MAX_BYTES, Next, TraceFault, TraceFaultKind, TraceRows, read_text};
 use std::alloc::{AllocError, Global};
 use std::io::Read;
 
+/// The most bytes of a row that a fault shows.
+const MAX_SHOWN: usize = 200;
+
 /// The arrivals that a reader gives: a trace whose rows are all `enq`, in the order of their moments. The grammar of all
 /// rows is tested first, and then each row for what arrivals are.
 pub fn read_arrivals<R: Read>(alloc: Global, reader: &mut R) -> Result<Vec<Arrival>, ProgramFault>
-    ensures { IfOk result (λ arrivals. AreArrivals arrivals.items) }
+    ensures arrivals { IfOk result (λ arrivals. AreArrivals arrivals.items) }
+    ensures text { IfOk result (λ arrivals.
+        IfSome (R.remaining reader.old) (λ bytes. IsArrivalText bytes arrivals.items)) }
+    ensures fault { IfErr result (IsInputFault (R.remaining reader.old)) }
 {
-    let text = match read_text(alloc, reader) {
-        Ok(text) => text,
-        Err(fault) => return Err(trace_fault(alloc, &[], &fault)),
-    };
-    let rows = match rows_of(alloc, &text) {
+    match read_text(alloc, reader) {
+        Ok(text) => text_arrivals(alloc, &text),
+        Err(fault) => Err(trace_fault(alloc, &[], &fault)),
+    }
+}
+
+/// The arrivals of a text.
+fn text_arrivals(alloc: Global, text: &[u8]) -> Result<Vec<Arrival>, ProgramFault>
+    requires { length text.now ≤ MAX_BYTES }
+    ensures arrivals { IfOk result (λ arrivals. AreArrivals arrivals.items) }
+    ensures text { IfOk result (λ arrivals. IsArrivalText text.now arrivals.items) }
+    ensures fault { IfErr result (IsInputFault (Some text.now)) }
+{
+    let rows = match rows_of(alloc, text) {
         Ok(rows) => rows,
-        Err(fault) => return Err(trace_fault(alloc, &text, &fault)),
+        Err(fault) => return Err(trace_fault(alloc, text, &fault)),
     };
-    arrivals_of(alloc, &text, &rows)
+    match arrivals_of(alloc, &rows.steps) {
+        Ok(arrivals) => Ok(arrivals),
+        Err(StepFault::Memory) => Err(ProgramFault::Memory),
+        Err(StepFault::At(place, what)) => {
+            let row = rows.first.saturating_add(place as u64);
+            Err(row_fault(alloc, text, row, what))
+        }
+    }
 }
 
 /// The fault for one of a trace.
-fn trace_fault(alloc: Global, text: &[u8], fault: &TraceFault) -> ProgramFault {
+fn trace_fault(alloc: Global, text: &[u8], fault: &TraceFault) -> ProgramFault
+    ensures { IsToldAt fault.now.row (RowFault.Trace fault.now.what) result }
+{
     row_fault(alloc, text, fault.row, RowFault::Trace(fault.what))
 }
 
-/// A fault of a row, with the row's text, or want of memory where there is none for that.
-fn row_fault(alloc: Global, text: &[u8], row: u64, what: RowFault) -> ProgramFault {
-    match row_text(alloc, text, row) {
+/// A fault of a row, with what was found there, or want of memory where there is none for that.
+fn row_fault(alloc: Global, text: &[u8], row: u64, what: RowFault) -> ProgramFault
+    ensures { IsToldAt row what result }
+{
+    match found_at(alloc, text, row, what) {
         Ok(found) => ProgramFault::Row(row, what, found),
         Err(_) => ProgramFault::Memory,
+    }
+}
+
+/// What was found at a faulty row.
+fn found_at(alloc: Global, text: &[u8], row: u64, what: RowFault) -> Result<Found, AllocError> {
+    let first = row_text(alloc, text, 1)?;
+    let found = row_text(alloc, text, row)?;
+    match faulty_field(alloc, what, &found, &first)? {
+        Some(name) => Ok(Found::Field(name, String::from_str(alloc, name.text_in(&found))?)),
+        None => Ok(Found::Row(found)),
     }
 }
 
@@ -43,14 +83,20 @@ fn row_fault(alloc: Global, text: &[u8], row: u64, what: RowFault) -> ProgramFau
 fn row_text(alloc: Global, text: &[u8], row: u64) -> Result<String, AllocError> {
     let mut number = 0u64;
     for line in text.split(|byte| *byte == b'\n') {
-        if !line.is_empty() {
+        if !is_empty_line(line) {
             number = number.saturating_add(1);
             if number == row {
-                return String::from_utf8_lossy(alloc, &line[..line.len().min(200)]);
+                let line = line.strip_suffix(b"\r".as_slice()).unwrap_or(line);
+                return String::from_utf8_lossy(alloc, &line[..line.len().min(MAX_SHOWN)]);
             }
         }
     }
     Ok(String::new(alloc))
+}
+
+/// Whether a line is none that is counted.
+fn is_empty_line(line: &[u8]) -> bool {
+    matches!(line, b"" | b"\r" | b"\"\"")
 }
 
 /// The steps of a trace, and the number of the row of the first one. The others follow, one after the other.
@@ -63,20 +109,22 @@ struct Rows {
 /// The steps of a text.
 fn rows_of(alloc: Global, text: &[u8]) -> Result<Rows, TraceFault>
     requires { length text.now ≤ MAX_BYTES }
+    ensures steps { IfOk result (λ rows. trace_of text.now ≡ Ok rows.steps.items) }
+    ensures fault { IfErr result (λ fault. IsFaultOf text.now fault) }
 {
     let mut rows = TraceRows::new(alloc, text);
-    let mut first = 1;
     let mut steps = Vec::new(alloc);
     // A record takes a byte or more, so the text ends before the turns do.
     for _turn in 0..u64::MAX {
         let row = rows.row_number();
         match rows.next()? {
-            Next::End => return Ok(Rows { first, steps }),
+            Next::End => {
+                // The rows with a step are the last ones.
+                let first = row.saturating_sub(steps.len() as u64);
+                return Ok(Rows { first, steps });
+            }
             Next::NoStep => {}
             Next::Row(step) => {
-                if steps.is_empty() {
-                    first = row;
-                }
                 if steps.push(step).is_err() {
                     return Err(fault_at(row, TraceFaultKind::Memory));
                 }
@@ -87,21 +135,10 @@ fn rows_of(alloc: Global, text: &[u8]) -> Result<Rows, TraceFault>
 }
 
 /// A fault of a trace.
-fn fault_at(row: u64, what: TraceFaultKind) -> TraceFault {
-    TraceFault { row, what }
-}
-
-/// The arrivals of a trace's steps.
-fn arrivals_of(alloc: Global, text: &[u8], rows: &Rows) -> Result<Vec<Arrival>, ProgramFault>
-    ensures { IfOk result (λ arrivals. AreArrivals arrivals.items) }
+fn fault_at(row: u64, what: TraceFaultKind) -> TraceFault
+    ensures { result ≡ record { row = row; what = what } }
 {
-    match checked(alloc, &rows.steps) {
-        Ok(arrivals) => Ok(arrivals),
-        Err(StepFault::Memory) => Err(ProgramFault::Memory),
-        Err(StepFault::At(place, what)) => {
-            Err(row_fault(alloc, text, rows.first.saturating_add(place as u64), what))
-        }
-    }
+    TraceFault { row, what }
 }
 
 /// Why steps are no arrivals: what is wrong with the one at a place, from 0.
@@ -112,8 +149,11 @@ enum StepFault {
 }
 
 /// The arrivals of steps that are all arrivals.
-fn checked(alloc: Global, steps: &[Step]) -> Result<Vec<Arrival>, StepFault>
-    ensures { IfOk result (λ arrivals. AreArrivals arrivals.items) }
+fn arrivals_of(alloc: Global, steps: &[Step]) -> Result<Vec<Arrival>, StepFault>
+    ensures arrivals { IfOk result (λ arrivals. AreArrivals arrivals.items) }
+    ensures steps { IfOk result (λ arrivals. map without_lane steps.now ≡ map arrival_step arrivals.items) }
+    ensures fault { IfErr result (λ fault. (place : ℕ) (what : _) → fault ≡ StepFault.At place what
+        → IsPlaceFault steps.now place what) }
 {
     let mut arrivals = Vec::new(alloc);
     let mut last = 0;
@@ -135,7 +175,9 @@ fn checked(alloc: Global, steps: &[Step]) -> Result<Vec<Arrival>, StepFault>
 
 /// The arrival that a step is, where the one before it came at that moment.
 fn arrival_of(step: &Step, last: u64) -> Result<Arrival, RowFault>
-    ensures { IfOk result (λ a. (last ≤ a.moment) × (a.moment < MAX_ARRIVAL_MOMENT)) }
+    ensures moment { IfOk result (λ a. (last ≤ a.moment) × (a.moment < MAX_ARRIVAL_MOMENT)) }
+    ensures step { IfOk result (λ a. without_lane step.now ≡ arrival_step a) }
+    ensures fault { IfErr result (λ what. step_fault last step.now ≡ Some what) }
 {
     let Step::Enqueue { moment, packet, .. } = *step else {
         return Err(RowFault::NotAnArrival);

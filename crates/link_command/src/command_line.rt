@@ -1,10 +1,15 @@
 //! The words behind the program's name, read by `clap`.
 
+ghost use Rattle.std.specs.Prelude.{◌≡◌, ◌≢◌, ◌⊎◌, IfErr, IfOk, codes, false, map, option_map};
+ghost use Rattle.clap.specs.Words.{app_of, first_of, found_of, kind_of, rows_of, rule_of, with_rule};
+ghost use Rattle.clap.specs.declared.builder.command.Command.TheViews.{out-Command as fields_of};
+ghost use Rattle.link_command.specs.CommandLine.{AsksForRun, AsksForText, IsMistake, IsProgramLine, TakesNames, bare_line, named_rule, option_rule, parameter_rule, queue_names, rate_rule, table_called, table_named, table_names, texts_in, texts_of};
+
 use crate::faults::ProgramFault;
 use crate::manual;
 use clap::builder::ValueParser;
 use clap::error::ErrorKind;
-use clap::{Arg, ArgAction, ArgMatches, Command};
+use clap::{Arg, ArgAction, ArgMatches, Command, Error};
 use std::alloc::{AllocError, Global};
 
 /// The names of the tables.
@@ -57,26 +62,47 @@ pub enum Asked<'a> {
 }
 
 /// Reads the words behind the program's name.
-pub fn parse<'a>(alloc: Global, words: &'a [&'a str]) -> Result<Asked<'a>, ProgramFault> {
+pub fn parse<'a>(alloc: Global, words: &'a [&'a str]) -> Result<Asked<'a>, ProgramFault>
+    ensures run { IfOk result (λ asked. (run : _) → asked ≡ Asked.Run run
+        → AsksForRun (map (λ w. w.now) words.entry.now) (texts_of run)) }
+    ensures text { IfOk result (λ asked. (text : _) → asked ≡ Asked.Text text
+        → AsksForText (map (λ w. w.now) words.entry.now)) }
+    ensures mistake { IfErr result (λ fault. (text : _) → fault ≡ ProgramFault.CommandLine text
+        → IsMistake (map (λ w. w.now) words.entry.now)) }
+    ensures fault { IfErr result (λ fault. (fault ≡ ProgramFault.Memory)
+        ⊎ ((text : _) × (fault ≡ ProgramFault.CommandLine text))) }
+{
     let command = program_command(alloc)?;
     match command.try_get_matches_from(words) {
         Ok(matches) => Ok(Asked::Run(run_request(alloc, &matches)?)),
-        Err(error) => match error.kind() {
-            ErrorKind::OutOfMemory => Err(ProgramFault::Memory),
-            ErrorKind::DisplayHelp | ErrorKind::DisplayVersion => {
-                Ok(Asked::Text(format!(in alloc; "{error}")?))
-            }
-            _ => Err(ProgramFault::CommandLine(format!(in alloc; "{error}")?)),
-        },
+        Err(error) => without_matches(alloc, &error),
+    }
+}
+
+/// What is answered where there are no matches: a text, or a fault.
+fn without_matches<'a>(alloc: Global, error: &Error) -> Result<Asked<'a>, ProgramFault>
+    ensures run { IfOk result (λ asked. (run : _) → asked ≡ Asked.Run run → ⊥) }
+    ensures text { IfOk result (λ asked. (text : _) → asked ≡ Asked.Text text
+        → (kind_of error.now ≡ ErrorKind.DisplayHelp) ⊎ (kind_of error.now ≡ ErrorKind.DisplayVersion)) }
+    ensures mistake { IfErr result (λ fault. (text : _) → fault ≡ ProgramFault.CommandLine text
+        → (kind_of error.now ≢ ErrorKind.DisplayHelp) × (kind_of error.now ≢ ErrorKind.DisplayVersion)
+        × (kind_of error.now ≢ ErrorKind.OutOfMemory)) }
+    ensures fault { IfErr result (λ fault. (fault ≡ ProgramFault.Memory)
+        ⊎ ((text : _) × (fault ≡ ProgramFault.CommandLine text))) }
+{
+    match error.kind() {
+        ErrorKind::OutOfMemory => Err(ProgramFault::Memory),
+        ErrorKind::DisplayHelp => Ok(Asked::Text(format!(in alloc; "{error}")?)),
+        ErrorKind::DisplayVersion => Ok(Asked::Text(format!(in alloc; "{error}")?)),
+        _ => Err(ProgramFault::CommandLine(format!(in alloc; "{error}")?)),
     }
 }
 
 /// The run that the matches ask for.
-fn run_request<'a>(alloc: Global, matches: &ArgMatches<'a>) -> Result<RunRequest<'a>, AllocError> {
-    let mut parameters = Vec::new(alloc);
-    if let Some(words) = matches.get_strs("PARAM") {
-        parameters.extend_from_slice(words)?;
-    }
+fn run_request<'a>(alloc: Global, matches: &ArgMatches<'a>) -> Result<RunRequest<'a>, AllocError>
+    ensures { IfOk result (λ run. texts_of run ≡ texts_in (rows_of (found_of matches.now))) }
+{
+    let parameters = parameters_of(alloc, matches)?;
     Ok(RunRequest {
         // `clap` refuses words without a rate.
         rate: matches.get_str("rate").unwrap_or(""),
@@ -84,59 +110,113 @@ fn run_request<'a>(alloc: Global, matches: &ArgMatches<'a>) -> Result<RunRequest
         mpu: matches.get_str("mpu"),
         seed: matches.get_str("seed"),
         every: matches.get_str("every"),
-        has_fifo: matches.contains_id("compare"),
+        has_fifo: matches.get_str("compare").is_some(),
         table: table_named(matches.get_str("write")),
         parameters,
     })
 }
 
+/// The parameter words.
+fn parameters_of<'a>(alloc: Global, matches: &ArgMatches<'a>) -> Result<Vec<&'a str>, AllocError>
+    ensures { IfOk result (λ words. map (λ w. w.now) words.items
+        ≡ (texts_in (rows_of (found_of matches.now))).parameters) }
+{
+    let mut parameters = Vec::new(alloc);
+    if let Some(words) = matches.get_strs("PARAM") {
+        parameters.extend_from_slice(words)?;
+    }
+    Ok(parameters)
+}
+
 /// The table of that name. `clap` refuses other names than those of `TABLES`.
-fn table_named(name: Option<&str>) -> TableName {
+fn table_named(name: Option<&str>) -> TableName
+    ensures { result ≡ table_named (option_map (λ n. n.now) name.entry) }
+{
     match name {
-        Some("packets") => TableName::Packets,
-        Some("series") => TableName::Series,
-        Some("steps") => TableName::Steps,
+        Some(name) => table_called(name),
+        None => TableName::Flows,
+    }
+}
+
+/// The table of that name.
+#[tactic(auto, using(crate::proofs::TextLemmas::differ))]
+fn table_called(name: &str) -> TableName
+    ensures { result ≡ table_called name.now }
+{
+    match name {
+        "packets" => TableName::Packets,
+        "series" => TableName::Series,
+        "steps" => TableName::Steps,
         _ => TableName::Flows,
     }
 }
 
 /// The command line.
-fn program_command<'a>(alloc: Global) -> Result<Command<'a>, AllocError> {
-    let command = described(Command::new(alloc, "maltlink").bin_name("maltlink")?);
-    command
-        .arg(option(alloc, "rate", "RATE", manual::RATE).required(true))?
-        .arg(option(alloc, "overhead", "N", manual::OVERHEAD))?
-        .arg(option(alloc, "mpu", "N", manual::MPU))?
-        .arg(option(alloc, "seed", "HEX32", manual::SEED))?
-        .arg(option(alloc, "compare", "QUEUE", manual::COMPARE).value_parser(ValueParser::Names(
-            &QUEUES,
-        )))?
-        .arg(option(alloc, "every", "TIME", manual::EVERY))?
-        .arg(option(alloc, "write", "TABLE", manual::WRITE).value_parser(ValueParser::Names(
-            &TABLES,
-        )))?
-        .arg(
-            Arg::new(alloc, "PARAM")
-                .action(ArgAction::Append)
-                .help(manual::PARAMETERS),
-        )
+fn program_command<'a>(alloc: Global) -> Result<Command<'a>, AllocError>
+    ensures { IfOk result (λ r. IsProgramLine (app_of r)) }
+{
+    let bare = bare_command(alloc)?;
+    bare.arg(rate_argument(alloc))?
+        .arg(option(alloc, "overhead", "N"))?
+        .arg(option(alloc, "mpu", "N"))?
+        .arg(option(alloc, "seed", "HEX32"))?
+        .arg(queue_argument(alloc))?
+        .arg(option(alloc, "every", "TIME"))?
+        .arg(table_argument(alloc))?
+        .arg(parameter_argument(alloc))
 }
 
 /// The command line without its arguments.
-fn described<'a>(named: Command<'a>) -> Command<'a> {
-    named
-        .no_binary_name(true)
-        .arg_required_else_help(true)
-        .version(manual::VERSION)
-        .about(manual::SUMMARY)
-        .long_about(manual::DESCRIPTION)
-        .after_long_help(manual::NOTES)
+fn bare_command<'a>(alloc: Global) -> Result<Command<'a>, AllocError>
+    ensures line { IfOk result (λ r. app_of r ≡ bare_line) }
+    ensures local { IfOk result (λ r. (fields_of r).has_globals ≡ false) }
+{
+    let named = Command::new(alloc, "maltlink").bin_name("maltlink")?;
+    Ok(
+        named
+            .no_binary_name(true)
+            .version(manual::VERSION)
+            .about(manual::SUMMARY)
+            .override_help(manual::PAGE),
+    )
+}
+
+/// `--rate RATE`
+fn rate_argument<'a>(alloc: Global) -> Arg<'a>
+    ensures rule { rule_of result ≡ rate_rule }
+    ensures local { result.global ≡ false }
+{
+    option(alloc, "rate", "RATE").required(true)
+}
+
+/// `--compare QUEUE`
+fn queue_argument<'a>(alloc: Global) -> Arg<'a>
+    ensures rule { (names : _) × TakesNames queue_names names × (rule_of result ≡ named_rule (codes "compare") names) }
+    ensures local { result.global ≡ false }
+{
+    option(alloc, "compare", "QUEUE").value_parser(ValueParser::Names(&QUEUES))
+}
+
+/// `--write TABLE`
+fn table_argument<'a>(alloc: Global) -> Arg<'a>
+    ensures rule { (names : _) × TakesNames table_names names × (rule_of result ≡ named_rule (codes "write") names) }
+    ensures local { result.global ≡ false }
+{
+    option(alloc, "write", "TABLE").value_parser(ValueParser::Names(&TABLES))
+}
+
+/// `[PARAM]...`
+fn parameter_argument<'a>(alloc: Global) -> Arg<'a>
+    ensures rule { rule_of result ≡ parameter_rule }
+    ensures local { result.global ≡ false }
+{
+    Arg::new(alloc, "PARAM").action(ArgAction::Append)
 }
 
 /// An option with a value.
-fn option<'a>(alloc: Global, name: &'a str, value: &'a str, help: &'a str) -> Arg<'a> {
-    Arg::new(alloc, name)
-        .long(name)
-        .value_name(value)
-        .help(help)
+fn option<'a>(alloc: Global, name: &'a str, value: &'a str) -> Arg<'a>
+    ensures rule { rule_of result ≡ option_rule name.entry.now }
+    ensures local { result.global ≡ false }
+{
+    Arg::new(alloc, name).long(name).value_name(value)
 }

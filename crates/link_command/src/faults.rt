@@ -2,7 +2,10 @@
 
 ghost use Rattle.std.specs.Prelude.{◌≡◌};
 ghost use Rattle.link_command.specs.Faults.{row_status, status_of};
+ghost use Rattle.link_command.specs.declared.faults.ProgramFault.TheVariants as program_fault;
 
+use crate::explanations::explain;
+use crate::fields::FieldName;
 use packet_core::ParamFault;
 use row_core::{TraceFault, TraceFaultKind};
 use std::alloc::AllocError;
@@ -60,6 +63,15 @@ pub enum RowFault {
     Backwards,
 }
 
+/// What was found where a row is wrong.
+#[derive(Debug, Drop)]
+pub enum Found {
+    /// The text of the row.
+    Row(String),
+    /// The field, and its text.
+    Field(FieldName, String),
+}
+
 /// Why the program failed.
 #[derive(Debug, Drop, Error)]
 pub enum ProgramFault {
@@ -78,9 +90,10 @@ pub enum ProgramFault {
     /// A parameter word is wrong. The text is the word.
     #[error("{0}")]
     Params(ParamFault, String),
-    /// A row is wrong, by its number from 1, and 0 where the input couldn't be read. The text is the row.
+    /// A row is wrong, by its number from 1, and 0 where the input couldn't be read. What was found is the row, or the
+    /// field of it.
     #[error("row {0}: {1}")]
-    Row(u64, RowFault, String),
+    Row(u64, RowFault, Found),
     /// A growth was refused.
     #[error("memory")]
     Memory,
@@ -119,6 +132,8 @@ fn row_status(what: &RowFault) -> u8
 }
 
 impl From<AllocError> for ProgramFault {
+    ghost from_gives = { λ _ e. e ≡ program_fault.Memory };
+
     fn from(_: AllocError) -> ProgramFault {
         ProgramFault::Memory
     }
@@ -145,78 +160,4 @@ pub fn tell<F: Write>(faults: &mut F, fault: &ProgramFault) -> u8
     };
     explain(faults, fault);
     fault.status()
-}
-
-/// The line for people.
-fn explain<F: Write>(faults: &mut F, fault: &ProgramFault) {
-    let _ = match fault {
-        ProgramFault::Value(name, _, found) => {
-            writeln!(faults, "  --{name} {found:?}: wanted is {}", wanted(*name))
-        }
-        ProgramFault::Seed(found) => {
-            writeln!(
-                faults,
-                "  --seed {found:?}: wanted are 32 hexadecimal digits"
-            )
-        }
-        ProgramFault::Params(fault, found) => {
-            writeln!(faults, "  {found:?}: {}", wanted_word(*fault))
-        }
-        ProgramFault::Row(_, what, found) => {
-            writeln!(faults, "  {found:?}: {}", wanted_row(*what))
-        }
-        ProgramFault::CommandLine(_)
-        | ProgramFault::NotUtf8
-        | ProgramFault::Memory
-        | ProgramFault::Write => Ok(()),
-    };
-}
-
-/// What value an option has.
-fn wanted(name: ValueName) -> &'static str {
-    match name {
-        ValueName::Rate => "1000bit to 1tbit, as in 10mbit or 1250kbps",
-        ValueName::Overhead => "a number from 0 to 1000, in bytes",
-        ValueName::Mpu => "a number from 0 to 65535, in bytes",
-        ValueName::Every => "a time from 1ms to 1000s",
-    }
-}
-
-/// What a parameter word says.
-fn wanted_word(fault: ParamFault) -> &'static str {
-    match fault {
-        ParamFault::UnknownWord(_) => "no parameter has that name ('maltlink --help' lists them)",
-        ParamFault::MissingValue(_) => "a value is wanted after this word",
-        ParamFault::NotANumber(_) => "a number is wanted, or a time as in 5ms",
-        ParamFault::OutOfRange(_) => "it is outside its range ('maltlink --help' lists them)",
-    }
-}
-
-/// What a row says.
-fn wanted_row(what: RowFault) -> &'static str {
-    match what {
-        RowFault::Trace(kind) => wanted_field(kind),
-        RowFault::NotAnArrival =>
-            "rows are arrivals alone, as in enq,0,6,10.0.0.1,10.0.0.2,5000,443,1514,0",
-        RowFault::TooLate => "a moment is below 2^59 microseconds",
-        RowFault::Backwards => "its moment is before that of the row before it",
-    }
-}
-
-/// What the fields of a row say.
-fn wanted_field(kind: TraceFaultKind) -> &'static str {
-    match kind {
-        TraceFaultKind::Read => "it couldn't be read",
-        TraceFaultKind::TooLarge => "at most 1000000 rows and 134217728 bytes are read",
-        TraceFaultKind::BadKind => "the first field is enq",
-        TraceFaultKind::BadFieldCount =>
-            "the fields are enq,MOMENT,PROTO,SRC,DST,SPORT,DPORT,LEN,ECN",
-        TraceFaultKind::BadNumber => "a number has digits alone, and is in the range of its field",
-        TraceFaultKind::BadAddress => {
-            "an address is four numbers joined by dots, or after a row version,2 also 32 hexadecimal digits"
-        }
-        TraceFaultKind::BadEcn => "the ECN field is one digit from 0 to 3",
-        TraceFaultKind::LengthOutOfRange => "a packet has 1 to 65535 bytes",
-        TraceFaultKind::Memory => "there is no memory for it",
-    }
 }

@@ -4,8 +4,12 @@
 
 mod arrivals;
 mod command_line;
+mod counts;
+mod explanations;
 mod faults;
+mod fields;
 mod manual;
+mod notes;
 mod plain;
 mod program_run;
 mod rates;
@@ -13,7 +17,9 @@ mod values;
 
 pub use arrivals::read_arrivals;
 pub use command_line::{Asked, RunRequest, TableName, parse};
-pub use faults::{ProgramFault, RowFault, ValueFault, ValueName, tell};
+pub use faults::{Found, ProgramFault, RowFault, ValueFault, ValueName, tell};
+pub use fields::FieldName;
+pub use notes::Terminals;
 pub use plain::plain_words;
 pub use program_run::program;
 pub use rates::read_rate;

@@ -1,114 +1,158 @@
-//! What the help of the program says, in lines of at most 80 columns.
+//! What the help of the program says, as a page of a manual in lines of at most 80 columns.
 
-/// The version, and the toolchain that proved it.
-pub const VERSION: &str = "1 (proved with rattle-kit-13f)";
+/// The version, and the toolchain that the program is proved with.
+pub const VERSION: &str = "1\nproved with rattle-kit-13f logic dac8208d650f15bf";
 
 /// What the program is, in a line.
 pub const SUMMARY: &str = "Run packets through a bottleneck link with FQ-CoDel before it";
 
-/// What the program is.
-pub const DESCRIPTION: &str = "\
-Run packets through a bottleneck link with the FQ-CoDel scheduler before it
-(RFC 8290), and report what delay each flow sees, and what is dropped and marked.
+/// The page.
+pub const PAGE: &str = "\
+NAME
+    maltlink - run packets through a bottleneck link with FQ-CoDel before it
 
-Arrivals are open loop: senders don't answer to drops, marks or delays. A capture
-of TCP shows what this queue does to these packets, not what TCP would have sent
-instead.
+SYNOPSIS
+    maltlink --rate RATE [--overhead N] [--mpu N] [--seed HEX32]
+        [--compare fifo] [--every TIME] [--write TABLE] [PARAM]... < arrivals
 
-The arrivals are read from standard input, whole, and the table is written to
-standard output after the whole run.";
+DESCRIPTION
+    Runs packets through a bottleneck link with the FQ-CoDel scheduler before
+    it (RFC 8290), and reports what delay each flow sees, and what is dropped
+    and marked.
 
-/// The rate.
-pub const RATE: &str = "Rate of the link, as tc(8) writes it: 10mbit, 1250kbps";
+    Arrivals are open loop: senders don't answer to drops, marks or delays. A
+    capture of TCP shows what this queue does to these packets, not what TCP
+    would have sent instead.
 
-/// The overhead.
-pub const OVERHEAD: &str = "Bytes on the wire beside LEN, 0 to 1000 [default: 0]";
+    The arrivals are read from standard input, whole. The table is written to
+    standard output after the whole run. Where standard error is a terminal,
+    the program reports there how far a long run is.
 
-/// The least bytes on the wire.
-pub const MPU: &str = "Least bytes on the wire, 0 to 65535 [default: 0]";
+    The link sends one packet after another, exactly at its rate: a packet of
+    LEN bytes takes LEN and --overhead bytes, at least --mpu. The link asks the
+    scheduler for a packet whenever it gets free, after the arrivals of that
+    microsecond, and at once where a packet comes while it is idle. A delay is
+    the wait in the queue. The time on the wire isn't in it.
 
-/// The seed.
-pub const SEED: &str = "Seed of the flow hash, 32 hexadecimal digits [default: 32 zeros]";
+    Arrivals are a trace of 'fqsim trace --help' whose rows are all 'enq':
 
-/// The comparison.
-pub const COMPARE: &str = "Run the same arrivals through this queue too";
+        enq,MOMENT,PROTO,SRC,DST,SPORT,DPORT,LEN,ECN
 
-/// The bins.
-pub const EVERY: &str = "Width of a bin, 1ms to 1000s [default: 100ms]";
+    A MOMENT is in microseconds, below 2^59, and never below that of the row
+    before. With a first row 'version,2' addresses may be of IPv6.
 
-/// The table.
-pub const WRITE: &str = "Table to write [default: flows]";
+OPTIONS
+    --rate RATE
+        The rate of the link, 1000bit to 1tbit: digits and a unit in lower
+        case, as tc(8) writes it. 'bit', or nothing, is a bit a second; 'kbit',
+        'mbit', 'gbit' and 'tbit' are 1000 bits a second and so on; 'kibit',
+        'mibit', 'gibit' and 'tibit' are 1024 and so on. With 'bps' in place of
+        'bit' they are bytes.
 
-/// The parameters.
-pub const PARAMETERS: &str = "Parameters of the scheduler, as in 'limit 1000 target 5ms noecn'";
+    --overhead N
+        Bytes on the wire beside LEN, 0 to 1000 [default: 0]. 24 are those of
+        Ethernet, where LEN has the header of 14 bytes. Credits, mtu and limits
+        count LEN alone.
 
-/// The words, the tables and the statuses.
-pub const NOTES: &str = "\
-Rates are digits and a unit in lower case. 'bit', or nothing, is a bit a second,
-'kbit', 'mbit', 'gbit' and 'tbit' are 1000 bits a second and so on, and 'kibit',
-'mibit', 'gibit' and 'tibit' 1024 and so on. The same with 'bps' in place of 'bit'
-are bytes. A rate is 1000bit to 1tbit.
+    --mpu N
+        Least bytes on the wire, 0 to 65535 [default: 0]. 84 are those of
+        Ethernet with the overhead 24.
 
-The link sends one packet after another, exactly at its rate: a packet of LEN
-bytes takes LEN and --overhead bytes, at least --mpu. 24 and 84 are those of
-Ethernet, whose LEN has the header of 14 bytes. Credits, mtu and limits count LEN
-alone. It asks the scheduler whenever it gets free, after the arrivals of that
-microsecond, and at once where a packet comes while it is idle.
+    --seed HEX32
+        The seed of the hash that chooses flows, 32 hexadecimal digits
+        [default: 32 zeros].
 
-'--compare fifo' runs a queue beside it that holds as many packets as 'limit', and
-drops what arrives while it is full.
+    --compare fifo
+        Runs a queue beside the link that holds as many packets as 'limit', and
+        drops what arrives while it is full.
 
-Parameters are those of 'fqsim trace --help', and places count these words alone.
-Their values may also stand as 'tc -s qdisc show' prints them: 10240p for packets,
-1514b, 32Kb, 32Mb or 1Gb for bytes, by 1024, and 5.0ms or 4.999ms for times, exact
-to a microsecond.
+    --every TIME
+        The width of a bin, 1ms to 1000s [default: 100ms].
 
-Arrivals are a trace of 'fqsim trace --help' whose rows are all 'enq':
+    --write TABLE
+        The table to write [default: flows].
 
-  enq,MOMENT,PROTO,SRC,DST,SPORT,DPORT,LEN,ECN
+    -h, --help
+        Prints this page.
 
-A MOMENT is in microseconds, below 2^59, and never below that of the row before.
+    -V, --version
+        Prints the version, and the toolchain that the program is proved with.
 
-Tables, with a header, fields separated by commas, whole numbers, moments and
-delays in microseconds, and an empty field where there is nothing:
+PARAMETERS
+    PARAM are the parameters of the scheduler, as in 'limit 1000 target 5ms
+    noecn': those of 'fqsim trace --help' (and of tc-fq_codel(8)). Places count
+    these words alone.
 
-  flows    a row for each five-tuple, in the order of first arrival, and one for
-           all packets: packets and bytes that arrived and that were sent, drops
-           by CoDel and for a full queue, marks, the delays of packets sent, and
-           what was sent in a second, in bits, over the whole run. delay_p95 is
-           the least delay that 95 in 100 are at most.
-  packets  a row for each packet: its arrival, and its fate ('sent', 'codel' or
-           'overflow') at its moment. A delay is the wait in the queue. place
-           counts the packets sent from 0.
-  series   for each bin of --every a row for each five-tuple with an arrival, a fate
-           or a packet that waits at its end. from is the bin's first moment, and a
-           delay stands in the bin of the sending.
-  steps    the run's steps as a trace: 'maltlink --write steps .. PARAM |
-           fqsim trace PARAM' is the same run.
+    A value may also stand as 'tc -s qdisc show' prints it: 10240p for packets;
+    1514b, 32Kb, 32Mb or 1Gb for bytes, by 1024; 5.0ms or 4.999ms for times,
+    with one to six digits after the point, exact to a microsecond.
 
-A row says in its first field which queue it is of, 'fq_codel' or 'fifo'; steps
-are of fq_codel alone.
+TABLES
+    Each has a header. Fields are separated by commas. Moments and delays are
+    in microseconds, and a field is empty where there is nothing. The first
+    field says which queue a row is of, 'fq_codel' or 'fifo'. Rates and means
+    are rounded down.
 
-Example:
+    flows
+        A row for each five-tuple, in the order of first arrival, and one for
+        all packets: packets and bytes that arrived and that were sent, drops
+        by CoDel and for a full queue, marks, the delays of packets sent, and
+        what was sent in a second, in bits, over the whole run. delay_p95 is
+        the least delay that 95 in 100 are at most.
 
-  $ printf 'enq,0,6,10.0.0.1,10.0.0.9,5000,443,1514,2\\n' |
-        maltlink --rate 10mbit --write packets classify dport
-  queue,id,tuple,flow,len,ecn,arrived,fate,at,delay,ecn_sent,mark,place
-  fq_codel,0,0,443,1514,2,0,sent,0,0,2,,0
+    packets
+        A row for each packet: its arrival, and its fate ('sent', 'codel' or
+        'overflow') at its moment. place counts the packets sent from 0.
 
-Exit status:
+    series
+        For each bin of --every a row for each five-tuple with an arrival, a
+        fate or a packet that waits at the bin's end. from is the bin's first
+        moment. A delay stands in the bin of the sending.
 
-  0  The table or the help was written.
-  1  The machine failed. On standard error stands 'maltlink: row ROW: Read',
-     'maltlink: row ROW: Memory', 'maltlink: memory' or 'maltlink: write'. After a
-     failed write standard output has the front of the table, else nothing.
-  2  Something is wrong that was given, and nothing was written to standard
-     output. On standard error stands a text on the command line,
-     'maltlink: a word isn't UTF-8', 'maltlink: OPTION: NotANumber' or
-     'OutOfRange' of rate, overhead, mpu or every, 'maltlink: seed',
-     'maltlink: parameter word PLACE: NAME' or 'maltlink: row ROW: NAME', with the
-     names of 'fqsim trace --help', and of a row also
-       NotAnArrival   the row is no 'enq'
-       TooLate        its moment is 2^59 or more
-       Backwards      its moment is below that of the row before
-     A second line says what was found and what is wanted.";
+    steps
+        The run's steps as a trace, of FQ-CoDel alone: 'maltlink --write steps
+        .. PARAM | fqsim trace PARAM' is the same run.
+
+FAULTS
+    A fault is reported on standard error. The first line is for programs. The
+    second one says what was found and what is wanted.
+
+    maltlink: OPTION: NotANumber | OutOfRange
+        The value of --rate, --overhead, --mpu or --every is wrong. They are
+        looked at in this order.
+
+    maltlink: seed
+        The seed isn't 32 hexadecimal digits.
+
+    maltlink: parameter word PLACE: NAME
+        A parameter word is wrong, with the names of 'fqsim trace --help'.
+
+    maltlink: row ROW: NAME
+        A row is wrong, with the names of 'fqsim trace --help', or one of
+            NotAnArrival  The row is no 'enq'.
+            TooLate       Its moment is 2^59 or more.
+            Backwards     Its moment is below that of the row before.
+        Rows are counted from 1. All are read before these three are tested.
+
+    maltlink: a word isn't UTF-8
+        A word of the command line isn't text.
+
+    maltlink: memory | write
+        The machine failed.
+
+EXAMPLES
+    $ printf 'enq,0,6,10.0.0.1,10.0.0.9,5000,443,1514,2\\n' |
+          maltlink --rate 10mbit --write packets classify dport
+    queue,id,tuple,flow,len,ecn,arrived,fate,at,delay,ecn_sent,mark,place
+    fq_codel,0,0,443,1514,2,0,sent,0,0,2,,0
+
+    $ maltlink --rate 10mbit --overhead 24 --mpu 84 --compare fifo \\
+          limit 1000 target 5ms interval 100ms < arrivals.csv > flows.csv
+
+EXIT STATUS
+    0   The table, the help or the version was written.
+    1   The machine failed: no memory, a failed read or a failed write. After a
+        failed write standard output has the front of the table, else nothing.
+    2   Something is wrong that was given, and nothing was written to standard
+        output.
+";

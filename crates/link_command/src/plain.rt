@@ -1,11 +1,19 @@
 //! The parameters' values as tc prints them, brought into the form in which they are read.
 
+ghost use Rattle.std.specs.Prelude.{◌≡◌, ◌<◌, ◌≤◌, ◌-◌, ◌^◌, IfOk, IfSome, length, map, min, option_map, string_bytes};
+ghost use Rattle.packet_core.specs.Numerals.{numeral_of};
+ghost use Rattle.link_command.specs.PlainWords.{awaited_after, byte_unit_of, kind_of, packet_unit_of, part_of, plain_value, plain_words_of, point_time_of, time_unit_of, value_of, whole_quotient, word_in};
+
+use crate::counts::{digits_in_front, scaled, split_digits};
 use packet_core::read_numeral;
 use std::alloc::{AllocError, Global};
 
+/// The most digits that are read after a point.
+const MAX_DECIMALS: usize = 6;
+
 /// What the value of a parameter is.
 #[derive(Clone, Copy, Debug, PartialEq, Eq)]
-enum ValueKind {
+pub(crate) enum ValueKind {
     /// A number of packets, which tc prints with `p` after it.
     Packets,
     /// A number of bytes, which tc prints with `b`, `Kb`, `Mb` or `Gb` after it, by 1,024.
@@ -18,100 +26,182 @@ enum ValueKind {
 
 /// The words with each value in the form in which `read_params` reads it: as many, each at its place. A word that isn't
 /// in a form in which tc prints such a value stays as it is.
-pub fn plain_words(alloc: Global, words: &[&str]) -> Result<Vec<String>, AllocError> {
+pub fn plain_words(alloc: Global, words: &[&str]) -> Result<Vec<String>, AllocError>
+    ensures { IfOk result (λ plain. map string_bytes plain.items ≡ plain_words_of (map (λ w. w.now) words.now)) }
+{
     let mut plain = Vec::new(alloc);
     let mut awaited = None;
     for word in words {
-        let (text, next) = match awaited {
-            Some(kind) => (plain_value(alloc, kind, word)?, None),
-            None => (String::from_str(alloc, word)?, kind_of(word)),
-        };
+        let text = plain_word(alloc, awaited, word)?;
         plain.push(text)?;
-        awaited = next;
+        awaited = awaited_after(awaited, word);
     }
     Ok(plain)
 }
 
+/// What value the next word is, if it is one.
+fn awaited_after(awaited: Option<ValueKind>, word: &str) -> Option<ValueKind>
+    ensures { result ≡ awaited_after awaited word.now }
+{
+    match awaited {
+        Some(_) => None,
+        None => kind_of(word),
+    }
+}
+
+/// A word in the form in which it is read, where it may be an awaited value.
+fn plain_word(alloc: Global, awaited: Option<ValueKind>, word: &str) -> Result<String, AllocError>
+    ensures { IfOk result (λ text. string_bytes text ≡ word_in awaited word.now) }
+{
+    match awaited {
+        Some(kind) => plain_value(alloc, kind, word),
+        None => String::from_str(alloc, word),
+    }
+}
+
 /// What the value is that a word has after it, if it has one.
-fn kind_of(word: &str) -> Option<ValueKind> {
+#[tactic(auto, using(crate::proofs::TextLemmas::differ), unfolding(crate::specs::PlainWords::kind_of))]
+fn kind_of(word: &str) -> Option<ValueKind>
+    ensures { result ≡ kind_of word.now }
+{
     match word {
-        "limit" | "drop_batch" => Some(ValueKind::Packets),
-        "quantum" | "mtu" | "memory_limit" => Some(ValueKind::Bytes),
-        "target" | "interval" | "ce_threshold" => Some(ValueKind::Time),
-        "flows" | "classify" => Some(ValueKind::Other),
+        "limit" => Some(ValueKind::Packets),
+        "drop_batch" => Some(ValueKind::Packets),
+        "quantum" => Some(ValueKind::Bytes),
+        "mtu" => Some(ValueKind::Bytes),
+        "memory_limit" => Some(ValueKind::Bytes),
+        "target" => Some(ValueKind::Time),
+        "interval" => Some(ValueKind::Time),
+        "ce_threshold" => Some(ValueKind::Time),
+        "flows" => Some(ValueKind::Other),
+        "classify" => Some(ValueKind::Other),
         _ => None,
     }
 }
 
 /// A value in the form in which it is read.
-fn plain_value(alloc: Global, kind: ValueKind, word: &str) -> Result<String, AllocError> {
-    let number = match kind {
-        ValueKind::Packets => scaled(word.as_bytes(), b"p", 1),
-        ValueKind::Bytes => bytes(word.as_bytes()),
-        ValueKind::Time => microseconds(word.as_bytes()),
-        ValueKind::Other => None,
-    };
-    match number {
+fn plain_value(alloc: Global, kind: ValueKind, word: &str) -> Result<String, AllocError>
+    ensures { IfOk result (λ text. string_bytes text ≡ plain_value kind word.now) }
+{
+    match value(kind, word) {
         Some(number) => format!(in alloc; "{number}"),
         None => String::from_str(alloc, word),
     }
 }
 
-/// The value of a number with that unit after it, and 2^64 - 1 where it is more than that.
-fn scaled(text: &[u8], unit: &[u8], scale: u64) -> Option<u64> {
-    let digits = text.len().checked_sub(unit.len())?;
-    if &text[digits..] == unit {
-        Some(read_numeral(&text[..digits])?.saturating_mul(scale))
+/// The value that a word says in a form in which tc prints it, and 2^64 - 1 where it is more than that.
+fn value(kind: ValueKind, word: &str) -> Option<u64>
+    ensures { result ≡ option_map (λ n. min n (2 ^ 64 - 1)) (value_of kind word.now) }
+{
+    let (digits, unit) = split_digits(word);
+    match kind {
+        ValueKind::Packets => scaled(digits.as_bytes(), packet_unit(unit)),
+        ValueKind::Bytes => scaled(digits.as_bytes(), byte_unit(unit)),
+        ValueKind::Time => point_time(digits.as_bytes(), unit.as_bytes()),
+        ValueKind::Other => None,
+    }
+}
+
+/// How many packets a unit has.
+#[tactic(auto, using(crate::proofs::TextLemmas::differ), unfolding(crate::specs::PlainWords::packet_unit_of))]
+fn packet_unit(text: &str) -> Option<u64>
+    ensures { result ≡ packet_unit_of text.now }
+{
+    match text {
+        "p" => Some(1),
+        _ => None,
+    }
+}
+
+/// How many bytes a unit has.
+#[tactic(auto, using(crate::proofs::TextLemmas::differ), unfolding(crate::specs::PlainWords::byte_unit_of))]
+fn byte_unit(text: &str) -> Option<u64>
+    ensures { result ≡ byte_unit_of text.now }
+{
+    match text {
+        "b" => Some(1),
+        "Kb" => Some(1_024),
+        "Mb" => Some(1_048_576),
+        "Gb" => Some(1_073_741_824),
+        _ => None,
+    }
+}
+
+/// A time in microseconds, from the digits before its point and from what follows these, where it has no part of a
+/// microsecond. It is 2^64 - 1 where it is more than that.
+fn point_time(whole: &[u8], rest: &[u8]) -> Option<u64>
+    ensures { result ≡ option_map (λ n. min n (2 ^ 64 - 1)) (point_time_of whole.now rest.now) }
+{
+    let [b'.', rest @ ..] = rest else {
+        return None;
+    };
+    let decimals = digits_in_front(rest);
+    let unit = time_unit(&rest[decimals..])?;
+    let part = part(&rest[..decimals], unit)?;
+    Some(scaled(whole, Some(unit))?.saturating_add(part))
+}
+
+/// How many microseconds a unit has.
+fn time_unit(text: &[u8]) -> Option<u64>
+    ensures { result ≡ time_unit_of text.now }
+{
+    match text {
+        b"us" => Some(1),
+        b"ms" => Some(1_000),
+        b"s" => Some(1_000_000),
+        _ => None,
+    }
+}
+
+/// The digits after a point as a part of a unit, where that is a whole number.
+fn part(decimals: &[u8], unit: u64) -> Option<u64>
+    requires { unit ≤ 1000000 }
+    ensures { result ≡ part_of decimals.now unit }
+{
+    if decimals.len() > MAX_DECIMALS {
+        return None;
+    }
+    match decimals_number(decimals) {
+        Some(number) => whole_quotient(number * unit, tens(decimals.len())),
+        None => None,
+    }
+}
+
+/// The number of a few digits.
+fn decimals_number(decimals: &[u8]) -> Option<u64>
+    requires { length decimals.now ≤ MAX_DECIMALS }
+    ensures value { result ≡ numeral_of decimals.now }
+    ensures bound { IfSome result (λ n. n < 1000000) }
+{
+    read_numeral(decimals)
+}
+
+/// The quotient of two numbers, where it is whole.
+fn whole_quotient(number: u64, divisor: u64) -> Option<u64>
+    requires { 0 < divisor }
+    ensures { result ≡ whole_quotient number divisor }
+{
+    if number % divisor == 0 {
+        Some(number / divisor)
     } else {
         None
     }
 }
 
-/// The value of a number of bytes as tc prints it.
-fn bytes(text: &[u8]) -> Option<u64> {
-    scaled(text, b"Kb", 1 << 10)
-        .or(scaled(text, b"Mb", 1 << 20))
-        .or(scaled(text, b"Gb", 1 << 30))
-        .or(scaled(text, b"b", 1))
-}
-
-/// A time with a decimal fraction, in microseconds, where it has no part of a microsecond.
-fn microseconds(text: &[u8]) -> Option<u64> {
-    let point = text.iter().position(|byte| *byte == b'.')?;
-    let whole = read_numeral(&text[..point])?;
-    let rest = &text[point..];
-    decimal(whole, rest, b"us", 1)
-        .or(decimal(whole, rest, b"ms", 1_000))
-        .or(decimal(whole, rest, b"s", 1_000_000))
-}
-
-/// A number of units, each of so many microseconds, with the text from the point on.
-fn decimal(whole: u64, rest: &[u8], unit: &[u8], scale: u64) -> Option<u64> {
-    let end = rest.len().checked_sub(unit.len())?;
-    if &rest[end..] != unit {
-        return None;
+/// Ten to the power of a number of digits.
+fn tens(count: usize) -> u64
+    requires { count ≤ MAX_DECIMALS }
+    ensures value { result ≡ 10 ^ count }
+    ensures positive { 0 < result }
+{
+    match count {
+        0 => 1,
+        1 => 10,
+        2 => 100,
+        3 => 1_000,
+        4 => 10_000,
+        5 => 100_000,
+        6 => 1_000_000,
+        _ => unreachable!(),
     }
-    let [b'.', digits @ ..] = &rest[..end] else {
-        return None;
-    };
-    Some(
-        whole
-            .saturating_mul(scale)
-            .saturating_add(fraction(digits, scale)?),
-    )
-}
-
-/// The digits after a point as a part of `scale`, where that is a whole number.
-fn fraction(digits: &[u8], scale: u64) -> Option<u64> {
-    let mut scale = scale;
-    let mut value = 0u64;
-    for byte in digits {
-        let digit = char::from(*byte).to_digit(10)?;
-        if digit > 0 && scale % 10 > 0 {
-            return None;
-        }
-        scale /= 10;
-        value = value.saturating_add(u64::from(digit).saturating_mul(scale));
-    }
-    Some(value)
 }

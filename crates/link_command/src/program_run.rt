@@ -1,18 +1,21 @@
-//! The whole program over words and streams: it runs a link and writes a table, or help, and reports a fault with its
+//! The whole program over words and streams: it writes a table of a link's run, or help, and reports a fault with its
 //! status.
 
-ghost use Rattle.std.specs.Prelude.{◌≡◌, ◌≤◌, IfSome, OnErr, OnOk, false, length, take, ℕ};
+ghost use Rattle.std.specs.Prelude.{◌≡◌, ◌≢◌, ◌≤◌, ◌<◌, ℕ, IfErr, IfOk, IfSome, OnErr, OnOk, Some, IsSomeAnd, false, true, length, map, option_map, take};
 ghost use Rattle.std.specs.Io.KnownBytes.{Appends, Keeps};
 ghost use Rattle.link_core.specs.Arrivals.{AreArrivals};
+ghost use Rattle.link_command.specs.CommandLine.{texts_of};
+ghost use Rattle.link_command.specs.Runs.{Answers, IsAsked, IsFaultOn, IsJournalOf, IsJournalText, AreManyEvents, IsComparedFault, IsComparedText, IsRunFault, IsTooMany, IsTableFault, IsTableFor, IsTableOf};
+ghost use Rattle.link_command.specs.RunsSaid.{parts_of};
 
 use crate::arrivals::read_arrivals;
 use crate::command_line::{Asked, RunRequest, TableName, parse};
-use crate::faults::{ProgramFault, RowFault, tell};
-use crate::values::{every_of, link_of, params_of, seed_of};
+use crate::faults::{Found, ProgramFault, RowFault, tell};
+use crate::notes::{Stage, Terminals, note_input, note_stage};
+use crate::values::{Run, run_of};
 use journal_core::Event;
-use link_core::{Arrival, Link, run_fifo, run_link};
+use link_core::{Arrival, run_fifo, run_link};
 use link_report::{MAX_EVENTS, flows_text, packets_text, series_text, steps_text};
-use packet_core::{Params, Seed};
 use row_core::TraceFaultKind;
 use std::alloc::Global;
 use std::io::{Read, Write};
@@ -22,18 +25,29 @@ const SUCCESS: u8 = 0;
 
 /// The whole program over the words behind its name. It reads arrivals and writes a table of a link's run, or writes help
 /// where the words ask for that, and reports a fault on `faults`. It answers the status that the program ends with.
+/// Where standard streams are a terminal, it reports there too what it reads, and how far a long run is.
 pub fn program<R: Read, W: Write, F: Write>(
     alloc: Global,
     words: &[&str],
     reader: &mut R,
     writer: &mut W,
     faults: &mut F,
+    terminals: Terminals,
 ) -> u8
+    // With the status 0 the writer holds what it held, and then the table that the words ask for, of the link's run of
+    // the arrivals that were read. Or the words ask for help or the version, and a text is written.
+    ensures answer { result ≡ 0 → Answers (map (λ w. w.now) words.now) (R.remaining reader.old)
+        (W.contents writer.old) (W.contents writer.new) }
+
+    // With the status 0 nothing is reported where no stream is a terminal.
+    ensures quiet { result ≡ 0 → terminals.input ≡ false → terminals.faults ≡ false
+        → Keeps (F.contents faults.old) (F.contents faults.new) }
+
     // With the status 2, where something that was given is wrong, nothing was written.
     ensures input_fault { result ≡ 2 → Keeps (W.contents writer.old) (W.contents writer.new) }
     ensures range { result ≤ 2 }
 {
-    match text_asked(alloc, words, reader) {
+    match text_asked(alloc, words, reader, faults, terminals) {
         Ok(text) => match show(writer, &text) {
             Ok(()) => SUCCESS,
             Err(()) => tell(faults, &ProgramFault::Write),
@@ -63,72 +77,98 @@ fn show<W: Write>(writer: &mut W, bytes: &[u8]) -> Result<(), ()>
 }
 
 /// The text that the words ask for: a table, or help.
-fn text_asked<R: Read>(
+fn text_asked<R: Read, F: Write>(
     alloc: Global,
     words: &[&str],
     reader: &mut R,
-) -> Result<Vec<u8>, ProgramFault> {
+    notes: &mut F,
+    terminals: Terminals,
+) -> Result<Vec<u8>, ProgramFault>
+    ensures text { IfOk result (λ text. IsAsked (map (λ w. w.now) words.now) (R.remaining reader.old) text.items) }
+    ensures fault { IfErr result (IsFaultOn (map (λ w. w.now) words.now) (R.remaining reader.old)) }
+    ensures quiet { terminals.input ≡ false → terminals.faults ≡ false
+        → Keeps (F.contents notes.old) (F.contents notes.new) }
+{
     match parse(alloc, words)? {
-        Asked::Run(request) => run_text(alloc, &request, reader),
+        Asked::Run(request) => run_text(alloc, &request, reader, notes, terminals),
         Asked::Text(text) => Ok(text.into_bytes()),
     }
 }
 
 /// The table that is asked for. The values of options are tested in their order, then the parameter words, and then the
 /// arrivals.
-fn run_text<R: Read>(
+fn run_text<R: Read, F: Write>(
     alloc: Global,
     request: &RunRequest<'_>,
     reader: &mut R,
-) -> Result<Vec<u8>, ProgramFault> {
-    let link = link_of(alloc, request)?;
-    let every = every_of(alloc, request.every)?;
-    let seed = seed_of(alloc, request.seed)?;
-    let params = params_of(alloc, &request.parameters)?;
+    notes: &mut F,
+    terminals: Terminals,
+) -> Result<Vec<u8>, ProgramFault>
+    ensures text { IfOk result (λ text. IsTableFor (texts_of request.now) (R.remaining reader.old) text.items) }
+    ensures fault { IfErr result (IsRunFault (texts_of request.now) (R.remaining reader.old)) }
+    ensures quiet { terminals.input ≡ false → terminals.faults ≡ false
+        → Keeps (F.contents notes.old) (F.contents notes.new) }
+{
+    let run = run_of(alloc, request)?;
+    note_input(notes, terminals);
     let arrivals = read_arrivals(alloc, reader)?;
-    let run = Run {
-        params,
-        seed,
-        link,
-        every,
-    };
-    table_text(alloc, request, &run, &arrivals)
-}
-
-/// A run that is asked for, and the width of its bins, in microseconds.
-#[derive(Clone, Copy)]
-struct Run {
-    params: Params,
-    seed: Seed,
-    link: Link,
-    every: u64,
+    note_stage(notes, terminals, Stage::Read, arrivals.len());
+    table_text(alloc, request, &run, &arrivals, notes, terminals)
 }
 
 /// The table of a run of these arrivals.
-fn table_text(
+fn table_text<F: Write>(
     alloc: Global,
     request: &RunRequest<'_>,
     run: &Run,
     arrivals: &[Arrival],
+    notes: &mut F,
+    terminals: Terminals,
 ) -> Result<Vec<u8>, ProgramFault>
     requires { AreArrivals arrivals.now }
+    ensures text { IfOk result (λ text. IsTableOf (texts_of request.now) (parts_of run.now) arrivals.now text.items) }
+    ensures fault { IfErr result (IsTableFault (parts_of run.now) arrivals.now) }
+    ensures quiet { terminals.faults ≡ false → Keeps (F.contents notes.old) (F.contents notes.new) }
 {
     let engine = run_link(alloc, run.params, run.seed, &run.link, arrivals)?;
+    note_stage(notes, terminals, Stage::Run, arrivals.len());
     if request.table == TableName::Steps {
         return Ok(steps_text(alloc, engine.steps())?);
     }
-    if request.has_fifo {
-        let fifo = run_fifo(alloc, run.params, run.seed, &run.link, arrivals)?;
-        journal_text(
-            alloc,
-            request.table,
-            run.every,
-            engine.events(),
-            Some(&fifo),
-        )
-    } else {
-        journal_text(alloc, request.table, run.every, engine.events(), None)
+    compared_text(
+        alloc,
+        request,
+        run,
+        arrivals,
+        engine.events(),
+        notes,
+        terminals,
+    )
+}
+
+/// The table of a run's journal, beside that of a FIFO where one is asked for.
+fn compared_text<F: Write>(
+    alloc: Global,
+    request: &RunRequest<'_>,
+    run: &Run,
+    arrivals: &[Arrival],
+    events: &[Event],
+    notes: &mut F,
+    terminals: Terminals,
+) -> Result<Vec<u8>, ProgramFault>
+    requires arrivals { AreArrivals arrivals.now }
+    requires table { request.now.table ≢ TableName.Steps }
+    ensures text { IfOk result (λ text. IsComparedText request.now.table request.now.has_fifo
+        (parts_of run.now) arrivals.now events.now text.items) }
+    ensures fault { IfErr result (IsComparedFault (parts_of run.now) arrivals.now events.now) }
+    ensures quiet { terminals.faults ≡ false → Keeps (F.contents notes.old) (F.contents notes.new) }
+{
+    if !request.has_fifo {
+        return journal_text(alloc, request.table, run.every, events, None);
     }
+    let fifo = run_fifo(alloc, run.params, run.seed, &run.link, arrivals)?;
+    note_stage(notes, terminals, Stage::Compared, arrivals.len());
+    journal_text(alloc, request.table, run.every, events, Some(&fifo))
 }
 
 /// The table of journals.
@@ -138,31 +178,38 @@ fn journal_text(
     every: u64,
     events: &[Event],
     fifo: Option<&[Event]>,
-) -> Result<Vec<u8>, ProgramFault> {
-    if table == TableName::Packets {
-        return Ok(packets_text(alloc, events, fifo)?);
+) -> Result<Vec<u8>, ProgramFault>
+    requires { table ≢ TableName.Steps }
+    ensures text { IfOk result (λ text.
+        IsJournalText table every events.now (option_map (λ e. e.now) fifo.entry) text.items) }
+    ensures fault { IfErr result (AreManyEvents events.now (option_map (λ e. e.now) fifo.entry)) }
+{
+    match table {
+        TableName::Packets => Ok(packets_text(alloc, events, fifo)?),
+        TableName::Series => Ok(series_text(alloc, every, events, fifo)?),
+        TableName::Flows => {
+            if events.len() > MAX_EVENTS || has_many(fifo) {
+                Err(too_many(alloc))
+            } else {
+                Ok(flows_text(alloc, events, fifo)?)
+            }
+        }
+        TableName::Steps => unreachable!(),
     }
-    if table == TableName::Series {
-        return Ok(series_text(alloc, every, events, fifo)?);
-    }
-    if events.len() > MAX_EVENTS {
-        return Err(too_many(alloc));
-    }
-    if has_many(fifo) {
-        return Err(too_many(alloc));
-    }
-    Ok(flows_text(alloc, events, fifo)?)
 }
 
 /// The fault for more events than `flows_text` takes. A million rows have two million events.
-fn too_many(alloc: Global) -> ProgramFault {
-    let none = String::new(alloc);
+fn too_many(alloc: Global) -> ProgramFault
+    ensures { IsTooMany result }
+{
+    let none = Found::Row(String::new(alloc));
     ProgramFault::Row(0, RowFault::Trace(TraceFaultKind::TooLarge), none)
 }
 
 /// Whether there are more events than `flows_text` takes.
 fn has_many(events: Option<&[Event]>) -> bool
-    ensures { result ≡ false → IfSome events.entry (λ e. length e.now ≤ MAX_EVENTS) }
+    ensures few { result ≡ false → IfSome events.entry (λ e. length e.now ≤ MAX_EVENTS) }
+    ensures many { result ≡ true → IsSomeAnd events.entry (λ e. MAX_EVENTS < length e.now) }
 {
     match events {
         Some(events) => events.len() > MAX_EVENTS,

@@ -2,14 +2,24 @@
 //! table to its standard output.
 #![tactic(auto)]
 
-use link_command::{ProgramFault, program, tell};
+use link_command::{ProgramFault, Terminals, program, tell};
 use std::env::{self, Env};
-use std::io::{Read, Write};
+use std::io::{IsTerminal, Read, Write};
 use std::process::ExitCode;
 
 fn main(rt: HostRuntime) -> ExitCode {
     let mut faults = rt.stderr();
-    let status = match with_arguments(&rt, &mut rt.stdin(), &mut rt.stdout(), &mut faults) {
+    let terminals = Terminals {
+        input: rt.stdin().is_terminal(),
+        faults: faults.is_terminal(),
+    };
+    let status = match with_arguments(
+        &rt,
+        &mut rt.stdin(),
+        &mut rt.stdout(),
+        &mut faults,
+        terminals,
+    ) {
         Ok(status) => status,
         Err(fault) => tell(&mut faults, &fault),
     };
@@ -22,9 +32,10 @@ fn with_arguments<H: Env + AllocGlobal>(
     reader: &mut impl Read,
     writer: &mut impl Write,
     faults: &mut impl Write,
+    terminals: Terminals,
 ) -> Result<u8, ProgramFault> {
     let alloc = rt.alloc();
     let arguments: Vec<String> = env::args(rt)?.skip(1).collect(alloc)?;
     let words: Vec<&str> = arguments.iter().map(|word| word.as_str()).collect(alloc)?;
-    Ok(program(alloc, &words, reader, writer, faults))
+    Ok(program(alloc, &words, reader, writer, faults, terminals))
 }

@@ -1,0 +1,113 @@
+-- The faults of a run, by the step that they come from.
+use Rattle.std.proofs.Common.{◌≡◌, ◌≢◌, ◌⊎◌, ℕ, Bool, List, Option, Result, Ok, Err, String, Global, inl, inr, refl}
+use Rattle.std.specs.Prelude.{IfErr, IfSome, IsErrAnd}
+use Rattle.journal_core.specs.declared.event.Event.{Event}
+use Rattle.journal_core.specs.declared.step.Step.{Step}
+use Rattle.link_core.specs.declared.arrival.Arrival.{Arrival}
+use Rattle.link_core.specs.LinkRuns.{HasRunLink}
+use Rattle.sched_core.specs.Engines.{Running}
+use Rattle.link_report.specs.StepTables.{steps_text}
+use Rattle.link_command.specs.ArrivalTexts.{IsArrivalText}
+use Rattle.link_command.specs.CommandLine.{AsksForRun, IsMistake, Texts}
+use Rattle.link_command.specs.FaultsOn.{IsWordsFault}
+use Rattle.link_command.specs.InputFaults.{IsInputFault}
+use Rattle.link_command.specs.Runs.{IsComparedFault, IsComparedText, IsFaultOn, IsJournalOf, IsRunFault, IsTable, IsTableFault}
+use Rattle.link_command.specs.Values.{RunParts, SaysRun}
+use Rattle.link_command.specs.declared.command_line.TableName.{TableName}
+use Rattle.link_command.specs.declared.command_line.TableName.TheVariants.{Flows, Packets, Series, Steps}
+use Rattle.link_command.specs.declared.faults.ProgramFault.{ProgramFault}
+use Rattle.link_command.specs.declared.faults.ProgramFault.TheVariants.{CommandLine, NotUtf8, Value, Seed, Params, Row, Memory, Write}
+
+-- of the words
+pub words_fail : (texts : Texts) (input : Option (List ℕ)) (why : ProgramFault) → IsWordsFault texts why → IsRunFault texts input why
+words_fail texts input (CommandLine text) h = h
+words_fail texts input NotUtf8 h = h
+words_fail texts input (Value name what found) h = h
+words_fail texts input (Seed found) h = h
+words_fail texts input (Params what found) h = h
+words_fail texts input (Row number what found) h = absurd h
+words_fail texts input Memory h = tt
+words_fail texts input Write h = h
+
+-- of the input
+pub input_fails : (texts : Texts) (input : Option (List ℕ)) (run : RunParts) (why : ProgramFault) → SaysRun texts run → IsInputFault input why
+    → IsRunFault texts input why
+input_fails texts input run (CommandLine text) said h = h
+input_fails texts input run NotUtf8 said h = h
+input_fails texts input run (Value name what found) said h = absurd h
+input_fails texts input run (Seed found) said h = absurd h
+input_fails texts input run (Params what found) said h = absurd h
+input_fails texts input run (Row number what found) said h = inl (record { run = run; said = said; fault = h })
+input_fails texts input run Memory said h = tt
+input_fails texts input run Write said h = h
+
+-- of the table
+pub table_fails : (texts : Texts) (input : Option (List ℕ)) (run : RunParts) (arrivals : List Arrival) (why : ProgramFault) → SaysRun texts run
+    → IfSome input (λ bytes. IsArrivalText bytes arrivals) → IsTableFault run arrivals why → IsRunFault texts input why
+table_fails texts input run arrivals (CommandLine text) said read h = h
+table_fails texts input run arrivals NotUtf8 said read h = h
+table_fails texts input run arrivals (Value name what found) said read h = absurd h
+table_fails texts input run arrivals (Seed found) said read h = absurd h
+table_fails texts input run arrivals (Params what found) said read h = absurd h
+table_fails texts input run arrivals (Row number what found) said read h = inr (record { run = run; said = said; arrivals = arrivals; read = read; fault = h })
+table_fails texts input run arrivals Memory said read h = tt
+table_fails texts input run arrivals Write said read h = h
+
+-- of words that ask for a run
+pub run_fails : (words : List (List ℕ)) (texts : Texts) (input : Option (List ℕ)) (why : ProgramFault) → AsksForRun words texts → IsRunFault texts input why
+    → IsFaultOn words input why
+run_fails words texts input (CommandLine text) asks h = absurd h
+run_fails words texts input NotUtf8 asks h = h
+run_fails words texts input (Value name what found) asks h = (texts, asks, h)
+run_fails words texts input (Seed found) asks h = (texts, asks, h)
+run_fails words texts input (Params what found) asks h = (texts, asks, h)
+run_fails words texts input (Row number what found) asks h = (texts, asks, h)
+run_fails words texts input Memory asks h = tt
+run_fails words texts input Write asks h = h
+
+-- of words that ask for nothing
+pub parse_fails : (words : List (List ℕ)) (input : Option (List ℕ)) (why : ProgramFault) → (why ≡ Memory) ⊎ ((text : String Global) × (why ≡ CommandLine text))
+    → ((text : String Global) → why ≡ CommandLine text → IsMistake words) → IsFaultOn words input why
+parse_fails words input why (inl memory) mistake = rw memory tt
+parse_fails words input why (inr command) mistake = rw command.1 (mistake command.0 command.1)
+
+-- want of memory is a fault of each step
+pub memory_fails : {X : Type 0} (r : Result X ProgramFault) (P : ProgramFault → Type 0) → IsErrAnd r (λ why. why ≡ Memory) → P Memory → IfErr r P
+memory_fails (Ok x) P h fails = tt
+memory_fails (Err why) P h fails = rw h fails
+
+-- a table of journals is one that isn't of steps
+pub journal_table : (table : TableName) (has_fifo : Bool) (run : RunParts) (arrivals : List Arrival) (steps : List Step) (events : List Event) (text : List ℕ)
+    → table ≢ Steps → IsComparedText table has_fifo run arrivals events text → IsTable table has_fifo run arrivals steps events text
+journal_table Flows has_fifo run arrivals steps events text other is = is
+journal_table Packets has_fifo run arrivals steps events text other is = is
+journal_table Series has_fifo run arrivals steps events text other is = is
+journal_table Steps has_fifo run arrivals steps events text other is = absurd (other refl)
+
+-- and that of steps
+pub steps_table : (table : TableName) (has_fifo : Bool) (run : RunParts) (arrivals : List Arrival) (steps : List Step) (events : List Event) (text : List ℕ)
+    → table ≡ Steps → text ≡ steps_text steps → IsTable table has_fifo run arrivals steps events text
+steps_table table has_fifo run arrivals steps events text same is = rw same is
+
+-- journals with too many events are those of a run
+pub compared_fails : (run : RunParts) (arrivals : List Arrival) (steps : List Step) (events : List Event) (why : ProgramFault) → IsJournalOf run arrivals steps events
+    → IsComparedFault run arrivals events why → IsTableFault run arrivals why
+compared_fails run arrivals steps events (CommandLine text) is h = h
+compared_fails run arrivals steps events NotUtf8 is h = h
+compared_fails run arrivals steps events (Value name what found) is h = h
+compared_fails run arrivals steps events (Seed found) is h = h
+compared_fails run arrivals steps events (Params what found) is h = h
+compared_fails run arrivals steps events (Row number what found) is h = (
+  h.0,
+  elim h.1 [
+    | inl many ↦ record { steps = steps; events = events; journal = inl is; many = many }
+    | inr beside ↦ record { steps = steps; events = beside.0; journal = inr beside.1; many = beside.2 }
+  ],
+)
+compared_fails run arrivals steps events Memory is h = tt
+compared_fails run arrivals steps events Write is h = h
+
+-- the journal of an engine that made a link's steps
+pub journal_of_engine : (run : RunParts) (arrivals : List Arrival) (e : Running) → HasRunLink run.params run.seed run.link arrivals e
+    → IsJournalOf run arrivals e.steps e.sched.standing.events
+journal_of_engine run arrivals e has = record { made = has.made; last = e.sched.standing.state; runs = has.run; journal = has.journal }

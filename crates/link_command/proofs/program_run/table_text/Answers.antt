@@ -1,0 +1,42 @@
+use denote.Enum.Bare.{same_false, same_true}
+use Rattle.std.proofs.Common.{◌≡◌, ◌≢◌, ◌∙◌, ap, rules, sym}
+use Rattle.std.proofs.KnownBytes.{Keeps-trans}
+use Rattle.std.proofs.lemmas.Result.{IfErr-weaker, IfOk-weaker}
+use Rattle.link_report.specs.StepTables.{steps_text}
+use Rattle.link_command.specs.RunsSaid.{parts_of}
+use Rattle.link_command.specs.contracts.command_line.TableName.{the_type}
+use Rattle.link_command.specs.declared.command_line.TableName.TheVariants.{Steps}
+use Rattle.link_command.proofs.RunLemmas.{compared_fails, journal_of_engine, journal_table, steps_table}
+use Rattle.link_command.proofs.program_run.table_text.Goals as goal
+
+pub returns-then-eq-clause-text : goal.returns-then-eq-clause-text
+returns-then-eq-clause-text g c =
+    let same : c.args.request.now.table ≡ Steps = same_true the_type (search rules) _ _ (sym c.if-eq.ensures) in
+    record {
+      steps = c.in_ok-engine.engine.steps;
+      events = c.in_ok-engine.engine.sched.standing.events;
+      journal = journal_of_engine (parts_of c.args.run.now) c.args.arrivals.now c.in_ok-engine.engine c.in_ok-engine.ensures;
+      table = steps_table _ _ _ _ _ _ _ same (c.in_ok-steps_text.ensures ∙ ap steps_text c.steps.ensures.value);
+    }
+
+pub returns-clause-text : goal.returns-clause-text
+returns-clause-text g c =
+    let other : c.args.request.now.table ≢ Steps = same_false the_type _ _ (sym c.if-eq.ensures) in
+    let made = rw c.events.ensures.value at c.compared_text.ensures.text in
+    IfOk-weaker c.compared_text.result _ _
+    (λ text h. record {
+      steps = c.in_ok-engine.engine.steps;
+      events = c.in_ok-engine.engine.sched.standing.events;
+      journal = journal_of_engine (parts_of c.args.run.now) c.args.arrivals.now c.in_ok-engine.engine c.in_ok-engine.ensures;
+      table = journal_table _ _ _ _ _ _ _ other h;
+    }) made
+
+pub returns-clause-fault : goal.returns-clause-fault
+returns-clause-fault g c =
+    let fails = rw c.events.ensures.value at c.compared_text.ensures.fault in
+    IfErr-weaker c.compared_text.result _ _
+    (λ why h. compared_fails (parts_of c.args.run.now) c.args.arrivals.now c.in_ok-engine.engine.steps c.in_ok-engine.engine.sched.standing.events why
+    (journal_of_engine (parts_of c.args.run.now) c.args.arrivals.now c.in_ok-engine.engine c.in_ok-engine.ensures) h) fails
+
+pub returns-clause-quiet : goal.returns-clause-quiet
+returns-clause-quiet g c = λ none. Keeps-trans _ _ _ (c.note_stage.ensures none) (c.compared_text.ensures.quiet none)

@@ -1,0 +1,71 @@
+-- The arrivals that a trace has, and what is wrong with one that has others.
+use Rattle.std.specs.Prelude.{◌≡◌, ◌⊎◌, ℕ, ◌-◌, ◌<◌, List, Option, Some, None, Ok, get_or, length, map, nat_le, nat_lt, take, if◌then◌else◌}
+use Rattle.journal_core.specs.declared.step.Step.{Step}
+use Rattle.journal_core.specs.declared.step.Step.TheVariants.{Enqueue, Dequeue, Close}
+use Rattle.row_core.specs.Traces.{IsFaultOf, trace_of}
+use Rattle.row_core.specs.declared.faults.TraceFaultKind.TheVariants as kind
+use Rattle.link_core.specs.Arrivals.{AreArrivals, moment_at}
+use Rattle.link_core.specs.declared.arrival.Arrival.{Arrival}
+use Rattle.link_core.specs.declared.arrival.TheConstants.{MAX_ARRIVALS, MAX_ARRIVAL_MOMENT}
+use Rattle.link_command.specs.declared.faults.RowFault.{RowFault}
+use Rattle.link_command.specs.declared.faults.RowFault.TheVariants.{Trace, NotAnArrival, TooLate, Backwards}
+
+-- the step without the lane by which its packet comes: a link has one
+abbrev pub without_lane : Step → Step
+without_lane (Enqueue moment lane packet) = Enqueue moment 0 packet
+without_lane (Dequeue moment) = Dequeue moment
+without_lane (Close moment) = Close moment
+
+-- the step of an arrival
+abbrev pub arrival_step : Arrival → Step
+arrival_step a = Enqueue a.moment 0 a.packet
+
+-- The bytes are a trace whose steps are these arrivals and no others.
+pub record IsArrivalText (bytes : List ℕ) (arrivals : List Arrival) : Type 0 where
+  pub steps : List Step
+  pub read : trace_of bytes ≡ Ok steps
+  pub same : map without_lane steps ≡ map arrival_step arrivals
+
+-- the moment of the last of some arrivals, and 0 of none
+abbrev pub last_moment : List Arrival → ℕ
+last_moment arrivals = moment_at arrivals (length arrivals - 1)
+
+-- what is wrong with a step as an arrival after one that came at that moment, if anything is
+abbrev pub step_fault : ℕ → Step → Option RowFault
+step_fault last (Enqueue moment lane packet) =
+    if nat_le MAX_ARRIVAL_MOMENT moment then Some TooLate
+    else if nat_lt moment last then Some Backwards
+    else None
+step_fault last (Dequeue moment) = Some NotAnArrival
+step_fault last (Close moment) = Some NotAnArrival
+
+-- The steps before this place are arrivals, and the step at it isn't one.
+pub record IsStepFault (steps : List Step) (place : ℕ) (what : RowFault) : Type 0 where
+  pub within : place < length steps
+  pub arrivals : List Arrival
+  pub are : AreArrivals arrivals
+  pub before : map without_lane (take place steps) ≡ map arrival_step arrivals
+  pub fault : step_fault (last_moment arrivals) (get_or steps place (Close 0)) ≡ Some what
+
+-- The same, of a place at which there are more arrivals than a link takes, too.
+abbrev pub IsPlaceFault : List Step → ℕ → RowFault → Type 0
+IsPlaceFault steps place (Trace what) = (what ≡ kind.TooLarge) × (MAX_ARRIVALS < length steps)
+IsPlaceFault steps place NotAnArrival = IsStepFault steps place NotAnArrival
+IsPlaceFault steps place TooLate = IsStepFault steps place TooLate
+IsPlaceFault steps place Backwards = IsStepFault steps place Backwards
+
+-- The bytes are a trace, and a step of it is the first one that is no arrival. Nothing is said of the number of its row.
+pub record HasPlaceFault (bytes : List ℕ) (what : RowFault) : Type 0 where
+  pub steps : List Step
+  pub read : trace_of bytes ≡ Ok steps
+  pub place : ℕ
+  pub fault : IsPlaceFault steps place what
+
+-- The fault of a row, which is counted from 1: the first one of the grammar of traces, or that of the first step that is
+-- no arrival.
+abbrev pub IsRowFault : List ℕ → ℕ → RowFault → Type 0
+IsRowFault bytes row (Trace what) =
+    IsFaultOf bytes (record { row = row; what = what }) ⊎ HasPlaceFault bytes (Trace what)
+IsRowFault bytes row NotAnArrival = HasPlaceFault bytes NotAnArrival
+IsRowFault bytes row TooLate = HasPlaceFault bytes TooLate
+IsRowFault bytes row Backwards = HasPlaceFault bytes Backwards

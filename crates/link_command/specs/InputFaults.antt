@@ -1,0 +1,28 @@
+-- The faults of an input.
+use Rattle.std.specs.Prelude.{◌≡◌, ℕ, List, Option, IfSome}
+use Rattle.link_command.specs.ArrivalTexts.{IsRowFault}
+use Rattle.link_command.specs.declared.faults.ProgramFault.{ProgramFault}
+use Rattle.link_command.specs.declared.faults.ProgramFault.TheVariants as fault
+use Rattle.link_command.specs.declared.faults.RowFault.{RowFault}
+
+-- The fault is that of this row, or memory for it was wanting.
+abbrev pub IsToldAt : ℕ → RowFault → ProgramFault → Type 0
+IsToldAt row what (fault.Row number is found) = (number ≡ row) × (is ≡ what)
+IsToldAt row what fault.Memory = Unit {0}
+IsToldAt row what (fault.CommandLine text) = ⊥
+IsToldAt row what fault.NotUtf8 = ⊥
+IsToldAt row what (fault.Value name why found) = ⊥
+IsToldAt row what (fault.Seed found) = ⊥
+IsToldAt row what (fault.Params why found) = ⊥
+IsToldAt row what fault.Write = ⊥
+
+-- The fault is one of arrivals with these bytes, where they are known. That memory was wanting can't be said.
+abbrev pub IsInputFault : Option (List ℕ) → ProgramFault → Type 0
+IsInputFault input (fault.Row number what found) = IfSome input (λ bytes. IsRowFault bytes number what)
+IsInputFault input fault.Memory = Unit {0}
+IsInputFault input (fault.CommandLine text) = ⊥
+IsInputFault input fault.NotUtf8 = ⊥
+IsInputFault input (fault.Value name why found) = ⊥
+IsInputFault input (fault.Seed found) = ⊥
+IsInputFault input (fault.Params why found) = ⊥
+IsInputFault input fault.Write = ⊥

@@ -1,0 +1,156 @@
+//! The fields of a row, and the one that a fault stands in.
+
+use crate::faults::RowFault;
+use packet_core::read_numeral;
+use row_core::{TraceFaultKind, TraceRows};
+use std::alloc::{AllocError, Global};
+use thiserror::Error;
+
+/// A field of a row.
+#[derive(Clone, Copy, Debug, PartialEq, Eq, Error)]
+pub enum FieldName {
+    /// What the row is.
+    #[error("KIND")]
+    Kind,
+    /// The version of the trace, in its first row.
+    #[error("VERSION")]
+    Version,
+    /// The moment, in microseconds.
+    #[error("MOMENT")]
+    Moment,
+    /// The number of the protocol.
+    #[error("PROTO")]
+    Proto,
+    /// The address that a packet comes from.
+    #[error("SRC")]
+    Src,
+    /// The address that it goes to.
+    #[error("DST")]
+    Dst,
+    /// The port that it comes from.
+    #[error("SPORT")]
+    Sport,
+    /// The port that it goes to.
+    #[error("DPORT")]
+    Dport,
+    /// Its length, in bytes.
+    #[error("LEN")]
+    Len,
+    /// Its ECN field.
+    #[error("ECN")]
+    Ecn,
+}
+
+/// The fields of the row of an arrival with a number in them, from left to right.
+const NUMBERS: [FieldName; 5] = [
+    FieldName::Moment,
+    FieldName::Proto,
+    FieldName::Sport,
+    FieldName::Dport,
+    FieldName::Len,
+];
+
+impl FieldName {
+    /// Its place in a row, from 1.
+    pub fn number(self) -> usize {
+        match self {
+            FieldName::Kind => 1,
+            FieldName::Version | FieldName::Moment => 2,
+            FieldName::Proto => 3,
+            FieldName::Src => 4,
+            FieldName::Dst => 5,
+            FieldName::Sport => 6,
+            FieldName::Dport => 7,
+            FieldName::Len => 8,
+            FieldName::Ecn => 9,
+        }
+    }
+
+    /// The greatest number that it may have, where it has a number.
+    fn greatest(self) -> u64 {
+        match self {
+            FieldName::Moment => (1 << 60) - 1,
+            FieldName::Proto => 255,
+            FieldName::Sport | FieldName::Dport => 65_535,
+            _ => u64::MAX,
+        }
+    }
+
+    /// Its text in a row, and an empty one where the row ends before it.
+    pub(crate) fn text_in(self, row: &str) -> &str {
+        let mut fields = row.split(',');
+        match fields.nth(self.number().saturating_sub(1)) {
+            Some(field) => field,
+            None => "",
+        }
+    }
+}
+
+/// The field that a row's fault stands in, where it stands in one. `first` is the trace's first row, which may tell its
+/// version. The fields of the row are read again for it.
+pub(crate) fn faulty_field(
+    alloc: Global,
+    what: RowFault,
+    row: &str,
+    first: &str,
+) -> Result<Option<FieldName>, AllocError> {
+    Ok(match what {
+        RowFault::NotAnArrival | RowFault::Trace(TraceFaultKind::BadKind) => Some(FieldName::Kind),
+        RowFault::TooLate | RowFault::Backwards => Some(FieldName::Moment),
+        RowFault::Trace(TraceFaultKind::BadNumber) => Some(faulty_number(row)),
+        RowFault::Trace(TraceFaultKind::BadAddress) => Some(faulty_address(alloc, row, first)?),
+        RowFault::Trace(TraceFaultKind::BadEcn) => Some(FieldName::Ecn),
+        RowFault::Trace(TraceFaultKind::LengthOutOfRange) => Some(FieldName::Len),
+        RowFault::Trace(
+            TraceFaultKind::Read
+            | TraceFaultKind::TooLarge
+            | TraceFaultKind::BadFieldCount
+            | TraceFaultKind::Memory,
+        ) => None,
+    })
+}
+
+/// The field of a row that has no number, or one that it may not have, where it is to have one.
+fn faulty_number(row: &str) -> FieldName {
+    match FieldName::Kind.text_in(row) {
+        "enq" => {}
+        "version" => return FieldName::Version,
+        _ => return FieldName::Moment,
+    }
+    for name in NUMBERS {
+        match read_numeral(name.text_in(row).as_bytes()) {
+            Some(number) if number <= name.greatest() => {}
+            _ => return name,
+        }
+    }
+    FieldName::Len
+}
+
+/// The field of a row with an address that isn't one, or isn't of the source's kind.
+fn faulty_address(alloc: Global, row: &str, first: &str) -> Result<FieldName, AllocError> {
+    let version = match FieldName::Kind.text_in(first) {
+        "version" => first,
+        _ => "",
+    };
+    let address = FieldName::Src.text_in(row);
+    let trace = format!(in alloc; "{version}\nenq,0,0,{address},{address},0,0,1,0\n")?;
+    if reads(alloc, trace.as_bytes()) {
+        Ok(FieldName::Dst)
+    } else {
+        Ok(FieldName::Src)
+    }
+}
+
+/// Whether the first rows of a text are those of a trace.
+fn reads(alloc: Global, text: &[u8]) -> bool {
+    if text.len() > row_core::MAX_BYTES {
+        return false;
+    }
+    let mut rows = TraceRows::new(alloc, text);
+    for _row in 0..3 {
+        if rows.next().is_err() {
+            return false;
+        }
+    }
+    true
+}
