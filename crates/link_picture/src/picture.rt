@@ -1,0 +1,97 @@
+//! The whole picture.
+
+ghost use Rattle.std.specs.Prelude.{◌≤◌, IfSome, length};
+ghost use Rattle.link_report.specs.declared.summary.TheConstants.{MAX_EVENTS};
+
+use crate::content::Content;
+use crate::curves::Curve;
+use crate::layout::PANEL_LEFT;
+use crate::legend::legend;
+use crate::panels::{Show, at, rate_panel, share_panel, wait_panel};
+use crate::points::rate_of;
+use crate::scales::{RateScale, WaitScale};
+use crate::svg::{Anchor, Svg, Weight};
+use crate::wording::rate_text;
+use journal_core::{Event, Memory};
+use std::alloc::Global;
+
+/// The picture of a link of that rate, in bits a second, as the text of an SVG, with bins of `every` microseconds or a
+/// round multiple of that. It shows the scheduler's journal, and that of the other queue, where there is one, in dashed
+/// lines. A journal has at most `MAX_EVENTS` entries. Where no packet arrived it has a title alone. It fails for want of
+/// memory alone. What its lines show is what `Content::of` says; its text is tested, and no contract says it.
+pub fn picture_text(
+    alloc: Global,
+    link: u64,
+    every: u64,
+    events: &[Event],
+    fifo: Option<&[Event]>,
+) -> Result<Vec<u8>, Memory>
+    requires few { length events.now ≤ MAX_EVENTS }
+    requires fifo_few { IfSome fifo (λ e. length e.now ≤ MAX_EVENTS) }
+{
+    let content = Content::of(alloc, every, events, fifo)?;
+    let show = Show {
+        alloc,
+        content: &content,
+        has_fifo: fifo.is_some(),
+        link,
+        waits: WaitScale::upto(longest(&content.fifo, longest(&content.scheduler, 0))),
+        rates: RateScale::upto(most(&content)),
+    };
+    let mut svg = Svg::open(alloc, title(&show)?.as_str())?;
+    headline(&mut svg, &show)?;
+    if content.lines > 0 {
+        wait_panel(&mut svg, &show)?;
+        share_panel(&mut svg, &show)?;
+        rate_panel(&mut svg, &show)?;
+        legend(&mut svg, &show)?;
+    }
+    svg.close()
+}
+
+/// The title of a picture.
+fn title(show: &Show<'_>) -> Result<String, Memory> {
+    let rate = rate_text(show.alloc, show.link, show.link)?;
+    let packets = show.content.packets;
+    let queues = if show.has_fifo {
+        "fq_codel and a fifo (dashed)"
+    } else {
+        "fq_codel"
+    };
+    format!(in show.alloc; "{queues} before a link of {rate}: {packets} packets")
+}
+
+/// The title as a text of the picture, and the moment from which times count, where that isn't 0.
+fn headline(svg: &mut Svg, show: &Show<'_>) -> Result<(), Memory> {
+    let title = title(show)?;
+    svg.label(at(PANEL_LEFT, 27), Anchor::Start, Weight::Title, &title)?;
+    let axis = &show.content.axis;
+    let start = axis.first.saturating_mul(axis.width);
+    if start == 0 {
+        return Ok(());
+    }
+    let text = format!(in show.alloc; "Times count from the moment {start} us.")?;
+    svg.label(at(PANEL_LEFT, 845), Anchor::Start, Weight::Small, &text)
+}
+
+/// The longest wait in the bins of some lines, and at least the one given.
+fn longest(curves: &[Curve], wait: u64) -> u64 {
+    let mut longest = wait;
+    for curve in curves {
+        for bin in curve.bins() {
+            longest = longest.max(bin.longest.unwrap_or(0));
+        }
+    }
+    longest
+}
+
+/// The greatest rate in the bins of all lines, in bits a second.
+fn most(content: &Content) -> u64 {
+    let mut most = 0u128;
+    for curve in content.scheduler.iter().chain(content.fifo.iter()) {
+        for bin in curve.bins() {
+            most = most.max(rate_of(&content.axis, bin));
+        }
+    }
+    u64::try_from(most).unwrap_or(u64::MAX)
+}
