@@ -1,4 +1,4 @@
-use Rattle.std.proofs.Common.{ℕ, ◌∙◌, ◌<◌, Vec, Global, arith, inl, length, refl, rules, slice_index_or, subst}
+use Rattle.std.proofs.Common.{ℕ, ◌∙◌, ◌<◌, IfErr, Vec, Global, arith, inl, length, refl, rules, slice_index_or, subst}
 use Rattle.std.proofs.lemmas.Result.{err_from_is_err_and}
 use Rattle.packet_core.specs.Packets.{PacketParts}
 use Rattle.port_core.specs.Devices.{KeepsLanes, rings_of}
@@ -6,6 +6,7 @@ use Rattle.port_core.specs.declared.lane_sender.LaneDone.{LaneDone}
 use Rattle.run_core.specs.DeviceRuns.{EndsRun, HasServed}
 use Rattle.run_core.proofs.DeviceRunLemmas.{served_open}
 use Rattle.run_core.specs.Journals.{IsSameDevice, IsSent}
+use Rattle.run_core.specs.SendersFaults.{IsLanesRunFault}
 use Rattle.sender_core.proofs.SenderLemmas.{member}
 use Rattle.run_core.proofs.LaneRunLemmas.{lane_rows, same_more, sent_each}
 use Rattle.run_core.proofs.lanes.run_device.Goals as goal
