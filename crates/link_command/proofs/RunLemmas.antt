@@ -14,7 +14,7 @@ use Rattle.link_command.specs.InputFaults.{IsInputFault}
 use Rattle.link_command.specs.Runs.{IsComparedFault, IsComparedText, IsFaultOn, IsJournalOf, IsRunFault, IsTable, IsTableFault}
 use Rattle.link_command.specs.Values.{RunParts, SaysRun}
 use Rattle.link_command.specs.declared.command_line.TableName.{TableName}
-use Rattle.link_command.specs.declared.command_line.TableName.TheVariants.{Flows, Packets, Series, Steps}
+use Rattle.link_command.specs.declared.command_line.TableName.TheVariants.{Flows, Packets, Series, Steps, Svg}
 use Rattle.link_command.specs.declared.faults.ProgramFault.{ProgramFault}
 use Rattle.link_command.specs.declared.faults.ProgramFault.TheVariants.{CommandLine, NotUtf8, Value, Seed, Params, Row, Memory, Write}
 
@@ -83,6 +83,7 @@ journal_table Flows has_fifo run arrivals steps events text other is = is
 journal_table Packets has_fifo run arrivals steps events text other is = is
 journal_table Series has_fifo run arrivals steps events text other is = is
 journal_table Steps has_fifo run arrivals steps events text other is = absurd (other refl)
+journal_table Svg has_fifo run arrivals steps events text other is = is
 
 -- and that of steps
 pub steps_table : (table : TableName) (has_fifo : Bool) (run : RunParts) (arrivals : List Arrival) (steps : List Step) (events : List Event) (text : List ℕ)

@@ -12,7 +12,7 @@ use Rattle.clap.specs.declared.error.kind.ErrorKind.{ErrorKind}
 use Rattle.clap.specs.declared.error.kind.ErrorKind.TheVariants.{DisplayHelp, DisplayVersion}
 use Rattle.link_command.specs.declared.command_line.RunRequest.{RunRequest}
 use Rattle.link_command.specs.declared.command_line.TableName.{TableName}
-use Rattle.link_command.specs.declared.command_line.TableName.TheVariants.{Flows, Packets, Series, Steps}
+use Rattle.link_command.specs.declared.command_line.TableName.TheVariants.{Flows, Packets, Series, Steps, Svg}
 
 -- What a run's words say, as texts.
 pub record Texts : Type 0 where
@@ -63,7 +63,7 @@ abbrev pub queue_names : List Text
 queue_names = codes "fifo" ∷ []
 
 abbrev pub table_names : List Text
-table_names = codes "flows" ∷ codes "packets" ∷ codes "series" ∷ codes "steps" ∷ []
+table_names = codes "flows" ∷ codes "packets" ∷ codes "series" ∷ codes "steps" ∷ codes "svg" ∷ []
 
 -- The command line of the program.
 pub record IsProgramLine (line : App) : Type 0 where
@@ -79,6 +79,7 @@ table_called name =
     if bytes_eq name (codes "packets") then Packets
     else if bytes_eq name (codes "series") then Series
     else if bytes_eq name (codes "steps") then Steps
+    else if bytes_eq name (codes "svg") then Svg
     else Flows
 
 abbrev pub table_named : Option Text → TableName

@@ -21,7 +21,7 @@ use Rattle.link_command.specs.FaultsOn.{IsWordsFault}
 use Rattle.link_command.specs.InputFaults.{IsInputFault}
 use Rattle.link_command.specs.Values.{RunParts, SaysRun}
 use Rattle.link_command.specs.declared.command_line.TableName.{TableName}
-use Rattle.link_command.specs.declared.command_line.TableName.TheVariants.{Flows, Packets, Series, Steps}
+use Rattle.link_command.specs.declared.command_line.TableName.TheVariants.{Flows, Packets, Series, Steps, Svg}
 use Rattle.link_command.specs.declared.faults.ProgramFault.{ProgramFault}
 use Rattle.link_command.specs.declared.faults.ProgramFault.TheVariants as fault
 use Rattle.link_command.specs.declared.faults.RowFault.TheVariants as row
@@ -40,12 +40,13 @@ IsBeside false run arrivals (Some events) = ⊥
 IsBeside true run arrivals None = ⊥
 IsBeside true run arrivals (Some events) = IsFifoJournal run.params run.seed run.link arrivals events
 
--- The text is that of the table of journals. Of the table of bins no more is said.
+-- The text is that of the table of journals. Of the table of bins and of the picture no more is said.
 abbrev pub IsJournalText : TableName → ℕ → List Event → Option (List Event) → List ℕ → Type 0
 IsJournalText Flows every events fifo text = text ≡ flows_text events fifo
 IsJournalText Packets every events fifo text = text ≡ packets_text events fifo
 IsJournalText Series every events fifo text = Unit {0}
 IsJournalText Steps every events fifo text = ⊥
+IsJournalText Svg every events fifo text = Unit {0}
 
 -- The same, of the run's journal and that of a FIFO where that is asked for.
 pub record IsComparedText (table : TableName) (has_fifo : Bool) (run : RunParts) (arrivals : List Arrival)
@@ -60,6 +61,7 @@ IsTable Flows has_fifo run arrivals steps events text = IsComparedText Flows has
 IsTable Packets has_fifo run arrivals steps events text = IsComparedText Packets has_fifo run arrivals events text
 IsTable Series has_fifo run arrivals steps events text = IsComparedText Series has_fifo run arrivals events text
 IsTable Steps has_fifo run arrivals steps events text = text ≡ steps_text steps
+IsTable Svg has_fifo run arrivals steps events text = IsComparedText Svg has_fifo run arrivals events text
 
 -- The text is the table that these texts ask for, of the link's run of these arrivals.
 pub record IsTableOf (texts : Texts) (run : RunParts) (arrivals : List Arrival) (text : List ℕ) : Type 0 where

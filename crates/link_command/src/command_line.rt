@@ -13,7 +13,7 @@ use clap::{Arg, ArgAction, ArgMatches, Command, Error};
 use std::alloc::{AllocError, Global};
 
 /// The names of the tables.
-const TABLES: [&str; 4] = ["flows", "packets", "series", "steps"];
+const TABLES: [&str; 5] = ["flows", "packets", "series", "steps", "svg"];
 
 /// The queues that a run may be compared with.
 const QUEUES: [&str; 1] = ["fifo"];
@@ -29,6 +29,8 @@ pub enum TableName {
     Series,
     /// The run's steps as a trace.
     Steps,
+    /// No table: the picture.
+    Svg,
 }
 
 /// A run, as it was asked for.
@@ -147,6 +149,7 @@ fn table_called(name: &str) -> TableName
         "packets" => TableName::Packets,
         "series" => TableName::Series,
         "steps" => TableName::Steps,
+        "svg" => TableName::Svg,
         _ => TableName::Flows,
     }
 }

@@ -70,7 +70,7 @@ OPTIONS
         The width of a bin, 1ms to 1000s [default: 100ms].
 
     --write TABLE
-        The table to write [default: flows].
+        The table to write, or 'svg' for a picture [default: flows].
 
     -h, --help
         Prints this page.
@@ -112,6 +112,14 @@ TABLES
     steps
         The run's steps as a trace, of FQ-CoDel alone: 'maltlink --write steps
         .. PARAM | fqsim trace PARAM' is the same run.
+
+    svg
+        No table: a picture for a viewer of SVG. It has the longest wait in
+        each bin of --every, the distribution of waits, and the throughput,
+        with a tick for each bin with losses. The six five-tuples with most
+        packets have a colour each, and all others share one. The queue of
+        --compare is dashed. With more than 610 bins each is 2, 5, 10 .. times
+        as wide, as the picture says.
 
 FAULTS
     A fault is reported on standard error. The first line is for programs. The

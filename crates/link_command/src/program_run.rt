@@ -15,6 +15,7 @@ use crate::notes::{Stage, Terminals, note_input, note_stage};
 use crate::values::{Run, run_of};
 use journal_core::Event;
 use link_core::{Arrival, run_fifo, run_link};
+use link_picture::picture_text;
 use link_report::{MAX_EVENTS, flows_text, packets_text, series_text, steps_text};
 use row_core::TraceFaultKind;
 use std::alloc::Global;
@@ -164,29 +165,29 @@ fn compared_text<F: Write>(
     ensures quiet { terminals.faults ≡ false → Keeps (F.contents notes.old) (F.contents notes.new) }
 {
     if !request.has_fifo {
-        return journal_text(alloc, request.table, run.every, events, None);
+        return journal_text(alloc, request.table, run, events, None);
     }
     let fifo = run_fifo(alloc, run.params, run.seed, &run.link, arrivals)?;
     note_stage(notes, terminals, Stage::Compared, arrivals.len());
-    journal_text(alloc, request.table, run.every, events, Some(&fifo))
+    journal_text(alloc, request.table, run, events, Some(&fifo))
 }
 
-/// The table of journals.
+/// The table of journals, or their picture.
 fn journal_text(
     alloc: Global,
     table: TableName,
-    every: u64,
+    run: &Run,
     events: &[Event],
     fifo: Option<&[Event]>,
 ) -> Result<Vec<u8>, ProgramFault>
     requires { table ≢ TableName.Steps }
     ensures text { IfOk result (λ text.
-        IsJournalText table every events.now (option_map (λ e. e.now) fifo.entry) text.items) }
+        IsJournalText table run.now.every events.now (option_map (λ e. e.now) fifo.entry) text.items) }
     ensures fault { IfErr result (AreManyEvents events.now (option_map (λ e. e.now) fifo.entry)) }
 {
     match table {
         TableName::Packets => Ok(packets_text(alloc, events, fifo)?),
-        TableName::Series => Ok(series_text(alloc, every, events, fifo)?),
+        TableName::Series => Ok(series_text(alloc, run.every, events, fifo)?),
         TableName::Flows => {
             if events.len() > MAX_EVENTS || has_many(fifo) {
                 Err(too_many(alloc))
@@ -194,11 +195,18 @@ fn journal_text(
                 Ok(flows_text(alloc, events, fifo)?)
             }
         }
+        TableName::Svg => {
+            if events.len() > MAX_EVENTS || has_many(fifo) {
+                Err(too_many(alloc))
+            } else {
+                Ok(picture_text(alloc, run.link.rate(), run.every, events, fifo)?)
+            }
+        }
         TableName::Steps => unreachable!(),
     }
 }
 
-/// The fault for more events than `flows_text` takes. A million rows have two million events.
+/// The fault for more events than `flows_text` and `picture_text` take. A million rows have two million events.
 fn too_many(alloc: Global) -> ProgramFault
     ensures { IsTooMany result }
 {

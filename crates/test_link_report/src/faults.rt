@@ -1,0 +1,213 @@
+//! What the program reports of faults, and to who watches it.
+
+use link_command::{Terminals, plain_words, program, read_rate};
+use std::process::Abort;
+
+/// No stream is a terminal.
+const NOWHERE: Terminals = Terminals {
+    input: false,
+    faults: false,
+};
+
+/// The program with these words and this input answers the status, writes nothing, and reports these lines.
+fn faults<R: Abort + AllocGlobal>(rt: &R, words: &[&str], input: &str, status: u8, wanted: &str) {
+    let mut output = Vec::new(rt.alloc());
+    let mut told = Vec::new(rt.alloc());
+    let mut reader = input.as_bytes();
+    let found = program(
+        rt.alloc(),
+        words,
+        &mut reader,
+        &mut output,
+        &mut told,
+        NOWHERE,
+    );
+    assert_eq!(rt; found, status, "{input}");
+    assert_eq!(rt; output.len(), 0);
+    assert_eq!(rt; str::from_utf8(&told).ok(), Some(wanted));
+}
+
+/// The second line names the row, the field by its number and name, what was found and what is wanted.
+#[test]
+fn fields_of_rows(rt: HostRuntime) {
+    let table = [
+        (
+            "enq,0,6,10.0.0.300,10.0.0.9,5000,443,1514,2\n",
+            "maltlink: row 1: BadAddress\n  row 1, field 4 (SRC): \"10.0.0.300\" is no address; wanted is \
+four numbers joined by dots, or after a row version,2 also 32 hexadecimal digits\n",
+        ),
+        (
+            "version,2\nenq,0,6,10.0.0.1,20010db8000000000000000000000001,5000,443,1514,2\n",
+            "maltlink: row 2: BadAddress\n  row 2, field 5 (DST): \"20010db8000000000000000000000001\" is no \
+address of the kind of SRC; wanted is four numbers joined by dots, or after a row version,2 also 32 hexadecimal digits\n",
+        ),
+        (
+            "enq,0,6,10.0.0.1,10.0.0.9,5000,65536,1514,2\r\n",
+            "maltlink: row 1: BadNumber\n  row 1, field 7 (DPORT): \"65536\" is no such number; wanted is 0 to 65535\n",
+        ),
+        (
+            "\nenq,0,6,10.0.0.1,10.0.0.9,5000,443,1514,2\n\"\"\nenq,1,6,10.0.0.1,10.0.0.9,5000,443,1514,4\n",
+            "maltlink: row 2: BadEcn\n  row 2, field 9 (ECN): \"4\" is no such number; wanted is one digit from 0 to 3\n",
+        ),
+        (
+            "enq,0,6,10.0.0.1,10.0.0.9,5000,443,0,2\n",
+            "maltlink: row 1: LengthOutOfRange\n  row 1, field 8 (LEN): \"0\" is no such number; wanted is \
+1 to 65535, in bytes\n",
+        ),
+        (
+            "version,3\n",
+            "maltlink: row 1: BadNumber\n  row 1, field 2 (VERSION): \"3\" is no such number; wanted is 2\n",
+        ),
+        (
+            "deq,9\n",
+            "maltlink: row 1: NotAnArrival\n  row 1, field 1 (KIND): \"deq\" is no arrival; wanted is enq\n",
+        ),
+        (
+            "enq,0,6,10.0.0.1\n",
+            "maltlink: row 1: BadFieldCount\n  row 1: \"enq,0,6,10.0.0.1\" has another number of fields; wanted is \
+enq,MOMENT,PROTO,SRC,DST,SPORT,DPORT,LEN,ECN\n",
+        ),
+    ];
+    for (input, wanted) in table {
+        faults(&rt, &["--rate", "10mbit"], input, 2, wanted);
+    }
+}
+
+/// Words are looked at in their order, before the input.
+#[test]
+fn words_before_rows(rt: HostRuntime) {
+    faults(
+        &rt,
+        &["--rate", "999bit", "--overhead", "x", "limit"],
+        "deq,9\n",
+        2,
+        "maltlink: rate: OutOfRange\n  --rate \"999bit\": wanted is 1000bit to 1tbit, as in 10mbit or 1250kbps\n",
+    );
+    faults(
+        &rt,
+        &["--rate", "1mbit", "--every", "0.5ms", "--seed", "00"],
+        "",
+        2,
+        "maltlink: every: NotANumber\n  --every \"0.5ms\": wanted is a time from 1ms to 1000s\n",
+    );
+    faults(
+        &rt,
+        &["--rate", "1mbit", "target", "5.0001ms"],
+        "",
+        2,
+        "maltlink: parameter word 2: NotANumber\n  \"5.0001ms\": a number is wanted, or a time as in 5ms\n",
+    );
+}
+
+/// At a terminal the program reports that it reads arrivals there.
+#[test]
+fn reads_at_a_terminal(rt: HostRuntime) {
+    let terminals = Terminals {
+        input: true,
+        faults: true,
+    };
+    let mut output = Vec::new(rt.alloc());
+    let mut told = Vec::new(rt.alloc());
+    let mut reader: &[u8] = b"";
+    let words = ["--rate", "10mbit"];
+    let status = program(
+        rt.alloc(),
+        &words,
+        &mut reader,
+        &mut output,
+        &mut told,
+        terminals,
+    );
+    assert_eq!(rt; status, 0);
+    assert_eq!(rt;
+        str::from_utf8(&told).ok(),
+        Some(
+            "maltlink: arrivals are read from this terminal; Ctrl-D at the start of a line ends them\n"
+        )
+    );
+}
+
+/// Rates, worked out by hand: a byte has 8 bits, and `ki` is 1,024.
+#[test]
+fn rates(rt: HostRuntime) {
+    for (text, wanted) in [
+        ("10mbit", Some(10_000_000)),
+        ("1250kbps", Some(10_000_000)),
+        ("1000", Some(1_000)),
+        ("8bps", Some(64)),
+        ("2mibit", Some(2_097_152)),
+        ("1kibps", Some(8_192)),
+        ("18446745tbit", Some(u64::MAX)),
+        ("10Mbit", None),
+        ("10 mbit", None),
+        ("mbit", None),
+        ("1.5mbit", None),
+    ] {
+        assert_eq!(rt; read_rate(text), wanted, "{text}");
+    }
+}
+
+/// The line `limit 10240p flows 1024 quantum 1514 target 5.0ms interval 100.0ms memory_limit 32Mb ecn drop_batch 64`, as
+/// `tc -s qdisc show` prints it, and values that stay as they are.
+#[test]
+fn words_of_tc(rt: HostRuntime) {
+    let words = [
+        "limit",
+        "10240p",
+        "flows",
+        "1024p",
+        "quantum",
+        "1514b",
+        "target",
+        "4.999ms",
+        "interval",
+        "100.0ms",
+        "memory_limit",
+        "32Mb",
+        "ecn",
+        "mtu",
+        "2Kb",
+        "ce_threshold",
+        "1.0000001s",
+        "limit",
+        "limit",
+        "target",
+        "4.9999ms",
+        "interval",
+        "5.ms",
+        "memory_limit",
+        "1Gb",
+    ];
+    let wanted = [
+        "limit",
+        "10240",
+        "flows",
+        "1024p",
+        "quantum",
+        "1514",
+        "target",
+        "4999",
+        "interval",
+        "100000",
+        "memory_limit",
+        "33554432",
+        "ecn",
+        "mtu",
+        "2048",
+        "ce_threshold",
+        "1.0000001s",
+        "limit",
+        "limit",
+        "target",
+        "4.9999ms",
+        "interval",
+        "5.ms",
+        "memory_limit",
+        "1073741824",
+    ];
+    let plain = plain_words(rt.alloc(), &words).ok().expect(&rt, "memory");
+    assert_eq!(rt; plain.len(), wanted.len());
+    for place in 0..plain.len() {
+        assert_eq!(rt; plain[place].as_str(), wanted[place], "at {place}");
+    }
+}

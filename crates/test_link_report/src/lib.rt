@@ -1,0 +1,10 @@
+//! Tests of the tables of a link, and of what its program reports. The texts of tables were computed by a script of its own
+//! from a list of packets with their fates, without the crates: sorted delays, and the nearest rank by whole numbers.
+#![tactic(auto)]
+
+#[cfg(test)]
+mod faults;
+#[cfg(test)]
+mod journals;
+#[cfg(test)]
+mod tables;

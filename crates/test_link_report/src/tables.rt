@@ -1,0 +1,136 @@
+//! The tables of a journal.
+
+use crate::journals::journal;
+use journal_core::Step;
+use link_report::{flows_text, packets_text, percentile, series_text, steps_text};
+use packet_core::{Ecn, FiveTuple, Ip, Packet};
+use std::process::Abort;
+
+/// The bytes are this text.
+fn are<R: Abort>(rt: &R, bytes: &[u8], wanted: &str) {
+    assert_eq!(rt; str::from_utf8(bytes).ok(), Some(wanted));
+}
+
+/// Delays are those of packets sent alone; both kinds of marks are counted; the rate is that of the whole run.
+#[test]
+fn flows_of_two_tuples(rt: HostRuntime) {
+    let events = journal(&rt);
+    let text = flows_text(rt.alloc(), &events, None)
+        .ok()
+        .expect(&rt, "memory");
+    are(
+        &rt,
+        &text,
+        "queue,tuple,proto,src,dst,sport,dport,flow,packets,bytes,sent,sent_bytes,dropped_codel,\
+dropped_overflow,marked,delay_min,delay_mean,delay_p50,delay_p95,delay_p99,delay_max,rate\n\
+fq_codel,0,6,10.0.0.1,10.0.0.9,5000,443,443,4,2150,2,1050,1,1,0,0,0,0,1,1,1,1680000\n\
+fq_codel,1,17,10.0.0.2,10.0.0.9,6000,53,53,2,500,2,500,0,0,2,500,1000,500,1500,1500,1500,800000\n\
+fq_codel,all,,,,,,,6,2650,4,1550,1,1,2,0,500,1,1500,1500,1500,2480000\n",
+    );
+}
+
+/// Nothing arrived, in either queue: an `all` row for each, with no delay and no rate.
+#[test]
+fn flows_of_nothing(rt: HostRuntime) {
+    let text = flows_text(rt.alloc(), &[], Some(&[]))
+        .ok()
+        .expect(&rt, "memory");
+    are(
+        &rt,
+        &text,
+        "queue,tuple,proto,src,dst,sport,dport,flow,packets,bytes,sent,sent_bytes,dropped_codel,\
+dropped_overflow,marked,delay_min,delay_mean,delay_p50,delay_p95,delay_p99,delay_max,rate\n\
+fq_codel,all,,,,,,,0,0,0,0,0,0,0,,,,,,,\n\
+fifo,all,,,,,,,0,0,0,0,0,0,0,,,,,,,\n",
+    );
+}
+
+/// A row for each packet, of whatever fate.
+#[test]
+fn packets_of_all_fates(rt: HostRuntime) {
+    let events = journal(&rt);
+    let text = packets_text(rt.alloc(), &events, None)
+        .ok()
+        .expect(&rt, "memory");
+    are(
+        &rt,
+        &text,
+        "queue,id,tuple,flow,len,ecn,arrived,fate,at,delay,ecn_sent,mark,place\n\
+fq_codel,0,0,443,1000,2,0,sent,0,0,2,,0\n\
+fq_codel,1,0,443,1000,2,0,codel,999,999,,,\n\
+fq_codel,2,1,53,200,2,500,sent,1000,500,3,codel,1\n\
+fq_codel,3,0,443,100,0,1000,overflow,1500,500,,,\n\
+fq_codel,4,1,53,300,1,2500,sent,4000,1500,3,threshold,2\n\
+fq_codel,5,0,443,50,0,4999,sent,5000,1,0,,3\n",
+    );
+}
+
+/// A bin begins with its first moment, and ends before that of the next one: packet 3 comes at 1000, and packet 5 is sent
+/// at 5000. A bin where a packet only waits has a row too.
+#[test]
+fn series_by_bins(rt: HostRuntime) {
+    let events = journal(&rt);
+    let text = series_text(rt.alloc(), 1_000, &events, Some(&events[..3]))
+        .ok()
+        .expect(&rt, "memory");
+    are(
+        &rt,
+        &text,
+        "queue,from,tuple,packets,bytes,sent,sent_bytes,dropped,marked,delay_mean,delay_max,waiting,waiting_bytes\n\
+fq_codel,0,0,2,2000,1,1000,1,0,0,0,0,0\n\
+fq_codel,0,1,1,200,0,0,0,0,,,1,200\n\
+fq_codel,1000,0,1,100,0,0,1,0,,,0,0\n\
+fq_codel,1000,1,0,0,1,200,0,1,500,500,0,0\n\
+fq_codel,2000,1,1,300,0,0,0,0,,,1,300\n\
+fq_codel,3000,1,0,0,0,0,0,0,,,1,300\n\
+fq_codel,4000,0,1,50,0,0,0,0,,,1,50\n\
+fq_codel,4000,1,0,0,1,300,0,1,1500,1500,0,0\n\
+fq_codel,5000,0,0,0,1,50,0,0,1,1,0,0\n\
+fifo,0,0,2,2000,1,1000,0,0,0,0,1,1000\n",
+    );
+}
+
+/// The nearest rank: of ten delays the 50th percentile is the fifth, the 91st the tenth, and the 0th the first.
+#[test]
+fn nearest_rank(rt: HostRuntime) {
+    let delays = [1, 2, 3, 4, 5, 6, 7, 8, 9, 100];
+    for (percent, wanted) in [
+        (0, 1),
+        (10, 1),
+        (11, 2),
+        (50, 5),
+        (90, 9),
+        (91, 100),
+        (100, 100),
+    ] {
+        assert_eq!(rt; percentile(&delays, percent), wanted, "at {percent}");
+    }
+}
+
+/// A trace with an address of IPv6 begins with its version.
+#[test]
+fn steps_of_ipv6(rt: HostRuntime) {
+    let tuple = FiveTuple {
+        proto: 17,
+        src: Ip::V6([0x20, 1, 0xd, 0xb8, 0, 0, 0, 0, 0, 0, 0, 0, 0, 0, 0, 1]),
+        dst: Ip::V6([0x20, 1, 0xd, 0xb8, 0, 0, 0, 0, 0, 0, 0, 0, 0, 0, 0, 2]),
+        sport: 1,
+        dport: 53,
+    };
+    let steps = [
+        Step::Enqueue {
+            moment: 7,
+            lane: 0,
+            packet: Packet::try_new(tuple, 60, Ecn::Ect1).expect(&rt, "a packet"),
+        },
+        Step::Dequeue { moment: 7 },
+    ];
+    let text = steps_text(rt.alloc(), &steps).ok().expect(&rt, "memory");
+    are(
+        &rt,
+        &text,
+        "version,2\n\
+enq,7,17,20010db8000000000000000000000001,20010db8000000000000000000000002,1,53,60,1\n\
+deq,7\n",
+    );
+}

@@ -1,0 +1,158 @@
+//! The form of pictures: elements that are closed, points within the picture, and what is there for no, one, ten and a
+//! thousand flows.
+
+use crate::journals::Fate::{Lost, Sent};
+use crate::journals::{Given, has_all, journal, picture};
+use std::process::Abort;
+
+/// Each element that is opened is closed, in the reverse order, and no bracket stands alone.
+fn is_balanced<R: Abort + AllocGlobal>(rt: &R, text: &str) -> bool {
+    let mut open: Vec<&str> = Vec::new(rt.alloc());
+    let mut pieces = text.split('<');
+    if pieces.next() != Some("") {
+        return false;
+    }
+    for piece in pieces {
+        let Some((tag, _)) = piece.split_once('>') else {
+            return false;
+        };
+        if let Some(name) = tag.strip_prefix('/') {
+            if open.pop() != Some(name) {
+                return false;
+            }
+        } else if !tag.ends_with('/') {
+            let name = tag.split(' ').next().unwrap_or("");
+            open.push(name).ok().expect(rt, "memory");
+        }
+    }
+    open.is_empty()
+}
+
+/// All points of lines lie in the panels: 80 to 690 pixels from the left, 64 to 758 from above. It answers how many
+/// lines there are.
+fn lines_in_panels<R: Abort>(rt: &R, text: &str) -> usize {
+    let mut lines = 0usize;
+    for part in text.split("points=\"").skip(1) {
+        lines = lines.saturating_add(1);
+        let points = part.split('"').next().unwrap_or("");
+        for point in points.split(' ') {
+            let (x, y) = point.split_once(',').expect(rt, "a point");
+            let x: u64 = x.parse().ok().expect(rt, "a number");
+            let y: u64 = y.parse().ok().expect(rt, "a number");
+            assert!(rt; 80 <= x && x <= 690, "{x}");
+            assert!(rt; 64 <= y && y <= 758, "{y}");
+        }
+    }
+    lines
+}
+
+/// So many flows, each with three packets, of which the second is lost. The waits are 10, 20, 30 .. us.
+fn flows<R: Abort + AllocGlobal>(rt: &R, count: u16) -> Vec<Given> {
+    let mut packets = Vec::new(rt.alloc());
+    for flow in 0..count {
+        let came = u64::from(flow) * 100;
+        let wait = u64::from(flow) * 10 + 10;
+        for given in [
+            Given(came, flow, 1_000, Sent(came + wait)),
+            Given(came, flow, 1_000, Lost(came)),
+            Given(came, flow, 500, Sent(came + 5_000)),
+        ] {
+            packets.push(given).ok().expect(rt, "memory");
+        }
+    }
+    packets
+}
+
+/// Where no packet came there is a title alone.
+#[test]
+fn no_flow(rt: HostRuntime) {
+    let text = picture(&rt, &[], None);
+    assert_eq!(rt;
+        text.as_str(),
+        "<svg xmlns=\"http://www.w3.org/2000/svg\" width=\"1010\" height=\"850\" \
+         viewBox=\"0 0 1010 850\" font-family=\"sans-serif\" font-size=\"12\">\n\
+         <title>fq_codel before a link of 10 Mbit/s: 0 packets</title>\n\
+         <rect width=\"1010\" height=\"850\" fill=\"#fff\"/>\n\
+         <text x=\"80\" y=\"27\" text-anchor=\"start\" font-size=\"16\" font-weight=\"bold\">\
+         fq_codel before a link of 10 Mbit/s: 0 packets</text>\n</svg>\n"
+    );
+    assert!(rt; is_balanced(&rt, &text));
+}
+
+/// One flow has one colour, one tick for its loss, and no dashes without another queue.
+#[test]
+fn one_flow(rt: HostRuntime) {
+    let text = picture(&rt, &journal(&rt, &flows(&rt, 1)), None);
+    assert!(rt; is_balanced(&rt, &text));
+    assert!(rt; lines_in_panels(&rt, &text) > 0);
+    has_all(
+        &rt,
+        &text,
+        &[
+            "<path d=\"M80 786v3\" stroke=\"#0072b2\" stroke-width=\"2\"/>",
+            ">0: udp 10.0.0.1:5000</text>",
+            ">fq_codel: p50 10 us, p99 5.0 ms, 1 lost</text>",
+        ],
+    );
+    assert!(rt; !text.contains("dash"));
+    assert!(rt; !text.contains("#d55e00"));
+}
+
+/// Of ten flows with as many packets the first six have names, and the other four share a line.
+#[test]
+fn ten_flows(rt: HostRuntime) {
+    let events = journal(&rt, &flows(&rt, 10));
+    let text = picture(&rt, &events, Some(&events));
+    assert!(rt; is_balanced(&rt, &text));
+    assert!(rt; lines_in_panels(&rt, &text) >= 14);
+    has_all(
+        &rt,
+        &text,
+        &[
+            ">5: udp 10.0.0.1:5000</text>",
+            ">to 10.0.0.2:5</text>",
+            ">the other 4</text>",
+            "stroke=\"#777777\" stroke-width=\"1.5\" stroke-dasharray=\"5 3\"",
+            "<path d=\"M80 830v3\" stroke=\"#777777\" stroke-width=\"2\"/>",
+            ">fq_codel: p50 100 us, p99 5.0 ms, 4 lost</text>",
+        ],
+    );
+    assert!(rt; !text.contains(">6: udp"));
+}
+
+/// Of a thousand flows the one with most packets has a name, wherever it came. The picture is no longer for that.
+#[test]
+fn thousand_flows(rt: HostRuntime) {
+    let mut packets = flows(&rt, 1_000);
+    let late = Given(99_900, 999, 100, Sent(200_000));
+    packets.push(late).ok().expect(&rt, "memory");
+    let text = picture(&rt, &journal(&rt, &packets), None);
+    assert!(rt; is_balanced(&rt, &text));
+    assert!(rt; lines_in_panels(&rt, &text) > 0);
+    has_all(
+        &rt,
+        &text,
+        &[
+            ">999: udp 10.0.0.1:5000</text>",
+            ">4: udp",
+            ">the other 994</text>",
+        ],
+    );
+    assert!(rt; !text.contains(">5: udp"));
+    assert!(rt; text.len() < 60_000);
+}
+
+/// Times count from the first bin, and the picture says from when that is.
+#[test]
+fn late_start(rt: HostRuntime) {
+    let late = [Given(1_700_000_000_000_900, 1, 100, Sent(1_700_000_000_003_000))];
+    let text = picture(&rt, &journal(&rt, &late), None);
+    has_all(
+        &rt,
+        &text,
+        &[
+            ">Times count from the moment 1700000000000000 us.</text>",
+            ">3000 us</text>",
+        ],
+    );
+}

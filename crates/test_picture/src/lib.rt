@@ -1,0 +1,11 @@
+//! Tests of pictures: where their points lie, worked out by hand from the journals, and the form of their text.
+#![tactic(auto)]
+
+#[cfg(test)]
+mod forms;
+#[cfg(test)]
+mod journals;
+#[cfg(test)]
+mod numbers;
+#[cfg(test)]
+mod worked;

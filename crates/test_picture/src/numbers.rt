@@ -1,0 +1,78 @@
+//! Numbers of pictures, worked out by hand.
+
+use link_picture::{Axis, MAX_BINS, RateScale, WaitScale, octave};
+
+/// Between two powers of two the scale is even: 100 is 36 of 64 steps from 64 to 128, so 6 and 576 in 1,024.
+#[test]
+fn octaves(rt: HostRuntime) {
+    for (value, place) in [
+        (1, 0),
+        (2, 1_024),
+        (3, 1_536),
+        (100, 6_720),
+        (1_000, 10_192),
+        (1_024, 10_240),
+        (u64::MAX, 65_535),
+    ] {
+        assert!(rt; value > 0);
+        assert_eq!(rt; octave(value), place, "of {value}");
+    }
+}
+
+/// 610 bins stay as they are. With one more each is twice as wide. A day has 864 bins of 100 seconds, so they have 200.
+#[test]
+fn widths_of_bins(rt: HostRuntime) {
+    for (every, from, upto, width, first, count) in [
+        (100_000, 0, 60_999_999, 100_000, 0, 610),
+        (100_000, 0, 61_000_000, 200_000, 0, 306),
+        (100_000, 250_000, 270_000, 100_000, 2, 1),
+        (100_000, 0, 86_400_000_000, 200_000_000, 0, 433),
+        (
+            1_000,
+            1_700_000_000_000_000,
+            1_700_000_000_001_999,
+            1_000,
+            1_700_000_000_000,
+            2,
+        ),
+    ] {
+        assert!(rt; from <= upto && upto < u64::MAX);
+        let axis = Axis::of(every, from, upto);
+        assert_eq!(rt; axis.width, width, "from {from} to {upto}");
+        assert_eq!(rt; axis.first, first);
+        assert_eq!(rt; axis.count, count);
+        assert!(rt; axis.count <= MAX_BINS);
+    }
+}
+
+/// Five lines above 0 at most.
+#[test]
+fn scales_of_rates(rt: HostRuntime) {
+    for (most, top, step) in [
+        (0, 1, 1),
+        (5, 5, 1),
+        (6, 6, 2),
+        (10_000_000, 10_000_000, 2_000_000),
+        (12_112_000, 15_000_000, 5_000_000),
+    ] {
+        let scale = RateScale::upto(most);
+        assert_eq!(rt; scale.top, top, "for {most}");
+        assert_eq!(rt; scale.step, step);
+    }
+}
+
+/// Few powers of ten have twice and five times these between them.
+#[test]
+fn marks_of_waits(rt: HostRuntime) {
+    let short = WaitScale::upto(2_592)
+        .marks(rt.alloc())
+        .expect(&rt, "memory");
+    assert_eq!(rt; short.as_slice(), [100, 200, 500, 1_000, 2_000].as_slice());
+    let long = WaitScale::upto(3_000_000)
+        .marks(rt.alloc())
+        .expect(&rt, "memory");
+    assert_eq!(rt;
+        long.as_slice(),
+        [100, 1_000, 10_000, 100_000, 1_000_000].as_slice()
+    );
+}
