@@ -1,4 +1,4 @@
-use Rattle.std.proofs.Common.{ℕ, ◌≡◌, ◌∙◌, ◌<◌, Err, Vec, Global, arith, inl, length, refl, rules, slice_index_or, subst}
+use Rattle.std.proofs.Common.{ℕ, ◌∙◌, ◌<◌, Vec, Global, arith, inl, length, refl, rules, slice_index_or, subst}
 use Rattle.std.proofs.lemmas.Result.{err_from_is_err_and}
 use Rattle.packet_core.specs.Packets.{PacketParts}
 use Rattle.port_core.specs.Devices.{KeepsLanes, rings_of}
@@ -62,5 +62,5 @@ returns-in_err-publish-clause-fault g c =
 
 pub returns-in_err-rows-clause-fault : goal.returns-in_err-rows-clause-fault
 returns-in_err-rows-clause-fault g c =
-    let err : c.from_residual-in_err-rows.result ≡ Err c.in_err-rows.field-0.0 = search rules in
-    rw err (subst (λ n. IsLanesRunFault n c.in_err-rows.field-0.0) (c.in_ok-done.ensures.number ∙ c.requires.lanes.senders_number) c.in_err-rows.ensures.fault)
+    let p = err_from_is_err_and c.from_residual-in_err-rows.result c.from_residual-in_err-rows.ensures.1 in
+    rw (p.1, p.2) (subst (λ n. IsLanesRunFault n c.in_err-rows.field-0.0) (c.in_ok-done.ensures.number ∙ c.requires.lanes.senders_number) c.in_err-rows.ensures.fault)
