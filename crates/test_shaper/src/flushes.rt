@@ -1,6 +1,6 @@
 //! Packets that wait are given back by a flush.
 
-use crate::shapers::{packet, shaper};
+use crate::shapers::{packet, shaper, tag_of};
 use sched_core::Cause;
 use shaper_core::{Dropped, Flushed, Shaper, ShaperTotals};
 use std::process::Abort;
@@ -10,12 +10,15 @@ const NONE: Flushed = Flushed { tag: 999, id: 999 };
 
 /// The packet with that id, whose tag is 100 more.
 fn flushed(id: u64) -> Flushed {
-    Flushed { tag: 100 + id, id }
+    Flushed {
+        tag: tag_of(id),
+        id,
+    }
 }
 
 /// A packet comes to that port, with a tag 100 more than its id.
 fn come<R: Abort>(rt: &R, shaper: &mut Shaper, moment: u64, port: u16, id: u64) {
-    let enqueued = shaper.enqueue(moment, packet(rt, port, 100 + id)).ok();
+    let enqueued = shaper.enqueue(moment, packet(rt, port, tag_of(id))).ok();
     assert!(rt; enqueued.expect(rt, "an accepted packet").id == id);
 }
 

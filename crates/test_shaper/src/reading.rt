@@ -1,6 +1,6 @@
 //! Drops that are read several at once.
 
-use crate::shapers::{packet, shaper_of};
+use crate::shapers::{packet, shaper_of, tag_of};
 use sched_core::Cause;
 use shaper_core::{Dropped, Shaper};
 use std::process::Abort;
@@ -15,7 +15,7 @@ const NONE: Dropped = Dropped {
 /// The drop of the packet with that id, whose tag is 100 more.
 fn overflowed(id: u64) -> Dropped {
     Dropped {
-        tag: 100 + id,
+        tag: tag_of(id),
         id,
         cause: Cause::Overflow,
     }
@@ -24,7 +24,7 @@ fn overflowed(id: u64) -> Dropped {
 /// Twelve packets of one flow may wait. The thirteenth drops six: half of the flow's packets, rounded down.
 fn drop_six<R: Abort>(rt: &R, shaper: &mut Shaper) {
     for id in 0..13 {
-        let enqueued = shaper.enqueue(5, packet(rt, 1, 100 + id)).ok();
+        let enqueued = shaper.enqueue(5, packet(rt, 1, tag_of(id))).ok();
         let drops = enqueued.expect(rt, "an accepted packet").drops;
         assert!(rt; drops == if id == 12 { 6 } else { 0 });
     }

@@ -1,13 +1,13 @@
 //! A shaper goes on with a scheduler as new after a number of packets.
 
-use crate::shapers::{packet, shaper_renewed_after};
+use crate::shapers::{credits_of, packet, shaper_renewed_after, tag_of};
 use sched_core::{MomentFault, Refusal};
 use shaper_core::{Dropped, EnqueueFault, Flushed, RENEW_AFTER, Shaper};
 use std::process::Abort;
 
 /// A packet comes to that port, with a tag 100 more than its id.
 fn come<R: Abort>(rt: &R, shaper: &mut Shaper, moment: u64, port: u16, id: u64) {
-    let enqueued = shaper.enqueue(moment, packet(rt, port, 100 + id)).ok();
+    let enqueued = shaper.enqueue(moment, packet(rt, port, tag_of(id))).ok();
     assert!(rt; enqueued.expect(rt, "an accepted packet").id == id);
 }
 
@@ -15,7 +15,7 @@ fn come<R: Abort>(rt: &R, shaper: &mut Shaper, moment: u64, port: u16, id: u64) 
 fn send<R: Abort>(rt: &R, shaper: &mut Shaper, moment: u64, id: u64) {
     let dequeued = shaper.dequeue(moment).ok().expect(rt, "a dequeue");
     let sent = dequeued.sent.expect(rt, "a packet");
-    assert!(rt; sent.id == id && sent.packet.tag() == 100 + id && sent.moment == moment);
+    assert!(rt; sent.id == id && sent.packet.tag() == tag_of(id) && sent.moment == moment);
 }
 
 /// Two packets of flow 2 are sent, and one of flow 1 is flushed. Flow 2 had two quanta of 1,514 bytes, and sent 2,000.
@@ -27,7 +27,7 @@ fn pass_three<R: Abort>(rt: &R, shaper: &mut Shaper) {
     send(rt, shaper, 4, 1);
     let mut out = [Flushed { tag: 0, id: 0 }];
     assert!(rt; shaper.flush(&mut out) == 1 && out[0] == Flushed { tag: 102, id: 2 });
-    assert!(rt; shaper.queued() == 0 && shaper.flow_view(2).credits == 1_028);
+    assert!(rt; shaper.queued() == 0 && credits_of(rt, shaper, 2) == 1_028);
 }
 
 /// The next packet comes to a scheduler as new, whose flow 2 has no credits. A moment before the last one is refused
@@ -37,9 +37,9 @@ fn renew_once<R: Abort>(rt: &R, shaper: &mut Shaper) {
     let before = MomentFault::Backwards { last: 4 };
     let refused = EnqueueFault::Refused(Refusal::Moment(before));
     assert!(rt; shaper.enqueue(3, packet(rt, 1, 103)) == Err(refused));
-    assert!(rt; shaper.flow_view(2).credits == 1_028);
+    assert!(rt; credits_of(rt, shaper, 2) == 1_028);
     come(rt, shaper, 4, 1, 3);
-    assert!(rt; shaper.flow_view(2).credits == 0 && shaper.flow_view(1).len == 1);
+    assert!(rt; credits_of(rt, shaper, 2) == 0 && shaper.queued() == 1);
     assert!(rt; shaper.dequeue(3) == Err(before) && shaper.last_moment() == 4);
     send(rt, shaper, 5, 3);
     let totals = shaper.totals();
@@ -60,7 +60,7 @@ fn renewed_late_unless_asked_for(rt: HostRuntime) {
     let mut shaper = shaper_renewed_after(&rt, 4, RENEW_AFTER);
     pass_three(&rt, &mut shaper);
     come(&rt, &mut shaper, 4, 1, 3);
-    assert!(rt; shaper.flow_view(2).credits == 1_028);
+    assert!(rt; credits_of(&rt, &shaper, 2) == 1_028);
 }
 
 /// No renewal while a packet waits, and none while a drop is unread, since then no packet is accepted. Drops have their
@@ -73,7 +73,7 @@ fn drop_after_renewal<R: Abort>(rt: &R, shaper: &mut Shaper) {
         assert!(rt; refused == Err(EnqueueFault::Unread));
         let dropped = shaper.next_drop().expect(rt, "a drop");
         let Dropped { tag, id, .. } = dropped;
-        assert!(rt; id == 2 * round && tag == 100 + id && shaper.unread() == 0);
+        assert!(rt; id == 2 * round && tag == tag_of(id) && shaper.unread() == 0);
         send(rt, shaper, round, 2 * round + 1);
     }
     let totals = shaper.totals();
@@ -93,5 +93,5 @@ fn closed_shaper_stays_closed(rt: HostRuntime) {
     assert!(rt; shaper.close(4) == Ok(()));
     let refused = shaper.enqueue(5, packet(&rt, 1, 103));
     assert!(rt; refused == Err(EnqueueFault::Refused(Refusal::ClosedAlready)));
-    assert!(rt; shaper.is_closed() && shaper.flow_view(2).credits == 1_028);
+    assert!(rt; shaper.is_closed() && credits_of(&rt, &shaper, 2) == 1_028);
 }

@@ -36,6 +36,17 @@ fn params<R: Abort>(rt: &R, limit: u32, batch: u32) -> Params {
     Params::try_new(fields).ok().expect(rt, "parameters")
 }
 
+/// The tag of the packet with that id: 100 more.
+pub(crate) fn tag_of(id: u64) -> u64 {
+    id.saturating_add(100)
+}
+
+/// The credits of a flow.
+pub(crate) fn credits_of<R: Abort>(rt: &R, shaper: &Shaper, flow: u32) -> i64 {
+    assert!(rt; flow < shaper.params().flows());
+    shaper.flow_view(flow).credits
+}
+
 /// A packet of 1,000 bytes to that destination port, with that tag.
 pub(crate) fn packet<R: Abort>(rt: &R, dport: u16, tag: u64) -> Packet {
     let packet = Packet::try_new(tuple(dport), 1_000, Ecn::NotEct);
