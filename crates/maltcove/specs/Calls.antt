@@ -1,5 +1,5 @@
 -- What the calls from C do with the shaper behind a handle.
-use Rattle.std.specs.Prelude.{◌≡◌, ◌≢◌, ◌⊎◌, ℕ, ℤ, List, length, map, Some, None}
+use Rattle.std.specs.Prelude.{◌≡◌, ◌≢◌, ◌%◌, ◌⊎◌, ℕ, ℤ, List, length, map, Some, None}
 use Rattle.std.specs.declared.option.Option.{Option}
 use Rattle.std.specs.declared.option.Option.TheVariants as option
 use Rattle.packet_core.specs.Packets.{PacketParts}
@@ -20,7 +20,7 @@ use Rattle.shaper_core.specs.declared.answers.EnqueueFault.{EnqueueFault}
 use Rattle.shaper_core.specs.declared.answers.Enqueued.{Enqueued}
 use Rattle.shaper_core.specs.declared.answers.Handle.{Handle}
 use Rattle.shaper_core.specs.declared.shaper.TheConstants.{RENEW_AFTER}
-use Rattle.maltcove.specs.Records.{admitted_told, dropped_told, flushed_told, idle_told, nothing_told, sent_told}
+use Rattle.maltcove.specs.Records.{SaysInFlow, admitted_told, dropped_told, flushed_told, idle_told, nothing_told, sent_told}
 use Rattle.maltcove.specs.Statuses.{close_code, enqueue_code, moment_code}
 use Rattle.maltcove.specs.Texts.{IsWrong, SaysParams}
 use Rattle.maltcove.specs.declared.records.MaltcoveAdmitted.{MaltcoveAdmitted}
@@ -28,7 +28,7 @@ use Rattle.maltcove.specs.declared.records.MaltcoveDropped.{MaltcoveDropped}
 use Rattle.maltcove.specs.declared.records.MaltcoveFault.{MaltcoveFault}
 use Rattle.maltcove.specs.declared.records.MaltcoveFlushed.{MaltcoveFlushed}
 use Rattle.maltcove.specs.declared.records.MaltcoveSent.{MaltcoveSent}
-use Rattle.maltcove.specs.declared.status.TheConstants.{BAD_SEED, BAD_WORDS, MEMORY}
+use Rattle.maltcove.specs.declared.status.TheConstants.{BAD_PACKET, BAD_SEED, BAD_WORDS, MEMORY}
 
 -- Both times there is a shaper behind the handle, and the two are in that relation.
 abbrev pub Behind : (Shaping → Shaping → Type 0) → Option Shaping → Option Shaping → Type 0
@@ -53,6 +53,15 @@ pub record RefusesEnqueue (old : Shaping) (moment : ℕ) (packet : PacketParts) 
   pub fault : EnqueueFault
   pub is_fault : IsFault (refusal_of old.sched.standing.state (Enqueue moment 0 packet)) fault
   pub code : answer ≡ enqueue_code fault
+
+-- An enqueue to a flow of the caller's is refused: no packet is what the caller says, or the packet that it says is
+-- refused.
+abbrev pub RefusesInFlow : Shaping → ℕ → ℕ → ℕ → ℕ → ℕ → ℤ → Type 0
+RefusesInFlow old moment flow len ecn tag answer =
+    ((answer ≡ BAD_PACKET)
+    × ((packet : PacketParts) → ¬ SaysInFlow (flow % old.sched.params.flows) len ecn tag packet))
+    ⊎ ((packet : PacketParts) × SaysInFlow (flow % old.sched.params.flows) len ecn tag packet
+    × RefusesEnqueue old moment packet answer)
 
 -- A dequeue is made that sends a packet, and C reads what is said of it.
 pub record Sends (old : Shaping) (moment : ℕ) (out : MaltcoveSent) (new : Shaping) : Type 0 where

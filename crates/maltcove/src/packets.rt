@@ -3,7 +3,7 @@
 ghost use Rattle.std.specs.Prelude.{◌≡◌, ◌≢◌, ◌⊎◌, ◌↔◌, ◌<◌, ◌%◌, None};
 ghost use Rattle.packet_core.specs.Packets.{PacketParts};
 ghost use Rattle.packet_core.specs.declared.params.Classify.TheVariants.{Dport, Hash};
-ghost use Rattle.maltcove.specs.Calls.{Admits, Behind, IfBehind, Idles, RefusesDequeue, RefusesEnqueue, Sends};
+ghost use Rattle.maltcove.specs.Calls.{Admits, Behind, IfBehind, Idles, RefusesDequeue, RefusesEnqueue, RefusesInFlow, Sends};
 ghost use Rattle.maltcove.specs.Records.{Says, SaysInFlow};
 ghost use Rattle.maltcove.specs.declared.status.TheConstants.{BAD_PACKET, HASHED, IDLE, NOT_OPEN, OK};
 
@@ -116,6 +116,7 @@ fn accept_in_flow(
         → (packet : PacketParts) × SaysInFlow (flow % shaper.old.sched.params.flows) len ecn tag packet
         × Admits shaper.old moment packet out.new shaper.new }
     ensures hashed { (result ≡ HASHED) ↔ (shaper.old.sched.params.classify ≡ Hash) }
+    ensures refused { result ≢ OK → result ≢ HASHED → RefusesInFlow shaper.old moment flow len ecn tag result }
     ensures unchanged { result ≢ OK → (shaper.new ≡ shaper.old) × (out.new ≡ out.old) }
     ensures open { result ≢ NOT_OPEN }
 {
@@ -145,6 +146,8 @@ pub extern "C" fn maltcove_raw_enqueue_flow(
         (λ a b. (p : PacketParts) × SaysInFlow (flow % a.sched.params.flows) len ecn tag p × Admits a moment p out.new b)
         m.old.handle.value m.new.handle.value }
     ensures hashed { IfBehind (λ a. (result ≡ HASHED) ↔ (a.sched.params.classify ≡ Hash)) m.old.handle.value }
+    ensures refused { result ≢ OK → result ≢ HASHED
+        → IfBehind (λ a. RefusesInFlow a moment flow len ecn tag result) m.old.handle.value }
     ensures unchanged { result ≢ OK → (m.new.handle.value ≡ m.old.handle.value) × (out.new ≡ out.old) }
 {
     let Some(mut shaper) = take(alloc, m) else {
