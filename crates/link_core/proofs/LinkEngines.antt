@@ -1,5 +1,5 @@
 -- A link's next step: what a dequeue gives, and what an arrival brings.
-use Rattle.std.proofs.Common.{◌≡◌, ℕ, zero, suc, ◌+◌, ◌-◌, ◌*◌, ◌<◌, ◌≤◌, All, List, [], ◌∷◌, ◌++◌, length, get_or, take, drop, add-one, length-drop, Option, Some, None, IfSome, IfOk, Result, Ok, Err, false, refl, sym, ap, subst, ◌∙◌, arith}
+use Rattle.std.proofs.Common.{◌≡◌, ℕ, zero, suc, ◌+◌, ◌-◌, ◌*◌, ◌<◌, ◌≤◌, All, List, [], ◌∷◌, ◌++◌, length, get_or, slice_get, take, drop, add-one, length-drop, Option, Some, None, IfSome, IfOk, Result, Ok, Err, false, refl, sym, ap, subst, ◌∙◌, arith}
 use Rattle.std.specs.List.{filter_map}
 use Rattle.std.proofs.lemmas.List.{get_or-map, take_all}
 use Rattle.std.proofs.lemmas.List.Elements.{All-nil}
@@ -223,6 +223,12 @@ drop_next (suc i) (x ∷ xs) = drop_next i xs
 
 pub next_of : {X : Type 0} (xs : List X) (i : ℕ) → drop 1 (take (length xs - i) (drop i xs)) ≡ drop (i + 1) xs
 next_of xs i = rw (rest_of xs i, add-one) (drop_next i xs)
+
+-- what holds of the element at a place holds of the first one from there on
+pub first_from : {X : Type 0} (P : X → Type 0) (xs : List X) (i : ℕ) (d : X) → i < length xs → P (get_or xs i d) → IfSome (slice_get (drop i xs) 0) P
+first_from P [] i d within its = absurd (omega arith)
+first_from P (y ∷ xs) zero d within its = its
+first_from P (y ∷ xs) (suc i) d within its = first_from P xs i d (omega arith) its
 
 -- none is left past the end
 pub none_left : {X : Type 0} (xs : List X) (i : ℕ) → length xs ≤ i → drop i xs ≡ []

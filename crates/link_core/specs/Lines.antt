@@ -41,6 +41,10 @@ pub record KeepsLine (old new : Line) : Type 0 where
 abbrev pub waiting_next : Line → Arrival → Waiting
 waiting_next l a = record { id = l.arrived; stamp = a.moment; packet = a.packet }
 
+-- the number of the flow that these parameters and this seed choose for the packet
+pub record HasFlow (p : ParamFields) (seed : Seed) (flow : ℕ) (a : Arrival) : Type 0 where
+  pub value : flow ≡ flow_number p.classify p.flows seed a.packet.tuple
+
 -- The packet came in.
 pub record HasTakenIn (old : Line) (a : Arrival) (new : Line) : Type 0 where
   pub lost : List Waiting

@@ -9,6 +9,7 @@ use crate::line::Line;
 use crate::link::Link;
 use journal_core::{Event, Memory};
 use packet_core::{Params, Seed};
+use sched_core::FlowChooser;
 use std::alloc::Global;
 
 /// The journal of the same link with a plain queue in place of FQ-CoDel: first in, first out, and a packet is dropped
@@ -25,10 +26,13 @@ pub fn run_fifo(
     requires { AreArrivals arrivals.now }
     ensures { IfOk result (λ events. IsFifoJournal params seed link.now arrivals.now events.items) }
 {
+    // It remembers five-tuples, since a digest takes more time than all else that is done for a packet.
+    let mut chooser = FlowChooser::try_new(alloc, params, seed)?;
     let mut line = Line::new(alloc, params, seed);
     let mut busy = None;
     for i in 0..arrivals.len() {
-        busy = line.meet_next(link, arrivals, busy, &arrivals[i..])?;
+        let flow = chooser.flow_of(&arrivals[i].packet);
+        busy = line.meet_next(link, arrivals, busy, &arrivals[i..], flow)?;
     }
     line.ask_before(link, arrivals, busy, &[])?;
     Ok(line.events)

@@ -1,13 +1,13 @@
 //! A plain queue, with what became of each packet.
 
-ghost use Rattle.std.specs.Prelude.{◌<◌, ◌≤◌, ◌^◌, All, IfOk, IfSome, OnOk, length, drop};
+ghost use Rattle.std.specs.Prelude.{◌<◌, ◌≤◌, ◌^◌, All, IfOk, IfSome, OnOk, length, drop, slice_get};
 
 use crate::arrival::{Arrival, MAX_ARRIVALS};
 use crate::free_at::FreeAt;
 use crate::link::Link;
 use codel_core::Mark;
 use journal_core::{Cause, Event, Memory};
-use packet_core::{Params, Seed, Waiting, flow_of};
+use packet_core::{Params, Seed, Waiting};
 use std::alloc::Global;
 use std::collections::VecDeque;
 
@@ -22,7 +22,7 @@ pub(crate) struct Line {
 }
 
 impl Line {
-    ghost use Rattle.link_core.specs.Lines.{HasGiven, HasTakenIn, IsNewLine, IsOnFifo, KeepsLine};
+    ghost use Rattle.link_core.specs.Lines.{HasFlow, HasGiven, HasTakenIn, IsNewLine, IsOnFifo, KeepsLine};
     ghost use Rattle.link_core.specs.Underway.{ComesBy};
 
     /// An empty queue.
@@ -38,23 +38,26 @@ impl Line {
         }
     }
 
-    /// The link asks for packets until the next one comes, takes that in, and asks for one at once where it is idle.
+    /// The link asks for packets until the next one comes, whose flow is handed in, takes that in, and asks for one at
+    /// once where it is idle.
     pub(crate) fn meet_next(
         &mut self,
         link: &Link,
         arrivals: &[Arrival],
         busy: Option<FreeAt>,
         coming: &[Arrival],
+        flow: u32,
     ) -> Result<Option<FreeAt>, Memory>
         requires few { length arrivals.now ≤ MAX_ARRIVALS }
         requires on_link { IsOnFifo link.now arrivals.now self.old busy coming.now }
         requires some { 0 < length coming.now }
+        requires flow { IfSome (slice_get coming.now 0) (HasFlow self.old.params self.old.seed flow) }
         ensures on_link { IfOk result (λ left. IsOnFifo link.now arrivals.now self.new left (drop 1 coming.now)) }
         ensures kept { OnOk result (KeepsLine self.old self.new) }
     {
         let left = self.ask_before(link, arrivals, busy, coming)?;
         let next = &coming[0];
-        self.take_in(next)?;
+        self.take_in(next, flow)?;
         match left {
             Some(free) => Ok(Some(free)),
             None => self.ask(link, arrivals, FreeAt::at(next.moment)),
@@ -85,9 +88,10 @@ impl Line {
         Ok(None)
     }
 
-    /// The packet comes in, by lane 0, and is dropped where as many wait as may.
-    fn take_in(&mut self, arrival: &Arrival) -> Result<(), Memory>
-        requires { self.old.arrived < 2 ^ 40 }
+    /// The packet of that flow comes in, by lane 0, and is dropped where as many wait as may.
+    fn take_in(&mut self, arrival: &Arrival, flow: u32) -> Result<(), Memory>
+        requires few { self.old.arrived < 2 ^ 40 }
+        requires flow { HasFlow self.old.params self.old.seed flow arrival.now }
         ensures { OnOk result (HasTakenIn self.old arrival.now self.new) }
     {
         let id = self.arrived;
@@ -95,7 +99,7 @@ impl Line {
             lane: 0,
             id,
             moment: arrival.moment,
-            flow: flow_of(&self.params, &self.seed, &arrival.packet.tuple()),
+            flow,
             packet: arrival.packet,
         })?;
         self.arrived += 1;

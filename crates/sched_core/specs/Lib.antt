@@ -4,6 +4,7 @@ pub mod LastSteps
 pub mod Hashing
 pub mod FlowNumbers
 pub mod Classifiers
+pub mod Choosing
 pub mod Spares
 pub mod Kept
 pub mod Engines

@@ -1,6 +1,7 @@
 //! The choice of a packet's flow, by one scheduler's parameters and seed.
 
 ghost use Rattle.std.specs.Prelude.{◌≡◌, ◌%◌, ◌<◌, IfOk};
+ghost use Rattle.packet_core.specs.FlowNumber.{flow_number};
 
 use crate::flow_numbers::FlowNumbers;
 use journal_core::Memory;
@@ -84,5 +85,50 @@ impl Classifier {
             Classifier::Port(flows) => flows.flow_of(packet.dport()),
             Classifier::Hash(numbers) => numbers.flow_of(&packet.tuple()),
         }
+    }
+}
+
+/// The choice of packets' flows by parameters and a seed, as a scheduler with the same parameters and seed makes it. By
+/// the hash it remembers five-tuples that came before: only one that isn't remembered takes a digest. All memory is taken
+/// by `try_new`.
+#[derive(Debug, Drop)]
+pub struct FlowChooser {
+    params: Params,
+    seed: Seed,
+    classifier: Classifier,
+}
+
+impl Model for FlowChooser {
+    ghost use Rattle.std.specs.Prelude.{◌≡◌};
+    ghost use Rattle.sched_core.specs.Choosing.{Choosing};
+    ghost use Rattle.sched_core.specs.Classifiers.{classifier_by};
+
+    ghost Value = { Choosing };
+
+    ghost view = { λ c. record { params = c.params; seed = c.seed } };
+
+    ghost invariant = { λ c. c.classifier ≡ classifier_by c.params.classify c.params.flows c.seed };
+}
+
+impl FlowChooser {
+    /// The choice by those parameters and that seed. It fails for want of memory alone.
+    pub fn try_new(alloc: Global, params: Params, seed: Seed) -> Result<FlowChooser, Memory>
+        ensures { IfOk result (λ chooser. chooser ≡ record { params = params; seed = seed }) }
+    {
+        let classifier = Classifier::try_new(alloc, &params, seed)?;
+        Ok(FlowChooser {
+            params,
+            seed,
+            classifier,
+        })
+    }
+
+    /// The number of a packet's flow, below the number of flows (RFC 8290, section 4.1).
+    pub fn flow_of(&mut self, packet: &Packet) -> u32
+        ensures value { result
+            ≡ flow_number self.old.params.classify self.old.params.flows self.old.seed packet.now.tuple }
+        ensures kept { self.new ≡ self.old }
+    {
+        self.classifier.flow_of(packet)
     }
 }

@@ -10,6 +10,7 @@ mod run;
 mod sched;
 mod spare;
 
+pub use classifier::FlowChooser;
 pub use codel_core::Mark;
 pub use engine::Engine;
 pub use fair_core::FlowView;

@@ -11,7 +11,7 @@ returns-in_ok-push-2 c =
     record {
       lost = waiting_next c.args.self.now c.args.arrival.now ∷ [];
       takes = inr (full, refl, refl);
-      journal = rw (second.items, first.items, append_assoc, c.flow_of.ensures.value, c.tuple.ensures) (refl {A = List Event});
+      journal = rw (second.items, first.items, append_assoc, c.requires.flow.value) (refl {A = List Event});
       arrived = refl;
       kept = record { params = refl; seed = refl };
     }
