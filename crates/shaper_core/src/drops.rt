@@ -73,6 +73,11 @@ impl Drops {
         *self.losses.allocator()
     }
 
+    /// How many losses are kept.
+    pub(crate) fn kept(&self) -> u64 {
+        self.losses.len() as u64
+    }
+
     /// The drop that stands at that place from the end: the last one has 1.
     pub(crate) fn dropped(&self, back: usize) -> Dropped
         requires some { 0 < back }

@@ -51,6 +51,8 @@ pub struct Shaper {
     past: ShaperTotals,
     renew_after: u64,
     packets: Life,
+    // How many enqueues the scheduler has memory for, as far as is known. So it is asked for more once in many enqueues.
+    ahead: u64,
 }
 
 impl Model for Shaper {
@@ -65,6 +67,7 @@ impl Model for Shaper {
 }
 
 /// What holds of each scheduler.
+#[inline(always)]
 fn has_laws(sched: &Sched<Drops>)
     ensures laws { IsLawful sched.now }
     ensures ids { sched.now.standing.state.next_id ≤ MAX_ACCEPTED }
@@ -77,6 +80,7 @@ fn has_laws(sched: &Sched<Drops>)
 }
 
 /// Each packet that was dropped is told with its cause.
+#[inline(always)]
 fn drops_have_causes(sched: &Sched<Drops>)
     ensures { length (lost_packets sched.now.standing.events) ≡ length (causes_of sched.now.standing.events) }
 {
@@ -84,6 +88,7 @@ fn drops_have_causes(sched: &Sched<Drops>)
 }
 
 /// How many packets were dropped.
+#[inline(always)]
 fn count_drops(sched: &Sched<Drops>) -> u64
     ensures lost { result ≡ length (lost_packets sched.now.standing.events) }
     ensures causes { result ≡ length (causes_of sched.now.standing.events) }
@@ -102,7 +107,37 @@ fn open_sched(alloc: Global, params: Params, seed: Seed) -> Result<Sched<Drops>,
     Ok(sched)
 }
 
+/// An enqueue was made, before which the scheduler had memory for so many. It says for how many there is memory now.
+#[inline(always)]
+fn keep_ahead(sched: &mut Sched<Drops>, ahead: u64) -> u64
+    ensures rest { sched.new ≡ record sched.old { room = sched.new.room } }
+    ensures room { sched.old.room ≤ sched.new.room }
+{
+    if ahead > 1 {
+        return ahead - 1;
+    }
+    take_ahead(sched)
+}
+
+/// Reserves as many enqueues as packets may come before as many wait as may, but for drops that the keeper has. There is
+/// memory for all of these since the shaper was opened, so none is taken. It says how many they are.
+// Kept out of an enqueue: few come here.
+#[inline(never)]
+fn take_ahead(sched: &mut Sched<Drops>) -> u64
+    ensures rest { sched.new ≡ record sched.old { room = sched.new.room } }
+    ensures room { sched.old.room ≤ sched.new.room }
+{
+    let most = u64::from(sched.params().limit()) + 1;
+    let used = sched.queued().saturating_add(sched.keeper().kept());
+    let enqueues = most.saturating_sub(used).max(1);
+    match sched.reserve(enqueues) {
+        Ok(()) => enqueues,
+        Err(_) => 0,
+    }
+}
+
 /// What a dequeue answers of the packet that the scheduler gives: it has its id over all renewals.
+#[inline(always)]
 fn give(sent: Option<Sent>, before: u64, packets: &mut Life) -> Option<Sent>
     requires { IfSome sent (λ s. before + s.id < 2 ^ 64) }
     ensures told { result ≡ option_map (renumbered before) sent }
@@ -167,6 +202,7 @@ impl Shaper {
     {
         let sched = open_sched(alloc, params, seed)?;
         Ok(Shaper {
+            ahead: u64::from(params.limit()) + 1,
             sched,
             unread: 0,
             aside: Aside::none(),
@@ -179,6 +215,7 @@ impl Shaper {
     /// Accepts a packet at a moment, in microseconds, into the queue of its flow, as the scheduler does, and says how
     /// many packets were dropped for it. It refuses while a drop of an earlier call wasn't read, then where the
     /// scheduler refuses the step. Where a renewal is due, it goes on with a scheduler as new first.
+    #[inline(always)]
     pub fn enqueue(&mut self, moment: u64, packet: Packet) -> Result<Enqueued, EnqueueFault>
         ensures made { IfOk result (λ said. IsEnqueued self.old moment packet said self.new) }
         ensures id { IfOk result (λ said. said.id ≡ length self.old.packets.accepted) }
@@ -195,6 +232,7 @@ impl Shaper {
     }
 
     /// The same where each drop was read.
+    #[inline(always)]
     fn admit(&mut self, moment: u64, packet: Packet) -> Result<Enqueued, Refusal>
         requires { self.old.unread ≡ 0 }
         ensures made { IfOk result (λ said. IsEnqueued self.old moment packet said self.new) }
@@ -211,6 +249,7 @@ impl Shaper {
     }
 
     /// Whether the shaper is to be renewed before a packet that comes at that moment.
+    #[inline(always)]
     fn is_due(&self, moment: u64) -> bool
         requires { self.now.unread ≡ 0 }
         ensures due { IsTrue result → IsDue self.now }
@@ -240,6 +279,7 @@ impl Shaper {
         };
         self.past = totals;
         self.aside = Aside::none();
+        self.ahead = u64::from(params.limit()) + 1;
         self.sched = sched;
     }
 
@@ -262,6 +302,7 @@ impl Shaper {
     }
 
     /// Accepts a packet, as the scheduler does.
+    #[inline(always)]
     fn accept(&mut self, moment: u64, packet: Packet) -> Result<Enqueued, Refusal>
         requires { self.old.unread ≡ 0 }
         ensures made { IfOk result (λ said. IsAccepted self.old moment packet said self.new) }
@@ -274,8 +315,7 @@ impl Shaper {
         has_laws(&self.sched);
         let before = count_drops(&self.sched);
         let admitted = self.sched.enqueue(moment, 0, packet)?;
-        // Room for one packet more is there: fewer wait than there was memory taken for. If not, the next one sees.
-        let _ = self.sched.reserve(1);
+        self.ahead = keep_ahead(&mut self.sched, self.ahead);
         has_laws(&self.sched);
         self.unread = count_drops(&self.sched) - before;
         let id = self.past.accepted + admitted.id;
@@ -294,6 +334,7 @@ impl Shaper {
     /// does, and says how many packets CoDel dropped before it. The packet has the tag that it was handed in with. It
     /// takes no memory, and may be called while drops weren't read. It refuses a moment of 2^60 or more or before the
     /// last one.
+    #[inline(always)]
     pub fn dequeue(&mut self, moment: u64) -> Result<Dequeued, MomentFault>
         ensures made { IfOk result (λ said. IsDequeued self.old moment said self.new) }
         ensures refused { IfErr result (λ fault.

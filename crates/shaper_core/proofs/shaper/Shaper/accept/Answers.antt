@@ -6,15 +6,15 @@ use Rattle.shaper_core.specs.declared.answers.Enqueued.{Enqueued}
 use Rattle.shaper_core.specs.ShaperKept.{shaping_of}
 use Rattle.shaper_core.specs.Shapers.{IsAccepted, Shaping}
 use Rattle.shaper_core.proofs.ShapedSteps.{accept_shaped}
-use Rattle.shaper_core.proofs.ShaperSteps.{advanced_with_room, room_stays}
+use Rattle.shaper_core.proofs.ShaperSteps.{advanced_with_room}
 use Rattle.shaper_core.proofs.StepDrops.{enqueue_settles}
 use Rattle.shaper_core.proofs.shaper.Shaper.accept.Goals as goal
 
 pub overflow_sub-self : goal.overflow_sub-self
 overflow_sub-self c =
     let old : Scheduler = c.self.inside.sched in
-    let made = advanced_with_room c.in_ok-admitted.ensures.made c.reserve.ensures.rest in
-    let settles = enqueue_settles (discipline_of old) old.standing c.reserve.new.self.standing c.args.moment 0 c.args.packet made.advances in
+    let made = advanced_with_room c.in_ok-admitted.ensures.made c.keep_ahead-self-inside.ensures.rest in
+    let settles = enqueue_settles (discipline_of old) old.standing c.keep_ahead-self-inside.new.sched.standing c.args.moment 0 c.args.packet made.advances in
     omega (arith, settles.more, c.count_drops.ensures.causes, c.count_drops-before.ensures.causes)
 
 pub overflow_add-id : goal.overflow_add-id
@@ -25,7 +25,7 @@ overflow_add-id c =
 
 abbrev new_of : goal.After-accept → Shaping
 new_of c = record {
-  sched = c.reserve.new.self;
+  sched = c.keep_ahead-self-inside.new.sched;
   unread = c.count_drops.result - c.count_drops-before.result;
   aside = c.self.inside.aside;
   past = c.self.inside.past;
@@ -43,8 +43,8 @@ said_of c = record {
 made_of : (c : goal.After-accept) → c.self.inside.unread ≡ 0 → IsAccepted (shaping_of c.self.inside) c.args.moment c.args.packet (said_of c) (new_of c)
 made_of c read =
     let old : Scheduler = c.self.inside.sched in
-    let new : Scheduler = c.reserve.new.self in
-    let made = advanced_with_room c.in_ok-admitted.ensures.made c.reserve.ensures.rest in
+    let new : Scheduler = c.keep_ahead-self-inside.new.sched in
+    let made = advanced_with_room c.in_ok-admitted.ensures.made c.keep_ahead-self-inside.ensures.rest in
     let settles = enqueue_settles (discipline_of old) old.standing new.standing c.args.moment 0 c.args.packet made.advances in
     let id = ap (λ (a : Admitted). a.id) c.in_ok-admitted.ensures.admitted in
     record {
@@ -54,7 +54,7 @@ made_of c read =
       read = read;
       unread = refl;
       drops = omega (arith, settles.more, c.count_drops.ensures.lost, c.count_drops-before.ensures.lost, c.count_drops.ensures.causes, c.count_drops-before.ensures.causes);
-      room = omega (arith, c.in_ok-admitted.ensures.room, room_stays c.reserve.result c.enqueue.new.self new c.reserve.ensures.ok c.reserve.ensures.err);
+      room = omega (arith, c.in_ok-admitted.ensures.room, c.keep_ahead-self-inside.ensures.room);
       rest = λ i. record (shaping_of c.self.inside) {
         sched = new;
         unread = c.count_drops.result - c.count_drops-before.result;

@@ -11,7 +11,7 @@ invariant_of-self c =
     let due : IsDue old = subst IsDue (sym c.self.view_is) c.requires in
     let total : c.totals-totals.result ≡ totals_of old = c.totals-totals.ensures.value ∙ ap totals_of (sym c.self.view_is) in
     let balance = subst (λ (t : ShaperTotals). t.accepted ≡ t.sent + t.dropped_codel + t.dropped_overflow + t.flushed + t.queued) total c.totals-totals.ensures.balance in
-    let sched : c.in-Ok.sched ≡ open_scheduler old.sched.params old.sched.seed = c.in-Ok.ensures ∙ (λ i. open_scheduler (c.params-params.ensures i) (c.seed.ensures i)) in
+    let sched : c.in-Ok.sched ≡ open_scheduler old.sched.params old.sched.seed = c.in-Ok.ensures ∙ (λ i. open_scheduler (c.params.ensures i) (c.seed.ensures i)) in
     subst IsShaped (λ i. record old { sched = sym sched i; aside = sym c.none-self-inside.ensures i; past = sym total i })
     (renewed_shaped old due c.self.invariant balance (c.has_laws.ensures.queued ∙ due.idle))
 
@@ -19,5 +19,5 @@ pub returns : goal.returns
 returns c =
     let old = shaping_of c.self.inside in
     let total : c.totals-totals.result ≡ totals_of old = c.totals-totals.ensures.value ∙ ap totals_of (sym c.self.view_is) in
-    let sched : c.in-Ok.sched ≡ open_scheduler old.sched.params old.sched.seed = c.in-Ok.ensures ∙ (λ i. open_scheduler (c.params-params.ensures i) (c.seed.ensures i)) in
+    let sched : c.in-Ok.sched ≡ open_scheduler old.sched.params old.sched.seed = c.in-Ok.ensures ∙ (λ i. open_scheduler (c.params.ensures i) (c.seed.ensures i)) in
     inr ((λ i. record old { sched = sched i; aside = c.none-self-inside.ensures i; past = total i }) ∙ ap renewed c.self.view_is)
