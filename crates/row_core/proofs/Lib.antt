@@ -1,2 +1,5 @@
 pub mod RecordLemmas
+pub mod NumberLemmas
+pub mod OctetLemmas
+pub mod FourOctets
 pub mod RowLemmas

@@ -78,6 +78,10 @@ starts_with_zero text = nat_lt 1 (length text) && (get_or text 0 0 == 48)
 unfoldable pub octet_of : List ℕ → Option ℕ
 octet_of text = if starts_with_zero text then None else numeral_of text >>? below (2 ^ 8)
 
+-- one of them before a text's first dot, and what stands behind the dot
+unfoldable pub octet_and_rest_of : List ℕ → Option (ℕ × List ℕ)
+octet_and_rest_of text = cut_of text >>? λ parts. octet_of parts.0 >>? λ octet. Some (octet, parts.1)
+
 -- four of them, joined by dots
 unfoldable pub four_octets_of : List ℕ → Option Ip
 four_octets_of text =

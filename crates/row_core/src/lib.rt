@@ -4,6 +4,7 @@
 
 mod faults;
 mod interruptions;
+mod numbers;
 mod reader;
 mod row;
 mod streams;

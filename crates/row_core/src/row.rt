@@ -1,17 +1,18 @@
 //! One row of a trace: its fields, from left to right, and the step that they ask for, or the version that a first row
 //! tells. An address is one of IPv4, or in version 2 one of IPv6 (RFC 4291) too.
-ghost use Rattle.std.specs.Prelude.{◌≡◌, ◌≢◌, ◌<◌, ◌^◌, ◌-◌, min, option_map, IfErr, IfOk};
+ghost use Rattle.std.specs.Prelude.{◌≡◌, ◌≢◌, ◌<◌, ◌^◌, ◌-◌, [], ◌∷◌, min, option_map, IfErr, IfOk};
 ghost use Rattle.std.specs.Char.{digit_value};
-ghost use Rattle.std.specs.Option.{SomeIff};
+ghost use Rattle.std.specs.Option.{SomeIff, option_or};
 ghost use Rattle.packet_core.specs.Packets.{IsLengthInRange};
 ghost use Rattle.csv.specs.Records.{fields_of};
-ghost use Rattle.row_core.specs.Rows.{address_of, cut_of, destination_of, ecn_of, field_of, fields_of_kind, four_octets_of, kind_of, length_of, number_below, octet_of, packet_of, row_of, sixteen_octets_of, starts_with_zero, tells_version, version_of};
+ghost use Rattle.row_core.specs.Rows.{address_of, cut_of, destination_of, ecn_of, field_of, fields_of_kind, four_octets_of, kind_of, length_of, number_below, octet_and_rest_of, octet_of, packet_of, row_of, sixteen_octets_of, starts_with_zero, tells_version, version_of};
 
 use crate::faults::TraceFaultKind;
+use crate::numbers::read_number;
 use csv::ByteRecord;
 use hex::FromHex;
 use journal_core::{MAX_MOMENT, Step};
-use packet_core::{Ecn, FiveTuple, Ip, MAX_LENGTH, Packet, read_numeral};
+use packet_core::{Ecn, FiveTuple, Ip, MAX_LENGTH, Packet};
 
 /// Every packet of a trace comes from the one lane.
 const TRACE_LANE: u32 = 0;
@@ -66,7 +67,7 @@ pub(crate) fn read_version(row: &ByteRecord) -> Result<Version, TraceFaultKind>
     if row.len() != 2 {
         return Err(TraceFaultKind::BadFieldCount);
     }
-    match read_numeral(field(row, 1)) {
+    match read_number(field(row, 1)) {
         Some(2) => Ok(Version::Two),
         _ => Err(TraceFaultKind::BadNumber),
     }
@@ -151,7 +152,7 @@ fn read_moment(text: &[u8]) -> Result<u64, TraceFaultKind>
     ensures value { result ≡ number_below (2 ^ 60) text.now }
     ensures fault { IfErr result (λ fault. fault ≢ TraceFaultKind.Read) }
 {
-    match read_numeral(text) {
+    match read_number(text) {
         Some(moment) if moment < MAX_MOMENT => Ok(moment),
         _ => Err(TraceFaultKind::BadNumber),
     }
@@ -163,7 +164,7 @@ fn read_u8(text: &[u8]) -> Result<u8, TraceFaultKind>
     ensures value { result ≡ number_below (2 ^ 8) text.now }
     ensures fault { IfErr result (λ fault. fault ≢ TraceFaultKind.Read) }
 {
-    let value = read_numeral(text).ok_or(TraceFaultKind::BadNumber)?;
+    let value = read_number(text).ok_or(TraceFaultKind::BadNumber)?;
     u8::try_from(value).map_err(|_| TraceFaultKind::BadNumber)
 }
 
@@ -173,7 +174,7 @@ fn read_u16(text: &[u8]) -> Result<u16, TraceFaultKind>
     ensures value { result ≡ number_below (2 ^ 16) text.now }
     ensures fault { IfErr result (λ fault. fault ≢ TraceFaultKind.Read) }
 {
-    let value = read_numeral(text).ok_or(TraceFaultKind::BadNumber)?;
+    let value = read_number(text).ok_or(TraceFaultKind::BadNumber)?;
     u16::try_from(value).map_err(|_| TraceFaultKind::BadNumber)
 }
 
@@ -184,7 +185,7 @@ fn read_length(text: &[u8]) -> Result<u32, TraceFaultKind>
     ensures range { IfOk result (λ len. IsLengthInRange len) }
     ensures fault { IfErr result (λ fault. fault ≢ TraceFaultKind.Read) }
 {
-    let value = read_numeral(text).ok_or(TraceFaultKind::BadNumber)?;
+    let value = read_number(text).ok_or(TraceFaultKind::BadNumber)?;
     match u32::try_from(value) {
         Ok(len) if 0 < len && len <= MAX_LENGTH => Ok(len),
         _ => Err(TraceFaultKind::LengthOutOfRange),
@@ -233,9 +234,20 @@ fn read_address(text: &[u8], version: Version) -> Result<Ip, TraceFaultKind>
 {
     let read = match version {
         Version::One => four_octets(text),
-        Version::Two => four_octets(text).or(sixteen_octets(text)),
+        Version::Two => either_kind(text),
     };
     read.ok_or(TraceFaultKind::BadAddress)
+}
+
+/// The address of either kind that the text is, if it is one.
+// A text is read as one of IPv6 only where it is none of IPv4.
+fn either_kind(text: &[u8]) -> Option<Ip>
+    ensures { result ≡ option_or (four_octets_of text.now) (sixteen_octets_of text.now) }
+{
+    match four_octets(text) {
+        Some(address) => Some(address),
+        None => sixteen_octets(text),
+    }
 }
 
 /// The address of IPv6 of 32 hexadecimal digits of either case, if the text is one. Two digits make a byte, the first
@@ -249,14 +261,43 @@ fn sixteen_octets(text: &[u8]) -> Option<Ip>
 }
 
 /// The address of four numbers that are joined by dots, if the text is one.
-#[tactic(auto, unfolding(crate::specs::Rows::four_octets_of))]
+#[tactic(auto, using(crate::proofs::FourOctets::in_turn))]
 fn four_octets(text: &[u8]) -> Option<Ip>
     ensures { result ≡ four_octets_of text.now }
 {
-    let (first, text) = cut_at_dot(text)?;
-    let (second, text) = cut_at_dot(text)?;
-    let (third, fourth) = cut_at_dot(text)?;
-    Some(Ip::V4([octet(first)?, octet(second)?, octet(third)?, octet(fourth)?]))
+    let (first, text) = octet_before_dot(text)?;
+    let (second, text) = octet_before_dot(text)?;
+    let (third, fourth) = octet_before_dot(text)?;
+    Some(Ip::V4([first, second, third, octet(fourth)?]))
+}
+
+/// The number before a text's first dot, and what stands behind the dot.
+// Mostly the dot is the second, the third or the fourth byte. Then nothing is looked at twice.
+#[inline(always)]
+#[tactic(auto, using(crate::proofs::OctetLemmas::dot_second, crate::proofs::OctetLemmas::dot_third, crate::proofs::OctetLemmas::dot_fourth))]
+fn octet_before_dot(text: &[u8]) -> Option<(u8, &[u8])>
+    ensures { option_map (λ parts. (parts.0, parts.1.now)) result ≡ octet_and_rest_of text.now }
+{
+    if text.len() > 1 && text[1] == b'.' && text[0] != b'.' {
+        return Some((one_digit(text[0])?, &text[2..]));
+    }
+    if text.len() > 2 && text[2] == b'.' && text[0] != b'.' && text[1] != b'.' {
+        return Some((two_digits(text[0], text[1])?, &text[3..]));
+    }
+    if text.len() > 3 && text[3] == b'.' && text[0] != b'.' && text[1] != b'.' && text[2] != b'.' {
+        return Some((three_digits(text[0], text[1], text[2])?, &text[4..]));
+    }
+    cut_octet(text)
+}
+
+/// The same wherever the dot stands.
+#[inline(never)]
+#[tactic(auto, unfolding(crate::specs::Rows::octet_and_rest_of))]
+fn cut_octet(text: &[u8]) -> Option<(u8, &[u8])>
+    ensures { option_map (λ parts. (parts.0, parts.1.now)) result ≡ octet_and_rest_of text.now }
+{
+    let (front, rest) = cut_at_dot(text)?;
+    Some((octet(front)?, rest))
 }
 
 /// What stands before the first dot and what stands behind it, if there is a dot.
@@ -268,14 +309,79 @@ fn cut_at_dot(text: &[u8]) -> Option<(&[u8], &[u8])>
 }
 
 /// The number from 0 to 255 that the text is, written without leading zeros.
-#[tactic(auto, using(crate::proofs::RowLemmas::below_cut), unfolding(crate::specs::Rows::octet_of))]
+#[inline(always)]
 fn octet(text: &[u8]) -> Option<u8>
+    ensures { result ≡ octet_of text.now }
+{
+    match text {
+        [a] => one_digit(*a),
+        [a, b] => two_digits(*a, *b),
+        [a, b, c] => three_digits(*a, *b, *c),
+        _ => octet_of_any(text),
+    }
+}
+
+/// The same of a text of any length.
+#[inline(never)]
+#[tactic(auto, using(crate::proofs::RowLemmas::below_cut), unfolding(crate::specs::Rows::octet_of))]
+fn octet_of_any(text: &[u8]) -> Option<u8>
     ensures { result ≡ octet_of text.now }
 {
     if has_leading_zero(text) {
         return None;
     }
-    u8::try_from(read_numeral(text)?).ok()
+    u8::try_from(read_number(text)?).ok()
+}
+
+/// The same of a text of one byte.
+#[inline(always)]
+#[tactic(auto, using(crate::proofs::OctetLemmas::octet_one))]
+fn one_digit(a: u8) -> Option<u8>
+    ensures { result ≡ octet_of (a ∷ []) }
+{
+    match digit(a) {
+        Some(a) => Some(a),
+        None => octet_of_any(&[a]),
+    }
+}
+
+/// The same of a text of two bytes.
+#[inline(always)]
+#[tactic(auto, using(crate::proofs::OctetLemmas::octet_two))]
+fn two_digits(a: u8, b: u8) -> Option<u8>
+    ensures { result ≡ octet_of (a ∷ b ∷ []) }
+{
+    match (digit(a), digit(b)) {
+        (Some(tens), Some(ones)) if a != b'0' => Some(tens * 10 + ones),
+        _ => octet_of_any(&[a, b]),
+    }
+}
+
+/// The same of a text of three bytes.
+#[inline(always)]
+#[tactic(auto, using(crate::proofs::OctetLemmas::octet_three))]
+fn three_digits(a: u8, b: u8, c: u8) -> Option<u8>
+    ensures { result ≡ octet_of (a ∷ b ∷ c ∷ []) }
+{
+    match (digit(a), digit(b), digit(c)) {
+        (Some(hundreds), Some(tens), Some(ones)) if a != b'0' => {
+            let value = (u32::from(hundreds) * 10 + u32::from(tens)) * 10 + u32::from(ones);
+            match u8::try_from(value) {
+                Ok(value) => Some(value),
+                Err(_) => octet_of_any(&[a, b, c]),
+            }
+        }
+        _ => octet_of_any(&[a, b, c]),
+    }
+}
+
+/// The value of a decimal digit.
+#[inline(always)]
+fn digit(byte: u8) -> Option<u8>
+    ensures value { SomeIff result (digit_value byte < 10) (digit_value byte) }
+{
+    let digit = char::from(byte).to_digit(10)?;
+    Some(digit as u8)
 }
 
 /// Whether a zero stands before another byte.
