@@ -14,4 +14,4 @@ mod run;
 pub use arrival::{Arrival, MAX_ARRIVAL_MOMENT, MAX_ARRIVALS};
 pub use fifo::run_fifo;
 pub use link::{Link, LinkFields, LinkName};
-pub use run::run_link;
+pub use run::{run_link, run_link_with_keeper};

@@ -1,5 +1,4 @@
 use Rattle.std.proofs.Common.{◌≡◌, drop}
-use Rattle.sched_core.specs.Choosing.{Choosing}
 use Rattle.link_core.specs.Lines.{IsOnFifo}
 use Rattle.link_core.proofs.fifo.run_fifo.Given as goal
 

@@ -5,17 +5,17 @@ use Rattle.link_core.proofs.SentIds.{given_of, none_given}
 use Rattle.link_core.proofs.run.ask.Goals as goal
 
 pub bounds-arrivals-sent : goal.bounds-arrivals-sent
-bounds-arrivals-sent c =
+bounds-arrivals-sent g c =
     let below = sent_within c.args.engine.now.sched c.dequeue.new.self.sched c.dequeue.new.self.steps c.args.now.moment c.in-Ok.sent c.in-Some.sent c.in-Ok.ensures.made c.run_of_steps.ensures c.in-Some.is in
     omega (arith, below)
 
 pub offset_bounds-arrivals-sent : goal.offset_bounds-arrivals-sent
-offset_bounds-arrivals-sent c =
+offset_bounds-arrivals-sent g c =
     let below = sent_within c.args.engine.now.sched c.dequeue.new.self.sched c.dequeue.new.self.steps c.args.now.moment c.in-Ok.sent c.in-Some.sent c.in-Ok.ensures.made c.run_of_steps.ensures c.in-Some.is in
     omega (arith, below)
 
 pub returns-in-Some : goal.returns-in-Some
-returns-in-Some c =
+returns-in-Some g c =
     let serves = c.in-Ok.ensures.made in
     let one = given_of c.args.now.moment serves.gives.given c.in-Ok.sent c.in-Some.sent serves.gives.told c.in-Some.is in
     let below = sent_within c.args.engine.now.sched c.dequeue.new.self.sched c.dequeue.new.self.steps c.args.now.moment c.in-Ok.sent c.in-Some.sent serves c.run_of_steps.ensures c.in-Some.is in
@@ -29,7 +29,7 @@ returns-in-Some c =
     }
 
 pub returns-in-None : goal.returns-in-None
-returns-in-None c =
+returns-in-None g c =
     let serves = c.in-Ok.ensures.made in
     record {
       sent = c.in-Ok.sent;

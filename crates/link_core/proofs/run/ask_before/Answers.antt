@@ -7,7 +7,7 @@ use Rattle.link_core.proofs.LinkTimes.{asks_free, coming_after, dequeue_fits, no
 use Rattle.link_core.proofs.run.ask_before.Goals as goal
 
 pub ask-requires : goal.ask-requires
-ask-requires c =
+ask-requires g c =
     let on = c.loop-busy.invariant.on_link in
     let state = c.loop-busy.engine.sched.standing.state in
     let events = c.loop-busy.engine.sched.standing.events in
@@ -22,7 +22,7 @@ ask-requires c =
     }
 
 pub loop-busy-preserved : goal.loop-busy-preserved
-loop-busy-preserved c =
+loop-busy-preserved g c =
     let inv = c.loop-busy.invariant in
     let old = c.loop-busy.engine in
     let new = c.ask.new.engine in
@@ -38,12 +38,12 @@ loop-busy-preserved c =
     }
 
 pub loop-busy-smaller : goal.loop-busy-smaller
-loop-busy-smaller c =
+loop-busy-smaller g c =
     let old = c.loop-busy.engine in
     let new = c.ask.new.engine in
     let busy = c.in_ok-busy.busy in
     let asked : HasAsked c.args.link.now c.args.arrivals.now c.in-Some.free old busy new = c.in_ok-busy.ensures {u = tt} in
     let more = asked_count c.args.link.now c.args.arrivals.now old new c.in-Some.free busy asked in
-    let inv = loop-busy-preserved c in
+    let inv = loop-busy-preserved g c in
     let bound = (sent_bound c.args.link.now c.args.arrivals.now new _ inv.on_link.underway).0 in
     rw c.in-Some.is (omega (arith, more, bound))

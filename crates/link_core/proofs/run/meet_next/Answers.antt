@@ -6,7 +6,7 @@ use Rattle.link_core.proofs.LinkTimes.{dequeue_fits, enqueue_fits, first_of}
 use Rattle.link_core.proofs.run.meet_next.Goals as goal
 
 pub take_in-requires : goal.take_in-requires
-take_in-requires c =
+take_in-requires g c =
     let a = c.index-coming-0.result in
     let e = c.ask_before.new.engine in
     let done = c.in_ok-left.ensures {u = tt} in
@@ -17,7 +17,7 @@ take_in-requires c =
     enqueue_fits e.sched.standing.state a.moment 0 a.packet (omega (arith, comes.1)) comes.0 on.underway.opened (omega (arith, bound, c.requires.few))
 
 pub ask-requires : goal.ask-requires
-ask-requires c =
+ask-requires g c =
     let a = c.index-coming-0.result in
     let e = c.ask_before.new.engine in
     let done = c.in_ok-left.ensures {u = tt} in
@@ -36,7 +36,7 @@ ask-requires c =
     })
 
 pub returns-in-Some-clause-on_link : goal.returns-in-Some-clause-on_link
-returns-in-Some-clause-on_link c =
+returns-in-Some-clause-on_link g c =
     let a = c.index-coming-0.result in
     let e = c.ask_before.new.engine in
     let done = c.in_ok-left.ensures {u = tt} in
@@ -48,7 +48,7 @@ returns-in-Some-clause-on_link c =
     taken_on_link c.args.link.now c.args.arrivals.now e c.take_in.new.engine c.in-Some.free a (drop 1 c.args.coming.now) (rw c.in-Some.is at on) taken.made taken.steps by
 
 pub returns-in-None-clause-on_link : goal.returns-in-None-clause-on_link
-returns-in-None-clause-on_link c =
+returns-in-None-clause-on_link g c =
     let a = c.index-coming-0.result in
     let e = c.ask_before.new.engine in
     let rest = drop 1 c.args.coming.now in
