@@ -63,6 +63,13 @@ IsTable Series has_fifo run arrivals steps events text = IsComparedText Series h
 IsTable Steps has_fifo run arrivals steps events text = text ≡ steps_text steps
 IsTable Svg has_fifo run arrivals steps events text = IsComparedText Svg has_fifo run arrivals events text
 
+-- The text is the trace of the steps of a run of these arrivals.
+pub record IsTraceOf (run : RunParts) (arrivals : List Arrival) (text : List ℕ) : Type 0 where
+  pub steps : List Step
+  pub events : List Event
+  pub journal : IsJournalOf run arrivals steps events
+  pub trace : text ≡ steps_text steps
+
 -- The text is the table that these texts ask for, of the link's run of these arrivals.
 pub record IsTableOf (texts : Texts) (run : RunParts) (arrivals : List Arrival) (text : List ℕ) : Type 0 where
   pub steps : List Step

@@ -1,6 +1,6 @@
 //! The arrivals that a trace has.
 
-ghost use Rattle.std.specs.Prelude.{◌≡◌, ◌<◌, ◌≤◌, ℕ, IfErr, IfOk, IfSome, Ok, Some, length, map};
+ghost use Rattle.std.specs.Prelude.{◌≡◌, ◌<◌, ◌≤◌, [], ℕ, IfErr, IfOk, IfSome, Ok, Some, length, map};
 ghost use Rattle.row_core.specs.Traces.{IsFaultOf, trace_of};
 ghost use Rattle.link_core.specs.Arrivals.{AreArrivals};
 ghost use Rattle.link_command.specs.ArrivalTexts.{IsArrivalText, IsPlaceFault, arrival_step, step_fault, without_lane};
@@ -155,7 +155,7 @@ fn arrivals_of(alloc: Global, steps: &[Step]) -> Result<Vec<Arrival>, StepFault>
     ensures fault { IfErr result (λ fault. (place : ℕ) (what : _) → fault ≡ StepFault.At place what
         → IsPlaceFault steps.now place what) }
 {
-    let mut arrivals = Vec::new(alloc);
+    let mut arrivals = no_arrivals(alloc, steps.len())?;
     let mut last = 0;
     for place in 0..steps.len() {
         if place >= MAX_ARRIVALS {
@@ -171,6 +171,17 @@ fn arrivals_of(alloc: Global, steps: &[Step]) -> Result<Vec<Arrival>, StepFault>
         }
     }
     Ok(arrivals)
+}
+
+/// No arrival, with memory for so many.
+fn no_arrivals(alloc: Global, count: usize) -> Result<Vec<Arrival>, StepFault>
+    ensures none { IfOk result (λ arrivals. arrivals.items ≡ []) }
+    ensures fault { IfErr result (λ fault. fault ≡ StepFault.Memory) }
+{
+    match Vec::with_capacity(alloc, count) {
+        Ok(arrivals) => Ok(arrivals),
+        Err(_) => Err(StepFault::Memory),
+    }
 }
 
 /// The arrival that a step is, where the one before it came at that moment.

@@ -5,7 +5,7 @@ ghost use Rattle.std.specs.Prelude.{◌≡◌, ◌≢◌, ◌≤◌, ◌<◌, �
 ghost use Rattle.std.specs.Io.KnownBytes.{Appends, Keeps};
 ghost use Rattle.link_core.specs.Arrivals.{AreArrivals};
 ghost use Rattle.link_command.specs.CommandLine.{texts_of};
-ghost use Rattle.link_command.specs.Runs.{Answers, IsAsked, IsFaultOn, IsJournalOf, IsJournalText, AreManyEvents, IsComparedFault, IsComparedText, IsRunFault, IsTooMany, IsTableFault, IsTableFor, IsTableOf};
+ghost use Rattle.link_command.specs.Runs.{Answers, IsAsked, IsFaultOn, IsJournalOf, IsJournalText, AreManyEvents, IsComparedFault, IsComparedText, IsRunFault, IsTooMany, IsTableFault, IsTableFor, IsTableOf, IsTraceOf};
 ghost use Rattle.link_command.specs.RunsSaid.{parts_of};
 
 use crate::arrivals::read_arrivals;
@@ -14,10 +14,11 @@ use crate::faults::{Found, ProgramFault, RowFault, tell};
 use crate::notes::{Stage, Terminals, note_input, note_stage};
 use crate::values::{Run, run_of};
 use journal_core::Event;
-use link_core::{Arrival, run_fifo, run_link};
+use link_core::{Arrival, run_fifo, run_link, run_link_with_keeper};
 use link_picture::picture_text;
 use link_report::{MAX_EVENTS, flows_text, packets_text, series_text, steps_text};
 use row_core::TraceFaultKind;
+use sched_core::Unstored;
 use std::alloc::Global;
 use std::io::{Read, Write};
 
@@ -131,11 +132,19 @@ fn table_text<F: Write>(
     ensures fault { IfErr result (IsTableFault (parts_of run.now) arrivals.now) }
     ensures quiet { terminals.faults ≡ false → Keeps (F.contents notes.old) (F.contents notes.new) }
 {
-    let engine = run_link(alloc, run.params, run.seed, &run.link, arrivals)?;
-    note_stage(notes, terminals, Stage::Run, arrivals.len());
     if request.table == TableName::Steps {
-        return Ok(steps_text(alloc, engine.steps())?);
+        return trace_text(alloc, run, arrivals, notes, terminals);
     }
+    // Nobody reads the steps.
+    let engine = run_link_with_keeper(
+        alloc,
+        run.params,
+        run.seed,
+        &run.link,
+        arrivals,
+        Unstored::new(),
+    )?;
+    note_stage(notes, terminals, Stage::Run, arrivals.len());
     compared_text(
         alloc,
         request,
@@ -145,6 +154,24 @@ fn table_text<F: Write>(
         notes,
         terminals,
     )
+}
+
+/// The steps of a run of these arrivals, as a trace.
+fn trace_text<F: Write>(
+    alloc: Global,
+    run: &Run,
+    arrivals: &[Arrival],
+    notes: &mut F,
+    terminals: Terminals,
+) -> Result<Vec<u8>, ProgramFault>
+    requires { AreArrivals arrivals.now }
+    ensures text { IfOk result (λ text. IsTraceOf (parts_of run.now) arrivals.now text.items) }
+    ensures fault { IfErr result (λ fault. fault ≡ ProgramFault.Memory) }
+    ensures quiet { terminals.faults ≡ false → Keeps (F.contents notes.old) (F.contents notes.new) }
+{
+    let engine = run_link(alloc, run.params, run.seed, &run.link, arrivals)?;
+    note_stage(notes, terminals, Stage::Run, arrivals.len());
+    Ok(steps_text(alloc, engine.steps())?)
 }
 
 /// The table of a run's journal, beside that of a FIFO where one is asked for.

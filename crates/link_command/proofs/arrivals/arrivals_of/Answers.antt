@@ -4,7 +4,9 @@ use Rattle.link_command.proofs.ArrivalLemmas.{arrivals_push, before_push, last_m
 use Rattle.link_command.proofs.arrivals.arrivals_of.Goals as goal
 
 pub loop-place-init : goal.loop-place-init
-loop-place-init c = rw c.new-arrivals.ensures.items (record { are = no_arrivals; count = omega arith; before = λ i d low. absurd (omega arith); taken = refl; last = refl })
+loop-place-init c =
+    let new = c.in_ok-arrivals.ensures {u = tt} in
+    rw new.none (record { are = no_arrivals; count = omega arith; before = λ i d low. absurd (omega arith); taken = refl; last = refl })
 
 pub loop-place-preserved : goal.loop-place-preserved
 loop-place-preserved c =

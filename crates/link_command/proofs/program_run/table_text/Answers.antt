@@ -1,8 +1,7 @@
 use denote.Enum.Bare.{same_false, same_true}
-use Rattle.std.proofs.Common.{◌≡◌, ◌≢◌, ◌∙◌, ap, rules, sym}
+use Rattle.std.proofs.Common.{◌≡◌, ◌≢◌, rules, sym}
 use Rattle.std.proofs.KnownBytes.{Keeps-trans}
 use Rattle.std.proofs.lemmas.Result.{IfErr-weaker, IfOk-weaker}
-use Rattle.link_report.specs.StepTables.{steps_text}
 use Rattle.link_command.specs.RunsSaid.{parts_of}
 use Rattle.link_command.specs.contracts.command_line.TableName.{the_type}
 use Rattle.link_command.specs.declared.command_line.TableName.TheVariants.{Steps}
@@ -12,12 +11,9 @@ use Rattle.link_command.proofs.program_run.table_text.Goals as goal
 pub returns-then-eq-clause-text : goal.returns-then-eq-clause-text
 returns-then-eq-clause-text g c =
     let same : c.args.request.now.table ≡ Steps = same_true the_type (search rules) _ _ (sym c.if-eq.ensures) in
-    record {
-      steps = c.in_ok-engine.engine.steps;
-      events = c.in_ok-engine.engine.sched.standing.events;
-      journal = journal_of_engine (parts_of c.args.run.now) c.args.arrivals.now c.in_ok-engine.engine c.in_ok-engine.ensures;
-      table = steps_table _ _ _ _ _ _ _ same (c.in_ok-steps_text.ensures ∙ ap steps_text c.steps.ensures.value);
-    }
+    IfOk-weaker c.trace_text.result _ _
+    (λ text h. record { steps = h.steps; events = h.events; journal = h.journal; table = steps_table _ _ _ _ _ _ _ same h.trace })
+    c.trace_text.ensures.text
 
 pub returns-clause-text : goal.returns-clause-text
 returns-clause-text g c =
