@@ -1,5 +1,4 @@
-use Rattle.std.proofs.Common.{◌∙◌, List, get_or, subst, ap, arith}
-use Rattle.sched_core.specs.Choosing.{Choosing}
+use Rattle.std.proofs.Common.{◌∙◌, List, get_or, subst, arith}
 use Rattle.link_core.specs.declared.arrival.Arrival.{Arrival}
 use Rattle.link_core.specs.Lines.{HasFlow, IsOnFifo}
 use Rattle.link_core.proofs.LineLemmas.{fifo_has_run, opening_on_fifo}
@@ -10,7 +9,7 @@ pub loop-i-init : goal.loop-i-init
 loop-i-init c =
     let new = c.new-line.ensures in
     let chosen = c.in_ok-chooser.ensures {u = tt} in
-    record { on_link = opening_on_fifo c.args.params c.args.seed c.args.link.now c.args.arrivals.now c.new-line.result c.requires new; params = new.params; seed = new.seed_kept; chooser = ap (λ (x : Choosing). x.params) chosen; chooser_seed = ap (λ (x : Choosing). x.seed) chosen }
+    record { on_link = opening_on_fifo c.args.params c.args.seed c.args.link.now c.args.arrivals.now c.new-line.result c.requires new; params = new.params; seed = new.seed_kept; chooser = chosen }
 
 pub meet_next-requires-clause-on_link : goal.meet_next-requires-clause-on_link
 meet_next-requires-clause-on_link c = rw (rest_of c.args.arrivals.now c.loop-i.i) c.loop-i.invariant.on_link
@@ -19,13 +18,11 @@ pub loop-i-preserved : goal.loop-i-preserved
 loop-i-preserved c =
     let done = c.in_ok-busy.ensures {u = tt} in
     let inv = c.loop-i.invariant in
-    let kept = c.flow_of-flow.ensures.kept in
     record {
       on_link = subst (λ (r : List Arrival). IsOnFifo c.args.link.now c.args.arrivals.now c.meet_next.new.self c.in_ok-busy.busy r) (next_of c.args.arrivals.now c.loop-i.i) done.on_link;
       params = done.kept.params ∙ inv.params;
       seed = done.kept.seed ∙ inv.seed;
-      chooser = ap (λ (x : Choosing). x.params) kept ∙ inv.chooser;
-      chooser_seed = ap (λ (x : Choosing). x.seed) kept ∙ inv.chooser_seed;
+      chooser = c.chosen_flow-flow.ensures.kept;
     }
 
 pub meet_next-requires-clause-flow : goal.meet_next-requires-clause-flow
@@ -33,8 +30,8 @@ meet_next-requires-clause-flow c =
     let inv = c.loop-i.invariant in
     let all = c.args.arrivals.now in
     let here = c.index-arrivals-i.result in
-    let P = λ (a : Arrival). HasFlow c.loop-i.line.params c.loop-i.line.seed c.flow_of-flow.result a in
-    let its : P (get_or all c.loop-i.i here) = record { value = rw (inv.params, inv.seed, ← inv.chooser, ← inv.chooser_seed) c.flow_of-flow.ensures.value } in
+    let P = λ (a : Arrival). HasFlow c.loop-i.line.params c.loop-i.line.seed c.chosen_flow-flow.result a in
+    let its : P (get_or all c.loop-i.i here) = record { value = rw (inv.params, inv.seed) c.chosen_flow-flow.ensures.value } in
     rw (rest_of all c.loop-i.i) (first_from P all c.loop-i.i here (omega arith) its)
 
 pub ask_before-requires-clause-on_link : goal.ask_before-requires-clause-on_link
