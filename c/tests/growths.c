@@ -133,6 +133,48 @@ static void refuse_all(uint64_t rounds)
 	check(growths == before, "no call asks for memory");
 }
 
+/* Parameters under which few packets wait, or one drives out many, or many may come before as many wait as may. */
+static const char *const others[] = {
+	"limit 1",
+	"limit 2 drop_batch 1",
+	"limit 3 flows 2 drop_batch 2",
+	"limit 100 memory_limit 20000 drop_batch 1",
+	"limit 500 memory_limit 4000",
+	"limit 1000 flows 16 classify dport",
+};
+
+/* Packets of 64 and of 1,514 bytes with every growth after the open refused: while none goes, and then while two go for
+ * each that comes, in turn. */
+static void refuse_under(const char *params, uint64_t rounds)
+{
+	maltcove_fault fault;
+	maltcove_admitted admitted;
+	maltcove_sent sent;
+	long before;
+
+	left = -1;
+	check(maltcove_open(&m, params, strlen(params), seed, 16, &fault) == MALTCOVE_OK, "a scheduler is opened");
+	before = growths;
+	left = 0;
+	for (uint64_t i = 0; i < rounds; i++) {
+		uint32_t len = i % 10 == 9 ? 1514 : 64;
+
+		check(maltcove_enqueue_flow(&m, i * 100, (uint32_t)(i % 2), len, i & 3, i, &admitted) == MALTCOVE_OK,
+		      "a packet is accepted where every growth is refused");
+		read_all();
+		for (int gone = 0; i / 1500 % 2 == 1 && gone < 2; gone++) {
+			int answer = maltcove_dequeue(&m, i * 100, &sent);
+
+			check(answer == MALTCOVE_OK || answer == MALTCOVE_IDLE, "a packet goes, or none waits");
+			read_all();
+		}
+	}
+	check(growths == before, "no call asks for memory");
+	left = -1;
+	maltcove_free(&m);
+	check(held == 0, "no block is left after maltcove_free");
+}
+
 int main(void)
 {
 	maltcove_flushed flushed[64];
@@ -145,6 +187,8 @@ int main(void)
 	check(maltcove_queued(&m) == 0, "nothing waits after a flush");
 	maltcove_free(&m);
 	check(held == 0, "no block is left after maltcove_free");
+	for (size_t i = 0; i < sizeof others / sizeof *others; i++)
+		refuse_under(others[i], 20000);
 	printf("growths: each of %ld growths of an open refused, and all after it in 100000 rounds\n", opened);
 	return 0;
 }
