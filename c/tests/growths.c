@@ -135,11 +135,11 @@ static void refuse_all(uint64_t rounds)
 
 /* Parameters under which few packets wait, or one drives out many, or many may come before as many wait as may. */
 static const char *const others[] = {
-	"limit 1",
-	"limit 2 drop_batch 1",
-	"limit 3 flows 2 drop_batch 2",
-	"limit 100 memory_limit 20000 drop_batch 1",
-	"limit 500 memory_limit 4000",
+	"limit 1 classify dport",
+	"limit 2 drop_batch 1 classify dport",
+	"limit 3 flows 2 drop_batch 2 classify dport",
+	"limit 100 memory_limit 20000 drop_batch 1 classify dport",
+	"limit 500 memory_limit 4000 classify dport",
 	"limit 1000 flows 16 classify dport",
 };
 
