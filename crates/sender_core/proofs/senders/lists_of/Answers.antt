@@ -8,8 +8,11 @@ use Rattle.sender_core.proofs.senders.lists_of.Goals as goal
 
 pub loop-step-init : goal.loop-step-init
 loop-step-init c = record {
-  number = omega (arith, c.loop-sender.invariant.0, c.loop-sender.auto._sender-end, c.loop-sender-test.false);
-  each = λ i d less. c.loop-sender.invariant.1 i d (omega (arith, less, c.loop-sender-test.false));
+  calls = record {
+    number = omega (arith, c.loop-sender.invariant.0, c.loop-sender.auto._sender-end, c.loop-sender-test.false);
+    each = λ i d less. c.loop-sender.invariant.1 i d (omega (arith, less, c.loop-sender-test.false));
+  };
+  chooser = c.in_ok-chooser.ensures {u = tt};
 }
 
 pub loop-step-preserved : goal.loop-step-preserved
@@ -19,17 +22,23 @@ loop-step-preserved c =
     elim c.match-step.branch [
       | in-Enqueue+in_ok-push-2 w ↦
           let p = w.in-Enqueue.packet in
-          let sender = w.flow_of.result % c.args.senders in
+          let sender = w.chosen_flow.result % c.args.senders in
           let new = w.push-in-Enqueue.new.self in
           let stands = subst (λ (x : Step). x ≡ get_or steps k x) w.in-Enqueue.is c.step-item.is in
           let own : sender ≡ sender_of c.args.params.now c.args.seed.now c.args.senders p = search rules in
           let below : sender < c.args.senders = search rules in
           let pushed : new.items ≡ (slice_index_or c.loop-step.lists.items sender new).items ++ (w.in-Enqueue.moment, p) ∷ [] = search rules in
-          subst (λ (v : Vec (Vec (ℕ × PacketParts) Global) Global). AreCalls c.args.params.now c.args.seed.now c.args.senders (take (k + 1) steps) v.items) (sym w.lists-is)
-          (calls_push c.args.params.now c.args.seed.now c.args.senders steps k w.in-Enqueue.moment w.in-Enqueue.lane p c.loop-step.lists.items sender new new
-          c.loop-step-test.true stands own below pushed c.loop-step.invariant)
+          record {
+            chooser = rw w.chooser-is w.chosen_flow.ensures.kept;
+            calls = subst (λ (v : Vec (Vec (ℕ × PacketParts) Global) Global). AreCalls c.args.params.now c.args.seed.now c.args.senders (take (k + 1) steps) v.items) (sym w.lists-is)
+                (calls_push c.args.params.now c.args.seed.now c.args.senders steps k w.in-Enqueue.moment w.in-Enqueue.lane p c.loop-step.lists.items sender new new
+                c.loop-step-test.true stands own below pushed c.loop-step.invariant.calls);
+          }
       | in_default w ↦
-          subst (λ (v : Vec (Vec (ℕ × PacketParts) Global) Global). AreCalls c.args.params.now c.args.seed.now c.args.senders (take (k + 1) steps) v.items) (sym w.lists-is)
-          (calls_skip c.args.params.now c.args.seed.now c.args.senders steps k c.step-item.result c.loop-step.lists.items c.loop-step-test.true c.step-item.is
-          (λ sender. no_call c.args.params.now c.args.seed.now c.args.senders sender c.step-item.result w.in_default.not-Enqueue) c.loop-step.invariant)
+          record {
+            chooser = rw w.chooser-is c.loop-step.invariant.chooser;
+            calls = subst (λ (v : Vec (Vec (ℕ × PacketParts) Global) Global). AreCalls c.args.params.now c.args.seed.now c.args.senders (take (k + 1) steps) v.items) (sym w.lists-is)
+                (calls_skip c.args.params.now c.args.seed.now c.args.senders steps k c.step-item.result c.loop-step.lists.items c.loop-step-test.true c.step-item.is
+                (λ sender. no_call c.args.params.now c.args.seed.now c.args.senders sender c.step-item.result w.in_default.not-Enqueue) c.loop-step.invariant.calls);
+          }
     ]
