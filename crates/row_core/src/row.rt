@@ -376,12 +376,15 @@ fn three_digits(a: u8, b: u8, c: u8) -> Option<u8>
 }
 
 /// The value of a decimal digit.
+// By a subtraction: a call of `to_digit` isn't merged where so many stand in a row.
 #[inline(always)]
 fn digit(byte: u8) -> Option<u8>
     ensures value { SomeIff result (digit_value byte < 10) (digit_value byte) }
 {
-    let digit = char::from(byte).to_digit(10)?;
-    Some(digit as u8)
+    if byte < b'0' || byte > b'9' {
+        return None;
+    }
+    Some(byte - b'0')
 }
 
 /// Whether a zero stands before another byte.
