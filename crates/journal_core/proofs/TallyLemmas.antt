@@ -2,8 +2,11 @@
 use Rattle.std.proofs.Common.{◌≡◌, ℕ, zero, suc, ◌+◌, ◌-◌, ◌<◌, ◌≤◌, Bool, true, false, cond, ◌||◌, All, List, [], ◌∷◌, ◌++◌, eqb, length, map, get_or, set, Option, Some, None, slice_get, refl, sym, ap, subst, ◌∙◌, inl, inr, arith}
 use Rattle.std.specs.Cmp.{IsEquivalence}
 use Rattle.std.proofs.lemmas.Map.Keys.{IsDistinct-push, apart_from_distinct}
+use Rattle.std.proofs.lemmas.List.Folds.{list_any_at}
 use Rattle.std.proofs.lemmas.Option.{get_or_from_slice_get, slice_get_within}
+use Rattle.journal_core.specs.declared.note.Note.{Note}
 use Rattle.journal_core.specs.declared.tuple_rows.TupleRow.{TupleRow}
+use Rattle.journal_core.specs.Notes.{IsNotedAt, counted_by, note_of, noted_id}
 use Rattle.journal_core.specs.TupleRows.{first_of_each, of_one_tuple, row_of, tuple_rows, with_new}
 use Rattle.journal_core.proofs.Words.{count_by, Decides-like, nat_tests, same_from_decides, AllByRecursion, AllZip, Contains, IsDistinct, cons_option, filter_map, list_any, range_with_len, cases_eq, same_lists, length-set, length-map, get_or-map, get_or-set_same, get_or-set_other, map-append, append-nil, take_all, All-contains, All-from_recursion, All-map, All-weaker, recursion_from_All, count_by-le-length, fold-append, PacketParts, same_tuple, FiveTuple, Event, Accepted, Sent, Dropped, Closed, Acceptance, acceptance_of, fate_of, packet_id_of, acceptances, accepted_ids, fate_ids, named, passes, without_fate, AreDistinct, FatesFollow, IdsInOrder, sent_of, dropped_of, AreTallied, IsBalanced, counted, row_so_far, settled, tuple_of, with_row}
 use Rattle.journal_core.proofs.EventLemmas.{sum_more}
@@ -73,6 +76,11 @@ tallied_adds tuples rows places accepted a place at h = record {
     placed : (known : Bool) → slice_get (cond known tuples (tuples ++ tuple_of a ∷ [])) place ≡ Some (tuple_of a) → ArePlaced (cond known tuples (tuples ++ tuple_of a ∷ [])) (places ++ place ∷ []) (accepted ++ a ∷ [])
     placed true at = subst (λ ts. ArePlaced ts (places ++ place ∷ []) (accepted ++ a ∷ [])) (append-nil tuples) (placed_push tuples [] places accepted place a (slice_get-append tuples [] place (tuple_of a) at) h.places_are)
     placed false at = placed_push tuples (tuple_of a ∷ []) places accepted place a at h.places_are
+
+-- a five-tuple that stands somewhere is among those
+pub stands_among : (tuples : List FiveTuple) (place : ℕ) (tuple : FiveTuple) → slice_get tuples place ≡ Some tuple → list_any (same_tuple tuple) tuples ≡ true
+stands_among tuples place tuple at =
+    list_any_at (same_tuple tuple) tuples place tuple (slice_get_within tuples place tuple at) (ap (same_tuple tuple) (get_or_from_slice_get tuples place tuple tuple at) ∙ same_tuple-IsEquivalence.refl tuple)
 
 -- an event that is no acceptance
 pub nothing_accepted : (e : Event) → ((lane id moment flow : ℕ) (packet : PacketParts) → e ≡ Accepted lane id moment flow packet → ⊥) → acceptance_of e ≡ None
@@ -306,3 +314,24 @@ module _ (events : List Event) (ids : IdsInOrder events) (once : AreDistinct (fa
 
   pub rows_are_balanced : All IsBalanced (tuple_rows events)
   rows_are_balanced = All-map IsBalanced (row_of events) (firsts_of (acceptances events)) (λ i d low. omega (arith, row_adds_up (get_or (firsts_of (acceptances events)) i d)))
+
+-- What a note tells is what its event tells.
+pub counted_noted : (e : Event) (row : TupleRow) → counted_by (note_of e) row ≡ counted e row
+counted_noted (Accepted lane n moment flow packet) row = refl
+counted_noted (Sent n moment ecn mark) row = refl
+counted_noted (Dropped n moment cause) row = refl
+counted_noted (Closed moment) row = refl
+
+pub noted_packet : (e : Event) → noted_id (note_of e) ≡ packet_id_of e
+noted_packet (Accepted lane n moment flow packet) = refl
+noted_packet (Sent n moment ecn mark) = refl
+noted_packet (Dropped n moment cause) = refl
+noted_packet (Closed moment) = refl
+
+-- a note among those of all events is of the event at its place
+pub noted_at : (events : List Event) (place : ℕ) (d n : Note) → place < length events → n ≡ get_or (map note_of events) place d → IsNotedAt events place n
+noted_at [] place d n low is = absurd (omega arith)
+noted_at (e ∷ events) zero d n low is = record { event = e; within = low; stands = refl; is = is }
+noted_at (e ∷ events) (suc place) d n low is =
+    let rest = noted_at events place d n (omega arith) is in
+    record { event = rest.event; within = low; stands = rest.stands; is = rest.is }

@@ -7,6 +7,7 @@ pub mod JournalLaws
 pub mod Statistics
 pub mod TupleRows
 pub mod Tallies
+pub mod Notes
 pub mod Books
 pub mod Keepers
 pub mod JournalDrops

@@ -1,8 +1,5 @@
 //! The entries of a journal.
 
-ghost use Rattle.std.specs.Prelude.{◌≡◌};
-ghost use Rattle.journal_core.specs.Happened.{packet_id_of};
-
 use codel_core::Mark;
 use packet_core::{Ecn, Packet};
 
@@ -57,18 +54,4 @@ pub enum Event {
         /// Its moment.
         moment: u64,
     },
-}
-
-impl Event {
-    /// The id of the packet that the event is of; a close is of none.
-    pub(crate) fn packet_id(&self) -> Option<u64>
-        ensures { result ≡ packet_id_of self.now }
-    {
-        match *self {
-            Event::Accepted { id, .. } => Some(id),
-            Event::Sent { id, .. } => Some(id),
-            Event::Dropped { id, .. } => Some(id),
-            Event::Closed { .. } => None,
-        }
-    }
 }

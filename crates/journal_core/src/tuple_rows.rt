@@ -1,13 +1,17 @@
 //! What became of the packets of each five-tuple.
 
-ghost use Rattle.std.specs.Prelude.{◌≡◌, ◌<◌, ◌≤◌, All, ◌+◌, IfOk, OnOk, length, map, take, [], slice_get, Some};
+ghost use Rattle.std.specs.Prelude.{◌≡◌, ◌<◌, ◌≤◌, All, ◌+◌, List, IfOk, OnOk, length, map, take, [], ◌∷◌, ◌++◌, slice_get, Some, IsTrue};
 ghost use Rattle.packet_core.specs.Packets.{same_tuple};
 ghost use Rattle.journal_core.specs.Happened.{acceptances, fate_ids};
 ghost use Rattle.journal_core.specs.JournalLaws.{AreDistinct, FatesFollow, IdsInOrder};
-ghost use Rattle.journal_core.specs.Tallies.{IsBalanced, IsTallied, counted, settled, with_row};
+ghost use Rattle.journal_core.specs.Notes.{IsNotedAt, counted_by};
+ghost use Rattle.journal_core.specs.Tallies.{IsBalanced, IsTallied, settled, tuple_of, with_row};
 ghost use Rattle.journal_core.specs.TupleRows.{tuple_rows, with_new};
 
 use crate::event::Event;
+use crate::ghost_list::GhostList;
+use crate::note::Note;
+use crate::noted::Noted;
 use crate::step::Memory;
 use indexmap::IndexSet;
 use packet_core::FiveTuple;
@@ -31,18 +35,18 @@ pub struct TupleRow {
 }
 
 impl TupleRow {
-    /// Counts the event, which is of one of its packets.
-    fn count(&mut self, event: &Event)
+    /// Counts the event of that note, which is of one of its packets.
+    fn count(&mut self, note: Note)
         requires accepted { self.old.accepted < u64.MAX }
         requires sent { self.old.sent < u64.MAX }
         requires dropped { self.old.dropped < u64.MAX }
-        ensures { self.new ≡ counted event.now self.old }
+        ensures { self.new ≡ counted_by note self.old }
     {
-        match event {
-            Event::Accepted { .. } => self.accepted += 1,
-            Event::Sent { .. } => self.sent += 1,
-            Event::Dropped { .. } => self.dropped += 1,
-            Event::Closed { .. } => {}
+        match note {
+            Note::Accepted { .. } => self.accepted += 1,
+            Note::Sent { .. } => self.sent += 1,
+            Note::Dropped { .. } => self.dropped += 1,
+            Note::Closed => {}
         }
     }
 
@@ -55,26 +59,64 @@ impl TupleRow {
     }
 }
 
-/// The rows that the events so far give.
+/// For how many flows a tally remembers the last five-tuple. It is the standard number of flows (tc-fq_codel(8)).
+const LATEST: usize = 1024;
+
+/// The five-tuples of the packets that were accepted so far, with the place of each packet among them. Where all packets
+/// have come to it, it makes the rows.
 #[derive(Drop)]
-struct Tally {
+pub struct Tally {
     /// The five-tuples, in the order of their rows.
     tuples: IndexSet<FiveTuple>,
     rows: Vec<TupleRow>,
     /// For each packet, by its id, the place of its five-tuple's row.
     places: Vec<usize>,
+    /// For each flow, modulo `LATEST`, the place that its last packet was given. Most packets are of their flow's last
+    /// five-tuple: one comparison finds it, and no hash is taken.
+    latest: [usize; LATEST],
 }
 
 impl Tally {
-    /// The rows of no event.
-    fn new(alloc: Global) -> Tally
+    ghost use Rattle.journal_core.specs.Happened.{Acceptance};
+
+    /// No packet yet.
+    pub fn new(alloc: Global) -> Tally
         ensures { IsTallied result [] [] }
     {
         Tally {
             tuples: IndexSet::new(alloc),
             rows: Vec::new(alloc),
             places: Vec::new(alloc),
+            latest: [0; LATEST],
         }
+    }
+
+    /// A packet more, which was accepted into that flow. It fails for want of memory alone.
+    pub fn accept(&mut self, tuple: FiveTuple, flow: u32) -> Result<(), Memory>
+        ensures { OnOk result ((accepted : List Acceptance) → (a : Acceptance)
+            → tuple_of a ≡ tuple → a.flow ≡ flow
+            → IsTallied self.old accepted [] → IsTallied self.new (accepted ++ a ∷ []) []) }
+    {
+        let row = self.place_of(tuple, flow)?;
+        self.places.push(row)?;
+        Ok(())
+    }
+
+    /// The rows of the events that a keeper noted, where all packets that they accept have come here.
+    pub fn rows(mut self, noted: &Noted) -> Vec<TupleRow>
+        requires ids { IdsInOrder noted.now.events }
+        requires follow { FatesFollow noted.now.events }
+        requires once { AreDistinct (fate_ids noted.now.events) }
+        requires tallied { IsTallied self (acceptances noted.now.events) [] }
+        ensures rows { result.items ≡ tuple_rows noted.now.events }
+        ensures balance { All IsBalanced result.items }
+    {
+        let notes = noted.notes();
+        for place in 0..notes.len() {
+            self.count(notes[place], noted.told(), place);
+        }
+        self.settle();
+        self.rows
     }
 
     /// A row for each five-tuple of an accepted packet, with nothing counted.
@@ -95,15 +137,30 @@ impl Tally {
         ensures { OnOk result (IsTallied self.new (acceptances (take (place + 1) events.now)) []) }
     {
         if let Event::Accepted { flow, packet, .. } = events[place] {
-            let row = self.place_of(packet.tuple(), flow)?;
-            self.places.push(row)?;
+            self.accept(packet.tuple(), flow)?;
         }
         Ok(())
     }
 
     /// The place of the five-tuple's row, which is made where there is none.
     fn place_of(&mut self, tuple: FiveTuple, flow: u32) -> Result<usize, Memory>
-        requires { length self.old.rows.items ≡ length self.old.tuples.keys }
+        ensures place { IfOk result (λ place. slice_get self.new.tuples.keys place ≡ Some tuple) }
+        ensures tuples { OnOk result (self.new.tuples.keys ≡ with_new same_tuple self.old.tuples.keys tuple) }
+        ensures row { OnOk result (self.new.rows.items ≡ with_row self.old.tuples.keys self.old.rows.items tuple flow) }
+        ensures places { self.new.places ≡ self.old.places }
+    {
+        let entry = flow as usize % LATEST;
+        let latest = self.latest[entry];
+        if self.stands_at(&tuple, latest) {
+            return Ok(latest);
+        }
+        let place = self.place_by_hash(tuple, flow)?;
+        self.latest[entry] = place;
+        Ok(place)
+    }
+
+    /// The same, whatever came last.
+    fn place_by_hash(&mut self, tuple: FiveTuple, flow: u32) -> Result<usize, Memory>
         ensures place { IfOk result (λ place. slice_get self.new.tuples.keys place ≡ Some tuple) }
         ensures tuples { OnOk result (self.new.tuples.keys ≡ with_new same_tuple self.old.tuples.keys tuple) }
         ensures row { OnOk result (self.new.rows.items ≡ with_row self.old.tuples.keys self.old.rows.items tuple flow) }
@@ -123,6 +180,13 @@ impl Tally {
         Ok(place)
     }
 
+    /// Whether the five-tuple is the one at that place.
+    fn stands_at(&self, tuple: &FiveTuple, place: usize) -> bool
+        ensures { IsTrue result → slice_get self.now.tuples.keys place ≡ Some tuple.now }
+    {
+        self.tuples.get_index(place) == Some(tuple)
+    }
+
     /// Counts the events.
     fn count_all(&mut self, events: &[Event])
         requires ids { IdsInOrder events.now }
@@ -130,24 +194,25 @@ impl Tally {
         requires before { IsTallied self.old (acceptances events.now) [] }
         ensures { IsTallied self.new (acceptances events.now) events.now }
     {
+        let told = listed(events);
         for place in 0..events.len() {
-            self.count(events, place);
+            self.count(Note::of(&events[place]), &told, place);
         }
     }
 
-    /// Counts the event at that place in the row of its packet, where those before it are counted.
-    fn count(&mut self, events: &[Event], place: usize)
-        requires within { place < length events.now }
-        requires few { place < u64.MAX }
-        requires ids { IdsInOrder events.now }
-        requires follow { FatesFollow events.now }
-        requires before { IsTallied self.old (acceptances events.now) (take place events.now) }
-        ensures { IsTallied self.new (acceptances events.now) (take (place + 1) events.now) }
+    /// Counts the event of that note in the row of its packet, where those before it are counted. It stands at that
+    /// place among those told.
+    fn count(&mut self, note: Note, told: &GhostList<Event>, _place: usize)
+        requires noted { IsNotedAt told.now.items _place note }
+        requires few { _place < u64.MAX }
+        requires ids { IdsInOrder told.now.items }
+        requires follow { FatesFollow told.now.items }
+        requires before { IsTallied self.old (acceptances told.now.items) (take _place told.now.items) }
+        ensures { IsTallied self.new (acceptances told.now.items) (take (_place + 1) told.now.items) }
     {
-        let event = &events[place];
-        if let Some(id) = event.packet_id() {
+        if let Some(id) = note.packet_id() {
             let row = self.places[id as usize];
-            self.rows[row].count(event);
+            self.rows[row].count(note);
         }
     }
 
@@ -160,6 +225,17 @@ impl Tally {
             self.rows[place].settle();
         }
     }
+}
+
+/// The events as a list for proofs.
+fn listed(events: &[Event]) -> GhostList<Event>
+    ensures { result.items ≡ events.now }
+{
+    let mut list = GhostList::new();
+    for event in events {
+        list = list.and(event);
+    }
+    list
 }
 
 /// The rows of a journal.

@@ -1,19 +1,17 @@
-use Rattle.std.proofs.Common.{◌≡◌, ◌+◌, ◌++◌, ◌∷◌, [], take, refl, ap, ◌∙◌}
+use Rattle.std.proofs.Common.{◌≡◌, ◌+◌, ◌++◌, ◌∷◌, [], take, refl, ap, ◌∙◌, sym}
 use Rattle.journal_core.proofs.Words.{take_more, Event, Acceptance, acceptance_of, acceptances}
 use Rattle.journal_core.proofs.EventLemmas.{filter_map_push, filter_map_same}
-use Rattle.journal_core.proofs.TallyLemmas.{nothing_accepted, tallied_adds}
+use Rattle.journal_core.proofs.TallyLemmas.{nothing_accepted}
 use Rattle.journal_core.proofs.tuple_rows.Tally.add.Goals as goal
 
-pub returns-in_ok-push : goal.returns-in_ok-push
-returns-in_ok-push c =
+pub returns-in_ok-accept : goal.returns-in_ok-accept
+returns-in_ok-accept c =
     let accepted = c.in-Accepted in
     let a : Acceptance = record { id = accepted.id; moment = accepted.moment; lane = accepted.lane; flow = accepted.flow; packet = accepted.packet } in
     let seen = take c.args.place c.args.events.now in
     let more : acceptances (take (c.args.place + 1) c.args.events.now) ≡ acceptances seen ++ a ∷ [] =
     ap acceptances (take_more c.args.events.now c.args.place _ c.requires.within ∙ ap (λ (e : Event). seen ++ e ∷ []) accepted.is) ∙ filter_map_push acceptance_of seen _ a refl in
-    let row = rw c.tuple.ensures at (c.in_ok-row.ensures {u = tt}) in
-    let places = rw c.place_of.ensures.places at (c.in_ok-push.ensures {u = tt}) in
-    rw (more, row.tuples, row.row, places.items) (tallied_adds _ _ _ (acceptances seen) a _ (rw row.tuples at row.place) c.requires.before)
+    rw more (c.in_ok-accept.ensures {u = tt} (acceptances seen) a (sym c.tuple.ensures) refl c.requires.before)
 
 pub returns-in_default : goal.returns-in_default
 returns-in_default c =

@@ -1,16 +1,10 @@
--- The set finds a five-tuple by its derived equality, and that tells what the test of all parts tells.
-use Rattle.std.proofs.Common.{arith}
-use Rattle.journal_core.proofs.TupleEquality.{any_agree}
+-- A five-tuple that stands somewhere is among those that are known.
+use Rattle.std.proofs.Common.{refl, rules}
+use Rattle.journal_core.proofs.TallyLemmas.{stands_among}
 use Rattle.journal_core.proofs.tuple_rows.Tally.place_of.Goals as goal
 
-pub returns-in_ok-push-clause-tuples : goal.returns-in_ok-push-clause-tuples
-returns-in_ok-push-clause-tuples c = rw (← any_agree c.args.tuple c.args.self.now.tuples.keys) (grind arith)
+pub returns-then-stands_at-clause-tuples : goal.returns-then-stands_at-clause-tuples
+returns-then-stands_at-clause-tuples c = rw (stands_among _ _ _ (c.if-stands_at.ensures {u = tt} (search rules))) refl
 
-pub returns-in_ok-push-clause-row : goal.returns-in_ok-push-clause-row
-returns-in_ok-push-clause-row c = rw (← any_agree c.args.tuple c.args.self.now.tuples.keys) (grind arith)
-
-pub returns-else-is_new-clause-tuples : goal.returns-else-is_new-clause-tuples
-returns-else-is_new-clause-tuples c = rw (← any_agree c.args.tuple c.args.self.now.tuples.keys) (grind arith)
-
-pub returns-else-is_new-clause-row : goal.returns-else-is_new-clause-row
-returns-else-is_new-clause-row c = rw (← any_agree c.args.tuple c.args.self.now.tuples.keys) (grind arith)
+pub returns-then-stands_at-clause-row : goal.returns-then-stands_at-clause-row
+returns-then-stands_at-clause-row c = rw (stands_among _ _ _ (c.if-stands_at.ensures {u = tt} (search rules))) refl

@@ -1,0 +1,10 @@
+use Rattle.std.proofs.Common.{sym}
+use Rattle.journal_core.proofs.TallyLemmas.{tallied_adds}
+use Rattle.journal_core.proofs.tuple_rows.Tally.accept.Goals as goal
+
+pub returns : goal.returns
+returns c =
+    let row = c.in_ok-row.ensures {u = tt} in
+    let places = rw c.place_of.ensures.places at (c.in_ok-push.ensures {u = tt}) in
+    λ accepted a tuple flow before.
+    rw (row.tuples, row.row, places.items, sym tuple, sym flow) (tallied_adds _ _ _ accepted a _ (rw (row.tuples, sym tuple) at row.place) before)
