@@ -1,11 +1,14 @@
 -- A report's row as `csv` writes it, and how rows come one after the other.
-use Rattle.std.proofs.Common.{◌≡◌, ℕ, ◌+◌, ◌<◌, List, [], ◌∷◌, ◌++◌, take, get_or, length, refl, ap, arith, append_assoc, append-nil}
+use Rattle.std.proofs.Common.{◌≡◌, ℕ, ◌+◌, ◌<◌, List, [], ◌∷◌, ◌++◌, map, take, get_or, length, refl, ap, arith, append_assoc, append-nil}
 use Rattle.std.specs.List.{flat_map, join_with_byte}
 use Rattle.std.proofs.lemmas.Bool.{ne_eqb}
 use Rattle.std.proofs.lemmas.List.{flat_map_more, take_more}
 use Rattle.csv.specs.Writing.{fields_text, is_blank, row_text}
+use Rattle.journal_core.specs.declared.event.Event.{Event}
+use Rattle.journal_core.specs.declared.event.Event.TheVariants.{Accepted, Sent, Dropped, Closed}
+use Rattle.journal_core.specs.Notes.{note_of}
 use Rattle.trace_core.specs.declared.report.Rows.{Rows}
-use Rattle.trace_core.specs.Report.{Adds, IsFilled, line_of, report_writer}
+use Rattle.trace_core.specs.Report.{Adds, IsFilled, event_line, line_of, note_line, report_writer}
 
 joined : (field : List ℕ) (rest : List (List ℕ)) → field ++ fields_text report_writer rest ≡ join_with_byte 44 (field ∷ rest)
 unfolding fields_text
@@ -35,3 +38,14 @@ pub adds_line : {X : Type 0} (line : X → List ℕ) (xs : List X) (i : ℕ) (x 
 adds_line line xs i x d old mid new within is a b =
     let more = take_more xs i d within in
     rw (more, ← is, ← flat_map_more line [] (take i xs) x) (adds_both old mid new _ _ a b)
+
+-- the row of an event, by its note, is that of the event
+pub noted_line : (e : Event) → note_line (note_of e) ≡ event_line e
+noted_line (Accepted lane id moment flow packet) = refl
+noted_line (Sent id moment ecn mark) = refl
+noted_line (Dropped id moment why) = refl
+noted_line (Closed moment) = refl
+
+pub noted_lines : (es : List Event) → flat_map note_line (map note_of es) ≡ flat_map event_line es
+noted_lines [] = refl
+noted_lines (e ∷ es) = λ i. noted_line e i ++ noted_lines es i

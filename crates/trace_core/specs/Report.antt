@@ -1,5 +1,5 @@
 -- The text of a run's report.
-use Rattle.std.specs.Prelude.{◌≡◌, ◌<◌, length, ℕ, Bool, true, false, List, [], ◌∷◌, ◌++◌, Some, Ok, map}
+use Rattle.std.specs.Prelude.{◌≡◌, ◌<◌, length, ℕ, Bool, true, false, List, [], ◌∷◌, ◌++◌, Some, Ok, map, Option, None}
 use Rattle.std.specs.Prelude.{codes}
 use Rattle.std.specs.Fmt.{decimal}
 use Rattle.std.specs.List.{flat_map, join_with_byte}
@@ -19,7 +19,10 @@ use Rattle.journal_core.specs.declared.step.MomentFault.TheVariants as moment_fa
 use Rattle.journal_core.specs.declared.step.Refusal.{Refusal}
 use Rattle.journal_core.specs.declared.step.Refusal.TheVariants as refusal
 use Rattle.journal_core.specs.declared.totals.Totals.{Totals}
+use Rattle.journal_core.specs.declared.note.Note.{Note}
+use Rattle.journal_core.specs.declared.note.Note.TheVariants as note
 use Rattle.journal_core.specs.declared.tuple_rows.TupleRow.{TupleRow}
+use Rattle.journal_core.specs.Happened.{Acceptance, acceptance_of, acceptances}
 use Rattle.journal_core.specs.TupleRows.{tuple_rows}
 use Rattle.hex.specs.Hex.{encode_lower}
 use Rattle.packet_core.specs.declared.flow.Seed.{Seed}
@@ -32,6 +35,7 @@ use Rattle.fair_core.specs.FairQueues.{FairQueues, no_queues}
 use Rattle.fair_core.specs.FqCodel.{fq_codel}
 use Rattle.journal_core.specs.State.{State, opening_state}
 use Rattle.journal_core.specs.declared.step.Step.{Step}
+use Rattle.journal_core.specs.declared.step.Step.TheVariants.{Enqueue, Dequeue, Close}
 use Rattle.sched_core.specs.Schedulers.{Scheduler, discipline_of}
 use Rattle.journal_core.specs.Steps.{Steps}
 use Rattle.row_core.specs.Traces.{steps_of, trace_of}
@@ -81,6 +85,17 @@ refusal_row refusal.Memory = codes "refused" ∷ codes "memory" ∷ []
 -- the row of an event
 abbrev pub event_line : Event → List ℕ
 event_line event = line_of (event_row event)
+
+-- the fields of an event's row, by its note
+abbrev pub note_row : Note → List (List ℕ)
+note_row (note.Accepted flow id) = codes "accepted" ∷ decimal id ∷ decimal flow ∷ []
+note_row (note.Sent ecn id) = codes "sent" ∷ decimal id ∷ ecn_digit ecn ∷ []
+note_row (note.Dropped why id) = codes "dropped" ∷ decimal id ∷ cause_name why ∷ []
+note_row note.Closed = codes "closed" ∷ []
+
+-- the row of an event, by its note
+abbrev pub note_line : Note → List ℕ
+note_line n = line_of (note_row n)
 
 -- the rows of an answer, beside those of its events: an idle step and a refused one have a row each
 abbrev pub answer_lines : Answer → List ℕ
@@ -196,3 +211,19 @@ pub record RunsSteps (steps : List Step) (old new : Scheduler) (before after : R
 abbrev pub RunsText : List ℕ → Scheduler → Scheduler → Rows → Rows → Type 0
 RunsText text old new before after =
     (steps : List Step) × (steps_of text ≡ Ok steps) × RunsSteps steps old new before after
+
+-- What a step accepts, by its events: an enqueue its packet, if it has an event at all, and another step nothing.
+abbrev pub AcceptsBy : Step → List Event → Type 0
+AcceptsBy (Enqueue moment lane packet) [] = Unit {0}
+AcceptsBy (Enqueue moment lane packet) (first ∷ rest) =
+    (a : Acceptance) × (acceptance_of first ≡ Some a) × (a.packet ≡ packet) × (acceptances rest ≡ [])
+AcceptsBy (Dequeue moment) made = acceptances made ≡ []
+AcceptsBy (Close moment) made = acceptances made ≡ []
+
+-- the flow that the first event accepts a packet into, by notes of the events
+abbrev pub accepted_flow : List Note → Option ℕ
+accepted_flow [] = None
+accepted_flow (note.Accepted flow id ∷ rest) = Some flow
+accepted_flow (note.Sent ecn id ∷ rest) = None
+accepted_flow (note.Dropped why id ∷ rest) = None
+accepted_flow (note.Closed ∷ rest) = None

@@ -1,13 +1,16 @@
 //! The rows of a report, and its text.
 ghost use Rattle.std.specs.Prelude.{◌≡◌, ◌++◌, [], ℕ, List, IfOk, OnOk, map, string_bytes};
 ghost use Rattle.std.specs.List.{flat_map};
+ghost use Rattle.journal_core.specs.Happened.{acceptances};
 ghost use Rattle.journal_core.specs.Statistics.{statistics};
+ghost use Rattle.journal_core.specs.Tallies.{IsTallied};
 ghost use Rattle.journal_core.specs.TupleRows.{tuple_rows};
 ghost use Rattle.trace_core.specs.Report as Report;
 
 use crate::decimal::Digits;
 use crate::journal_report::SenderRow;
 use csv::{QuoteStyle, Writer, WriterBuilder};
+use journal_core::{Note, Noted, Tally};
 use packet_core::{Ecn, Ip};
 use sched_core::{
     Answer, Cause, Engine, Event, Memory, MomentFault, Refusal, Sched, Totals, TupleRow,
@@ -37,24 +40,27 @@ impl Rows {
     }
 
     /// The text of the whole report: the rows so far, which are those of all steps, then the row of the totals, and a
-    /// row for each five-tuple. It fails for want of memory alone.
-    pub(crate) fn finish(mut self, sched: &Sched) -> Result<Vec<u8>, Memory>
+    /// row for each five-tuple, by the tally of all packets that were accepted. It fails for want of memory alone.
+    pub(crate) fn finish(mut self, sched: &Sched<Noted>, tally: Tally) -> Result<Vec<u8>, Memory>
+        requires { IsTallied tally (acceptances sched.now.standing.events) [] }
         ensures { IfOk result (λ text. (written : List ℕ) → Report.HasText self written → text.items
             ≡ (written ++ Report.line_of (Report.totals_row (statistics sched.now.standing.events)))
             ++ flat_map Report.tuple_line (tuple_rows sched.now.standing.events)) }
     {
-        self.statistics(sched)?;
+        self.statistics(sched, tally)?;
         self.into_text()
     }
 
     /// The row of a scheduler's totals, and a row for each of its five-tuples.
-    fn statistics(&mut self, sched: &Sched) -> Result<(), Memory>
+    fn statistics(&mut self, sched: &Sched<Noted>, tally: Tally) -> Result<(), Memory>
+        requires { IsTallied tally (acceptances sched.now.standing.events) [] }
         ensures { OnOk result ((written : List ℕ) → Report.HasText self.old written → Report.HasText self.new
             ((written ++ Report.line_of (Report.totals_row (statistics sched.now.standing.events)))
             ++ flat_map Report.tuple_line (tuple_rows sched.now.standing.events))) }
     {
         self.totals(&sched.totals())?;
-        self.tuples(&sched.tuple_rows()?)
+        sched.journal_laws();
+        self.tuples(&tally.rows(sched.keeper()))
     }
 
     /// The text of an engine's journal: the rows so far, of which there are none, a row for each event, the row of the
@@ -103,13 +109,24 @@ impl Rows {
         }
     }
 
-    /// The rows of a step with this answer and these events: one for each event, and one where the step made none.
-    pub(crate) fn step(&mut self, answer: Answer, own_events: &[Event]) -> Result<(), Memory>
+    /// The rows of a step with this answer and notes of these events: one for each event, and one where the step made
+    /// none.
+    pub(crate) fn step(&mut self, answer: Answer, own_notes: &[Note]) -> Result<(), Memory>
         ensures { OnOk result (Report.Adds self.old self.new
-            (flat_map Report.event_line own_events.now ++ Report.answer_lines answer)) }
+            (flat_map Report.note_line own_notes.now ++ Report.answer_lines answer)) }
     {
-        self.events(own_events)?;
+        self.notes(own_notes)?;
         self.answer(answer)
+    }
+
+    /// The rows of events, of each of which there is a note.
+    fn notes(&mut self, notes: &[Note]) -> Result<(), Memory>
+        ensures { OnOk result (Report.Adds self.old self.new (flat_map Report.note_line notes.now)) }
+    {
+        for note in notes {
+            self.note(*note)?;
+        }
+        Ok(())
     }
 
     /// The rows of events.
@@ -135,23 +152,31 @@ impl Rows {
     }
 
     /// The row of an event.
+    #[tactic(auto, using(crate::proofs::ReportLemmas::noted_line))]
     fn event(&mut self, event: &Event) -> Result<(), Memory>
         ensures { OnOk result (Report.Adds self.old self.new (Report.event_line event.now)) }
     {
-        match *event {
-            Event::Accepted { id, flow, .. } => {
+        self.note(Note::of(event))
+    }
+
+    /// The row of an event, by its note.
+    fn note(&mut self, note: Note) -> Result<(), Memory>
+        ensures { OnOk result (Report.Adds self.old self.new (Report.note_line note)) }
+    {
+        match note {
+            Note::Accepted { flow, id } => {
                 let (id, flow) = (Digits::of(id), Digits::of(u64::from(flow)));
                 self.row(&[b"accepted", id.as_bytes(), flow.as_bytes()])
             }
-            Event::Sent { id, ecn, .. } => {
+            Note::Sent { ecn, id } => {
                 let id = Digits::of(id);
                 self.row(&[b"sent", id.as_bytes(), ecn_digit(ecn)])
             }
-            Event::Dropped { id, cause, .. } => {
+            Note::Dropped { cause, id } => {
                 let id = Digits::of(id);
                 self.row(&[b"dropped", id.as_bytes(), cause_name(cause)])
             }
-            Event::Closed { .. } => self.row(&[b"closed"]),
+            Note::Closed => self.row(&[b"closed"]),
         }
     }
 

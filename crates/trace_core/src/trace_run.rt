@@ -1,11 +1,15 @@
 //! The run of a trace: its steps are made as its rows are read, and the report is written.
-ghost use Rattle.std.specs.Prelude.{◌≡◌, ◌≢◌, ◌≤◌, ◌<◌, ◌+◌, ◌⊎◌, ℕ, List, IfErr, IfOk, IfSome, OnErr, OnOk, [], length, take};
+ghost use Rattle.std.specs.Prelude.{◌≡◌, ◌≢◌, ◌≤◌, ◌<◌, ◌+◌, ◌++◌, ◌⊎◌, ℕ, List, IfErr, IfOk, IfSome, OnErr, OnOk, [], length, map, take};
 ghost use Rattle.std.specs.Result.{IsOkUnless};
 ghost use Rattle.std.specs.Io.KnownBytes.{Keeps};
 ghost use Rattle.packet_core.specs.declared.flow.Seed.{Seed};
 ghost use Rattle.packet_core.specs.declared.params.ParamFields.{ParamFields};
+ghost use Rattle.journal_core.specs.Happened.{Acceptance, acceptances};
+ghost use Rattle.journal_core.specs.Notes.{note_of};
+ghost use Rattle.journal_core.specs.Tallies.{IsTallied};
+ghost use Rattle.journal_core.specs.declared.event.Event.{Event};
 ghost use Rattle.sched_core.specs.Schedulers.{new_scheduler};
-ghost use Rattle.trace_core.specs.Report.{IsReportOf, RunsStep, RunsText};
+ghost use Rattle.trace_core.specs.Report.{AcceptsBy, IsReportOf, RunsStep, RunsText, accepted_flow};
 ghost use Rattle.row_core.specs.Streams.{EndsWith, IsEnd, IsReadFailure, IsWriteFailure, WentOn};
 ghost use Rattle.row_core.specs.Traces.{HasTaken, IsFaultOf, IsRowsFault, ReadFails, TextReader, reader_of};
 ghost use Rattle.row_core.specs.declared.faults.TraceFault.{TraceFault};
@@ -14,6 +18,7 @@ ghost use Rattle.trace_core.specs.declared.trace_run.RunFault.TheVariants.{Memor
 
 use crate::report::Rows;
 use crate::streams::Sink;
+use journal_core::{Note, Noted, Tally};
 use packet_core::{Params, Seed};
 use row_core::{
     Interruptions, MAX_BYTES, MAX_INTERRUPTIONS, Next, Source, TraceFault, TraceFaultKind,
@@ -127,13 +132,14 @@ fn run_text(alloc: Global, text: &[u8], params: Params, seed: Seed) -> Result<Ve
         → (reader : TextReader) × IsRowsFault text.now reader why) }
     ensures write { IfErr result (λ fault. fault ≢ RunFault.Write) }
 {
-    let mut sched = Sched::try_new(alloc, params, seed)?;
+    let mut sched = Sched::try_with_keeper(alloc, params, seed, Noted::new(alloc))?;
     text_of(alloc, text, &mut sched)
 }
 
 /// Makes the steps of a text with a new scheduler, and gives the report.
-fn text_of(alloc: Global, text: &[u8], sched: &mut Sched) -> Result<Vec<u8>, RunFault>
-    requires { length text.now ≤ MAX_BYTES }
+fn text_of(alloc: Global, text: &[u8], sched: &mut Sched<Noted>) -> Result<Vec<u8>, RunFault>
+    requires short { length text.now ≤ MAX_BYTES }
+    requires new { sched.old.standing.events ≡ [] }
     ensures report { IfOk result (λ report. (params : ParamFields) → (seed : Seed)
         → sched.old ≡ new_scheduler params seed → IsReportOf params seed text.now report.items) }
     ensures trace { IfErr result (λ fault. (why : TraceFault) → fault ≡ RunFault.Trace why
@@ -141,14 +147,27 @@ fn text_of(alloc: Global, text: &[u8], sched: &mut Sched) -> Result<Vec<u8>, Run
     ensures write { IfErr result (λ fault. fault ≢ RunFault.Write) }
 {
     let mut report = Rows::new(alloc);
-    run_rows(sched, &mut TraceRows::new(alloc, text), &mut report)?;
-    Ok(report.finish(sched)?)
+    let mut tally = Tally::new(alloc);
+    run_rows(
+        sched,
+        &mut TraceRows::new(alloc, text),
+        &mut report,
+        &mut tally,
+    )?;
+    Ok(report.finish(sched, tally)?)
 }
 
 /// Makes the steps of all rows of a text, from its start on, each as it is read, and writes its rows of the report.
-fn run_rows(sched: &mut Sched, rows: &mut TraceRows<'_>, report: &mut Rows) -> Result<(), RunFault>
+fn run_rows(
+    sched: &mut Sched<Noted>,
+    rows: &mut TraceRows<'_>,
+    report: &mut Rows,
+    tally: &mut Tally,
+) -> Result<(), RunFault>
+    requires { IsTallied tally.old (acceptances sched.old.standing.events) [] }
     ensures run { OnOk result ((text : List ℕ) → HasTaken text rows.old 0 []
         → RunsText text sched.old sched.new report.old report.new) }
+    ensures tallied { OnOk result (IsTallied tally.new (acceptances sched.new.standing.events) []) }
     ensures trace { IfErr result (λ fault. (why : TraceFault) → fault ≡ RunFault.Trace why
         → (text : List ℕ) → HasTaken text rows.old 0 [] → IsRowsFault text (reader_of rows.new) why) }
     ensures write { IfErr result (λ fault. fault ≢ RunFault.Write) }
@@ -158,7 +177,7 @@ fn run_rows(sched: &mut Sched, rows: &mut TraceRows<'_>, report: &mut Rows) -> R
         match rows.next()? {
             Next::End => return Ok(()),
             Next::NoStep => {}
-            Next::Row(step) => run_step(sched, &step, report)?,
+            Next::Row(step) => run_step(sched, &step, report, tally)?,
         }
     }
     Err(RunFault::Trace(TraceFault {
@@ -167,13 +186,46 @@ fn run_rows(sched: &mut Sched, rows: &mut TraceRows<'_>, report: &mut Rows) -> R
     }))
 }
 
-/// Makes a step, and writes its rows of the report.
-fn run_step(sched: &mut Sched, step: &Step, report: &mut Rows) -> Result<(), Memory>
+/// Makes a step, writes its rows of the report, and has its packet tallied, if it accepted one.
+fn run_step(
+    sched: &mut Sched<Noted>,
+    step: &Step,
+    report: &mut Rows,
+    tally: &mut Tally,
+) -> Result<(), Memory>
+    requires { IsTallied tally.old (acceptances sched.old.standing.events) [] }
     ensures made { OnOk result (RunsStep step.now sched.old sched.new report.old report.new) }
+    ensures tallied { OnOk result (IsTallied tally.new (acceptances sched.new.standing.events) []) }
 {
-    let first = sched.events().len();
+    let first = sched.keeper().notes().len();
     let answer = sched.make(step)?;
-    report.step(answer, &sched.events()[first..])
+    let own_notes = &sched.keeper().notes()[first..];
+    tally_step(tally, step, own_notes)?;
+    report.step(answer, own_notes)
+}
+
+/// Has the packet tallied that a step accepted, if it did, by notes of its events.
+fn tally_step(tally: &mut Tally, step: &Step, own_notes: &[Note]) -> Result<(), Memory>
+    ensures { OnOk result ((accepted : List Acceptance) → (made : List Event)
+        → own_notes.now ≡ map note_of made → AcceptsBy step.now made
+        → IsTallied tally.old accepted [] → IsTallied tally.new (accepted ++ acceptances made) []) }
+{
+    if let Step::Enqueue { packet, .. } = step {
+        if let Some(flow) = accepted_flow(own_notes) {
+            tally.accept(packet.tuple(), flow)?;
+        }
+    }
+    Ok(())
+}
+
+/// The flow that the first event accepts a packet into, if it does.
+fn accepted_flow(notes: &[Note]) -> Option<u32>
+    ensures { result ≡ accepted_flow notes.now }
+{
+    match notes.first() {
+        Some(Note::Accepted { flow, .. }) => Some(*flow),
+        _ => None,
+    }
 }
 
 /// Writes the whole of a text. Where the sink is given up, the front of the text is written. It tries again where the

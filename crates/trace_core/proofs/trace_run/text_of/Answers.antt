@@ -15,7 +15,7 @@ returns-clause-report c = λ params seed made.
       steps = steps;
       made = run.made;
       last = c.run_rows.new.sched.standing.state;
-      read = rw (le-ltb 134217728 (length text) c.requires) read;
+      read = rw (le-ltb 134217728 (length text) c.requires.short) read;
       runs = rw made at run.runs;
       told = rw journal at (c.in_ok-finish.ensures {u = tt} _ (run.told _ c.new-report.ensures));
     }
