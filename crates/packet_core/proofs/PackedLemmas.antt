@@ -88,7 +88,7 @@ marked_word word =
     ∙ ap (λ (n : ℕ). bit_or high 3 * 2 ^ 56 + n) (or_zero_r low) ∙ ap (λ (n : ℕ). n * 2 ^ 56 + low) marks in
     both ∙ omega arith
 
-code_back : (code : ℕ) → code < 4 → ecn_code (ecn_in code) ≡ code
+pub code_back : (code : ℕ) → code < 4 → ecn_code (ecn_in code) ≡ code
 code_back zero _ = refl
 code_back (suc zero) _ = refl
 code_back (suc (suc zero)) _ = refl

@@ -1,6 +1,7 @@
 pub mod FlowNumber
 pub mod Numerals
 pub mod PackedPackets
+pub mod PackedTuples
 pub mod Packets
 pub mod Params
 pub mod Words

@@ -1,5 +1,5 @@
 -- A packet in six whole words: two for each address, one for its other fields, and its tag.
-use Rattle.std.specs.Prelude.{◌≡◌, ℕ, ◌+◌, ◌*◌, ◌/◌, ◌%◌, ◌^◌, ◌==◌, Bool, List, ◌++◌, drop, if◌then◌else◌}
+use Rattle.std.specs.Prelude.{◌≡◌, ℕ, ◌+◌, ◌*◌, ◌/◌, ◌%◌, ◌^◌, ◌==◌, Bool, ◌++◌, drop, if◌then◌else◌}
 use Rattle.std.specs.Int.{w32, w64, from_le_bytes, to_le_bytes}
 use Rattle.packet_core.specs.Packets.{PacketParts, IsLengthInRange, is_ipv6}
 use Rattle.packet_core.specs.declared.packet.Ip.{Ip}

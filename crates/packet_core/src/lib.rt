@@ -7,10 +7,12 @@ mod numerals;
 mod packed;
 mod packet;
 mod params;
+mod tuple_words;
 mod words;
 
 pub use flow::{Seed, flow_of};
 pub use numerals::read_numeral;
 pub use packet::{Ecn, FiveTuple, Ip, LengthOutOfRange, MAX_LENGTH, Packet, Waiting};
 pub use params::{Classify, EcnUse, ParamFields, ParamName, Params};
+pub use tuple_words::TupleWords;
 pub use words::{ParamFault, read_params};

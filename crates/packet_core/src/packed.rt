@@ -3,7 +3,7 @@
 ghost use Rattle.std.specs.Prelude.{◌≡◌, ◌+◌, ◌*◌, ◌%◌, ◌^◌, ◌<◌, ◌≤◌, ◌++◌, drop};
 ghost use Rattle.std.specs.Int.{w32, w64, from_le_bytes, to_le_bytes};
 ghost use Rattle.packet_core.specs.Packets.{is_ipv6};
-ghost use Rattle.packet_core.specs.PackedPackets.{address_in, address_words, ecn_code, ecn_in, fields_word, kind_bit, SaysFields};
+ghost use Rattle.packet_core.specs.PackedPackets.{address_in, address_words, ecn_code, ecn_in, fields_word, kind_bit, parts_of, SaysFields};
 
 use crate::packet::{Ecn, FiveTuple, Ip};
 
@@ -46,7 +46,7 @@ fn word_of(octets: [u8; 8]) -> u64
 }
 
 /// The address of that kind in two words.
-pub(crate) fn address_in(is_ipv6: bool, words: (u64, u64)) -> Ip
+fn address_in(is_ipv6: bool, words: (u64, u64)) -> Ip
     ensures { result ≡ address_in is_ipv6 words }
 {
     let [a, b, c, d, e, f, g, h] = words.0.to_le_bytes();
@@ -55,6 +55,20 @@ pub(crate) fn address_in(is_ipv6: bool, words: (u64, u64)) -> Ip
     }
     let [i, j, k, l, m, n, o, p] = words.1.to_le_bytes();
     Ip::V6([a, b, c, d, e, f, g, h, i, j, k, l, m, n, o, p])
+}
+
+/// The five-tuple that a packet's words say.
+#[tactic(auto, unfolding(crate::specs::PackedPackets::parts_of))]
+pub(crate) fn tuple_in(src: (u64, u64), dst: (u64, u64), fields: u64) -> FiveTuple
+    ensures { result ≡ (parts_of (record { src = src; dst = dst; fields = fields; tag = 0 })).tuple }
+{
+    FiveTuple {
+        proto: (low_sixteen(fields >> 48) % 256) as u8,
+        src: address_in((fields >> 58) % 2 == 1, src),
+        dst: address_in((fields >> 59) % 2 == 1, dst),
+        dport: low_sixteen(fields),
+        sport: low_sixteen(fields >> 32),
+    }
 }
 
 /// All fields but the addresses and the tag, in a word.

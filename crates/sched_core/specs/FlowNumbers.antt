@@ -1,4 +1,4 @@
-use Rattle.std.specs.Prelude.{◌≡◌, ◌<◌, ◌≤◌, ◌⊎◌, All, IfSome, IsSomeAnd, vec_len}
+use Rattle.std.specs.Prelude.{◌≡◌, ◌<◌, ◌≤◌, ◌⊎◌, All, vec_len}
 use Rattle.packet_core.specs.FlowNumber.{flow_number}
 use Rattle.packet_core.specs.declared.flow.Seed.{Seed}
 use Rattle.packet_core.specs.declared.packet.FiveTuple.{FiveTuple}
@@ -21,11 +21,11 @@ pub record HasFlowNumber (p : ParamFields) (seed : Seed) (known : Numbered) : Ty
 -- The numbers are by the hash, and so is each that stands in a place; and there are places.
 pub record AreFlowNumbers (numbers : Inside) : Type 0 where
   pub hash : numbers.params.classify ≡ Hash
-  pub later : All (λ place. IfSome place.later (HasFlowNumber numbers.params numbers.seed)) numbers.places.items
-  pub earlier : All (λ place. IfSome place.earlier (HasFlowNumber numbers.params numbers.seed)) numbers.places.items
+  pub later : All (λ place. HasFlowNumber numbers.params numbers.seed place.later) numbers.places.items
+  pub earlier : All (λ place. HasFlowNumber numbers.params numbers.seed place.earlier) numbers.places.items
   pub some : 1 ≤ vec_len numbers.places
 
 -- a five-tuple stands in a place
 unfoldable pub Remembers : Place → FiveTuple → Type 0
 Remembers place tuple =
-    IsSomeAnd place.later (λ known. known.tuple ≡ tuple) ⊎ IsSomeAnd place.earlier (λ known. known.tuple ≡ tuple)
+    (place.later.tuple ≡ tuple) ⊎ (place.earlier.tuple ≡ tuple)

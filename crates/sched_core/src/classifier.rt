@@ -77,13 +77,14 @@ impl Classifier {
 
     /// The number of a packet's flow.
     // It takes the packet, and not its five-tuple: that would be copied for `dport` too, which wants the port alone.
+    #[inline(always)]
     pub(crate) fn flow_of(&mut self, packet: &Packet) -> u32
         ensures value { result ≡ flow_by self.old packet.now.tuple }
         ensures kept { self.new ≡ self.old }
     {
         match self {
             Classifier::Port(flows) => flows.flow_of(packet.dport()),
-            Classifier::Hash(numbers) => numbers.flow_of(&packet.tuple()),
+            Classifier::Hash(numbers) => numbers.flow_of(packet.tuple_words()),
         }
     }
 }

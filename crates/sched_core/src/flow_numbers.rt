@@ -1,12 +1,12 @@
 //! The flow numbers of five-tuples that came before. By the hash, the digest is most of an enqueue's time, and the
 //! packets of a conversation all have the number that its first one was given.
 
-ghost use Rattle.std.specs.Prelude.{◌≡◌, ◌≢◌, ◌<◌, ◌≤◌, IfOk, IfSome, IfNone, Some};
+ghost use Rattle.std.specs.Prelude.{◌≡◌, ◌<◌, ◌≤◌, IfOk};
 ghost use Rattle.packet_core.specs.FlowNumber.{flow_number};
 ghost use Rattle.packet_core.specs.declared.params.Classify.TheVariants.{Hash};
 
 use journal_core::Memory;
-use packet_core::{FiveTuple, Ip, Params, Seed, flow_of};
+use packet_core::{FiveTuple, Ip, Params, Seed, TupleWords, flow_of};
 use std::alloc::Global;
 use std::marker::Model;
 
@@ -19,18 +19,28 @@ const FIRST_FACTOR: u64 = 0x9e37_79b9_7f4a_7c15;
 /// What a seed's second half is mixed into.
 const SECOND_FACTOR: u64 = 0xd6e8_feb8_6659_fd93;
 
+/// The five-tuple that stands in each place at first, with its number: a place that can be empty takes one test more at
+/// each look.
+const FIRST_TUPLE: FiveTuple = FiveTuple {
+    proto: 0,
+    src: Ip::V4([0, 0, 0, 0]),
+    dst: Ip::V4([0, 0, 0, 0]),
+    sport: 0,
+    dport: 0,
+};
+
 /// A five-tuple and the number of its flow.
 #[derive(Clone, Copy, Debug)]
 pub(crate) struct Numbered {
-    tuple: FiveTuple,
+    tuple: TupleWords,
     flow: u32,
 }
 
 /// The last two five-tuples that came to a place, so that two which share one and come in turn both keep it.
 #[derive(Clone, Copy, Debug)]
 pub(crate) struct Place {
-    later: Option<Numbered>,
-    earlier: Option<Numbered>,
+    later: Numbered,
+    earlier: Numbered,
 }
 
 /// The choice by the hash, with the flow numbers of five-tuples that came before. Each five-tuple has one place. All
@@ -65,28 +75,44 @@ impl FlowNumbers {
     {
         let places = (PLACES_PER_FLOW * params.flows() as usize).next_power_of_two();
         let (first, second) = halves(&seed.0);
-        let empty = Place {
-            later: None,
-            earlier: None,
+        let first_known = Numbered::new(&params, &seed, TupleWords::new(&FIRST_TUPLE));
+        let place = Place {
+            later: first_known,
+            earlier: first_known,
         };
         Ok(FlowNumbers {
             params,
             seed,
-            places: vec![in alloc; empty; places]?,
+            places: vec![in alloc; place; places]?,
             // Odd ones, so that each multiplication loses nothing.
             factors: ((first ^ FIRST_FACTOR) | 1, (second ^ SECOND_FACTOR) | 1),
         })
     }
 
     /// The number of a five-tuple's flow.
-    // Kept out of its callers for the same reason as the digest, and so that by the port an enqueue has nothing of it.
-    #[inline(never)]
-    pub(crate) fn flow_of(&mut self, tuple: &FiveTuple) -> u32
-        ensures value { result ≡ flow_number Hash self.old.flows self.old.seed tuple.now }
+    // Merged into an enqueue but for the digest: what is compared is then in registers.
+    #[inline(always)]
+    pub(crate) fn flow_of(&mut self, tuple: TupleWords) -> u32
+        ensures value { result ≡ flow_number Hash self.old.flows self.old.seed tuple }
         ensures kept { self.new ≡ self.old }
     {
-        let number = place_of(tuple, self.factors, self.places.len());
+        let number = place_of(&tuple, self.factors, self.places.len());
         self.places[number].recall(&self.params, &self.seed, tuple)
+    }
+}
+
+impl Numbered {
+    ghost use Rattle.sched_core.specs.FlowNumbers.{HasFlowNumber};
+
+    /// A five-tuple with the number of its flow, which takes a digest.
+    fn new(params: &Params, seed: &Seed, tuple: TupleWords) -> Numbered
+        ensures number { HasFlowNumber params.now seed.now result }
+        ensures tuple { result.tuple ≡ tuple }
+    {
+        Numbered {
+            tuple,
+            flow: flow_of(params, seed, &tuple.tuple()),
+        }
     }
 }
 
@@ -95,74 +121,52 @@ impl Place {
 
     /// The number of a five-tuple's flow. A digest is taken only where it doesn't stand here. Then it comes here, and
     /// the earlier one of two goes.
-    fn recall(&mut self, params: &Params, seed: &Seed, tuple: &FiveTuple) -> u32
-        requires later { IfSome self.old.later (HasFlowNumber params.now seed.now) }
-        requires earlier { IfSome self.old.earlier (HasFlowNumber params.now seed.now) }
-        ensures value { result ≡ flow_number params.now.classify params.now.flows seed.now tuple.now }
+    #[inline(always)]
+    fn recall(&mut self, params: &Params, seed: &Seed, tuple: TupleWords) -> u32
+        requires later { HasFlowNumber params.now seed.now self.old.later }
+        requires earlier { HasFlowNumber params.now seed.now self.old.earlier }
+        ensures value { result ≡ flow_number params.now.classify params.now.flows seed.now tuple }
         ensures below { result < params.now.flows }
-        ensures later { IfSome self.new.later (HasFlowNumber params.now seed.now) }
-        ensures earlier { IfSome self.new.earlier (HasFlowNumber params.now seed.now) }
-        ensures remembered { Remembers self.new tuple.now }
-        ensures looked_at { Remembers self.old tuple.now → self.new ≡ self.old }
+        ensures later { HasFlowNumber params.now seed.now self.new.later }
+        ensures earlier { HasFlowNumber params.now seed.now self.new.earlier }
+        ensures remembered { Remembers self.new tuple }
+        ensures looked_at { Remembers self.old tuple → self.new ≡ self.old }
     {
-        if let Some(flow) = number_of(&self.later, tuple) {
-            return flow;
+        if self.later.tuple.is_same(&tuple) {
+            return self.later.flow;
         }
-        if let Some(flow) = number_of(&self.earlier, tuple) {
-            return flow;
+        if self.earlier.tuple.is_same(&tuple) {
+            return self.earlier.flow;
         }
-        let flow = flow_of(params, seed, tuple);
-        self.earlier = self.later;
-        self.later = Some(Numbered {
-            tuple: *tuple,
-            flow,
-        });
-        flow
+        self.remember(params, seed, tuple)
     }
-}
 
-/// The number that stands beside a five-tuple, where it is that one.
-fn number_of(entry: &Option<Numbered>, tuple: &FiveTuple) -> Option<u32>
-    ensures known { IfSome result (λ flow. entry.now ≡ Some (record { tuple = tuple.now; flow = flow })) }
-    ensures unknown { IfNone result (IfSome entry.now (λ known. known.tuple ≢ tuple.now)) }
-{
-    match entry {
-        Some(known) if known.tuple == *tuple => Some(known.flow),
-        _ => None,
+    /// The same where it doesn't stand here.
+    // Kept out of its callers, since few packets come to it.
+    #[inline(never)]
+    fn remember(&mut self, params: &Params, seed: &Seed, tuple: TupleWords) -> u32
+        ensures value { result ≡ flow_number params.now.classify params.now.flows seed.now tuple }
+        ensures later { HasFlowNumber params.now seed.now self.new.later }
+        ensures tuple { self.new.later.tuple ≡ tuple }
+        ensures flow { self.new.later.flow ≡ result }
+        ensures earlier { self.new.earlier ≡ self.old.later }
+    {
+        self.earlier = self.later;
+        self.later = Numbered::new(params, seed, tuple);
+        self.later.flow
     }
 }
 
 /// The place of a five-tuple, of so many.
-fn place_of(tuple: &FiveTuple, factors: (u64, u64), places: usize) -> usize
+#[inline(always)]
+fn place_of(tuple: &TupleWords, factors: (u64, u64), places: usize) -> usize
     requires { 1 ≤ places }
     ensures { result < places }
 {
     let (first, second) = factors;
-    let ends = word_of(&tuple.src, factors).rotate_left(32) ^ word_of(&tuple.dst, factors);
-    let ports = u64::from(tuple.proto) << 32
-        | u64::from(tuple.sport) << 16
-        | u64::from(tuple.dport);
-    // Of a product the high bits depend on all bits of both sides. Eighteen are enough for the most places.
-    let high = (mixed(ends, first) ^ ports).wrapping_mul(second) >> 46;
+    // Eighteen bits are enough for the most places.
+    let high = tuple.spread(first, second) >> 46;
     high as usize & (places - 1)
-}
-
-/// An address as a word: what it is for IPv4, so that two of them fill a word, and mixed for IPv6.
-fn word_of(address: &Ip, factors: (u64, u64)) -> u64 {
-    let (first, second) = factors;
-    match address {
-        Ip::V4(octets) => u64::from(u32::from_be_bytes(*octets)),
-        Ip::V6(octets) => {
-            let (front, back) = halves(octets);
-            mixed(mixed(front, second) ^ back, first)
-        }
-    }
-}
-
-/// A word times a factor, whose high bits are mixed into its low ones for the next multiplication.
-fn mixed(word: u64, factor: u64) -> u64 {
-    let product = word.wrapping_mul(factor);
-    product ^ product >> 32
 }
 
 /// Sixteen bytes as two words.

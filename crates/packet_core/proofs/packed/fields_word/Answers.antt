@@ -1,5 +1,5 @@
 use Rattle.std.proofs.Common.{arith, rules, ◌≡◌}
-use Rattle.packet_core.specs.PackedPackets.{SaysFields, fields_word}
+use Rattle.packet_core.specs.PackedPackets.{fields_word}
 use Rattle.packet_core.proofs.PackedLemmas.{fields_back}
 use Rattle.packet_core.proofs.packed.fields_word.Goals as goal
 

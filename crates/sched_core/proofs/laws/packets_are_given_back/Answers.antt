@@ -1,5 +1,4 @@
 use Rattle.fair_core.specs.FairQueues.{queue_of}
-use Rattle.fair_core.specs.FqCodel.{fq_codel}
 use Rattle.journal_core.proofs.KnownPackets.{answers_accepted}
 use Rattle.sched_core.specs.Schedulers.{discipline_of}
 use Rattle.sched_core.proofs.FqCodelRuns.{run_gives_back}

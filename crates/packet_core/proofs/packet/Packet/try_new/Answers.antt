@@ -1,5 +1,5 @@
 use Rattle.std.proofs.Common.{◌≡◌, rules, arith}
-use Rattle.packet_core.specs.Packets.{IsLengthInRange, PacketParts}
+use Rattle.packet_core.specs.Packets.{PacketParts}
 use Rattle.packet_core.proofs.PackedLemmas.{words_back, words_packed}
 use Rattle.packet_core.proofs.packet.Packet.try_new.Goals as goal
 

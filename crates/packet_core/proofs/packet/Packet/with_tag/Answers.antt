@@ -1,4 +1,4 @@
-use Rattle.std.proofs.Common.{◌≡◌, ap}
+use Rattle.std.proofs.Common.{ap}
 use Rattle.packet_core.specs.Packets.{PacketParts}
 use Rattle.packet_core.specs.PackedPackets.{parts_of}
 use Rattle.packet_core.proofs.PackedLemmas.{tagged_packed}

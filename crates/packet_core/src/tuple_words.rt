@@ -1,0 +1,112 @@
+//! Five-tuples in whole words.
+
+ghost use Rattle.std.specs.Prelude.{◌≡◌, ◌↔◌, IsTrue};
+ghost use Rattle.packet_core.specs.PackedPackets.{IsPacked, parts_of};
+
+use crate::packed::{address_words, fields_word, tuple_in};
+use crate::packet::{Ecn, FiveTuple};
+use std::fmt::{self, Debug, Formatter, Write};
+use std::marker::Model;
+
+/// A five-tuple in whole words, to be compared with others and to be found in a table. A packet gives it in fewer steps
+/// than a `FiveTuple`, and two of them are compared without a branch.
+// The words are those of a packet, but for its length and its ECN field: these bits are zero. So equal five-tuples have
+// equal words.
+#[derive(Clone, Copy, PartialEq, Eq)]
+pub struct TupleWords {
+    src: (u64, u64),
+    dst: (u64, u64),
+    fields: u64,
+}
+
+impl Model for TupleWords {
+    ghost use Rattle.packet_core.specs.declared.packet.FiveTuple.{FiveTuple};
+
+    ghost Value = { FiveTuple };
+
+    ghost use Rattle.packet_core.specs.PackedTuples.{IsTuplePacked, tuple_packed, tuple_in};
+
+    ghost view = { tuple_in };
+
+    ghost invariant = { IsTuplePacked };
+
+    ghost inverse = { tuple_packed };
+
+    ghost inverse_ok = { λ words is_packed. is_packed };
+}
+
+impl TupleWords {
+    /// The words of a five-tuple.
+    pub fn new(tuple: &FiveTuple) -> TupleWords
+        ensures { result ≡ tuple.now }
+    {
+        TupleWords {
+            src: address_words(&tuple.src),
+            dst: address_words(&tuple.dst),
+            fields: fields_word(tuple, 0, Ecn::NotEct),
+        }
+    }
+
+    /// What a packet's words say of its five-tuple.
+    #[inline(always)]
+    pub(crate) fn of_packet(src: (u64, u64), dst: (u64, u64), fields: u64) -> TupleWords
+        requires { IsPacked (record { src = src; dst = dst; fields = fields; tag = 0 }) }
+        ensures { result ≡ (parts_of (record { src = src; dst = dst; fields = fields; tag = 0 })).tuple }
+    {
+        TupleWords {
+            src,
+            dst,
+            // All bits but those of the length and the ECN field.
+            fields: fields & 0xfcff_ffff_0000_ffff,
+        }
+    }
+
+    /// The five-tuple.
+    pub fn tuple(&self) -> FiveTuple
+        ensures { result ≡ self.now }
+    {
+        tuple_in(self.src, self.dst, self.fields)
+    }
+
+    /// Whether the two are one five-tuple.
+    // All words are compared, since a branch for each takes longer.
+    #[inline(always)]
+    pub fn is_same(&self, other: &TupleWords) -> bool
+        ensures { IsTrue result ↔ (self.now ≡ other.now) }
+    {
+        (self.src.0 == other.src.0)
+            & (self.src.1 == other.src.1)
+            & (self.dst.0 == other.dst.0)
+            & (self.dst.1 == other.dst.1)
+            & (self.fields == other.fields)
+    }
+
+    /// A number whose high bits depend on all of the five-tuple and on both factors, which are odd: who doesn't know
+    /// them can't pick five-tuples that share these bits. That it spreads them isn't proved.
+    #[inline(always)]
+    pub fn spread(&self, first: u64, second: u64) -> u64 {
+        // Two addresses of IPv4 fill a word, and those of IPv6 are mixed into one each.
+        let kinds = self.fields >> 58;
+        let ends = if kinds == 0 {
+            self.src.0.rotate_left(32) ^ self.dst.0
+        } else {
+            let src = mixed(mixed(self.src.0, second) ^ self.src.1, first);
+            let dst = mixed(mixed(self.dst.0, second) ^ self.dst.1, first);
+            src.rotate_left(32) ^ dst ^ kinds
+        };
+        (mixed(ends, first) ^ self.fields).wrapping_mul(second)
+    }
+}
+
+/// It shows the five-tuple, and not the words.
+impl Debug for TupleWords {
+    fn fmt<W: Write>(&self, f: &mut Formatter<W>) -> fmt::Result {
+        self.tuple().fmt(f)
+    }
+}
+
+/// A word times a factor, whose high bits are mixed into its low ones for the next multiplication.
+fn mixed(word: u64, factor: u64) -> u64 {
+    let product = word.wrapping_mul(factor);
+    product ^ product >> 32
+}
