@@ -7,11 +7,12 @@ ghost use Rattle.journal_core.specs.Tallies.{IsTallied};
 ghost use Rattle.journal_core.specs.TupleRows.{tuple_rows};
 ghost use Rattle.trace_core.specs.Report as Report;
 
+use crate::address::AddressText;
 use crate::decimal::Digits;
 use crate::journal_report::SenderRow;
 use csv::{QuoteStyle, Writer, WriterBuilder};
 use journal_core::{Note, Noted, Tally};
-use packet_core::{Ecn, Ip};
+use packet_core::Ecn;
 use sched_core::{
     Answer, Cause, Engine, Event, Memory, MomentFault, Refusal, Sched, Totals, TupleRow,
 };
@@ -20,7 +21,6 @@ use std::alloc::{AllocError, Global};
 /// The rows of a report, as they are written.
 #[derive(Drop)]
 pub(crate) struct Rows {
-    alloc: Global,
     writer: Writer<Vec<u8>>,
 }
 
@@ -30,7 +30,6 @@ impl Rows {
         ensures { Report.HasText result [] }
     {
         Rows {
-            alloc,
             // Rows have different numbers of fields. These are words, numbers and addresses, which need no quotes.
             writer: WriterBuilder::new()
                 .flexible(true)
@@ -94,7 +93,7 @@ impl Rows {
         ensures { IfOk result (λ text. (written : List ℕ)
             → Report.HasText self written → text.items ≡ written) }
     {
-        let Rows { alloc: _, writer } = self;
+        let Rows { writer } = self;
         writer.into_inner().map_err(|_| AllocError)
     }
 
@@ -254,8 +253,8 @@ impl Rows {
         ensures { OnOk result (Report.Adds self.old self.new (Report.tuple_line row.now)) }
     {
         let proto = Digits::of(u64::from(row.tuple.proto));
-        let src = self.address(row.tuple.src)?;
-        let dst = self.address(row.tuple.dst)?;
+        let src = AddressText::of(row.tuple.src);
+        let dst = AddressText::of(row.tuple.dst);
         let sport = Digits::of(u64::from(row.tuple.sport));
         let dport = Digits::of(u64::from(row.tuple.dport));
         let flow = Digits::of(u64::from(row.flow));
@@ -303,25 +302,6 @@ impl Rows {
             accepted.as_bytes(),
             left.as_bytes(),
         ])
-    }
-
-    /// An address: one of IPv4 as four numbers with a dot between each two, and one of IPv6 (RFC 4291) as 32
-    /// hexadecimal digits of lower case.
-    fn address(&self, address: Ip) -> Result<String, Memory>
-        ensures { IfOk result (λ text. string_bytes text ≡ Report.address_text address) }
-    {
-        match address {
-            Ip::V4(octets) => self.dotted(octets),
-            Ip::V6(octets) => hex::encode(self.alloc, octets),
-        }
-    }
-
-    /// Four numbers with a dot between each two.
-    fn dotted(&self, octets: [u8; 4]) -> Result<String, Memory>
-        ensures { IfOk result (λ text. string_bytes text ≡ Report.dotted octets) }
-    {
-        let [first, second, third, fourth] = octets;
-        format!(in self.alloc; "{first}.{second}.{third}.{fourth}")
     }
 }
 
