@@ -5,7 +5,7 @@ ghost use Rattle.packet_core.specs.FlowNumber.{flow_number};
 
 use crate::flow_numbers::FlowNumbers;
 use journal_core::Memory;
-use packet_core::{Classify, Packet, Params, Seed};
+use packet_core::{Classify, Packet, Params, Seed, flow_of};
 use std::alloc::Global;
 use std::marker::Model;
 
@@ -89,18 +89,23 @@ impl Classifier {
     }
 }
 
+/// A table of five-tuples is taken where at least as many packets as this come for each flow. For fewer of them their
+/// digests take less time than it.
+const PACKETS_PER_FLOW: u64 = 4;
+
 /// The choice of packets' flows by parameters and a seed, as a scheduler with the same parameters and seed makes it. By
 /// the hash it remembers five-tuples that came before: only one that isn't remembered takes a digest. All memory is taken
-/// by `try_new`.
+/// when it is made.
 #[derive(Debug, Drop)]
 pub struct FlowChooser {
     params: Params,
     seed: Seed,
-    classifier: Classifier,
+    // None where each packet takes a digest.
+    classifier: Option<Classifier>,
 }
 
 impl Model for FlowChooser {
-    ghost use Rattle.std.specs.Prelude.{◌≡◌};
+    ghost use Rattle.std.specs.Prelude.{◌≡◌, IfSome};
     ghost use Rattle.sched_core.specs.Choosing.{Choosing};
     ghost use Rattle.sched_core.specs.Classifiers.{classifier_by};
 
@@ -108,7 +113,7 @@ impl Model for FlowChooser {
 
     ghost view = { λ c. record { params = c.params; seed = c.seed } };
 
-    ghost invariant = { λ c. c.classifier ≡ classifier_by c.params.classify c.params.flows c.seed };
+    ghost invariant = { λ c. IfSome c.classifier (λ k. k ≡ classifier_by c.params.classify c.params.flows c.seed) };
 }
 
 impl FlowChooser {
@@ -120,16 +125,42 @@ impl FlowChooser {
         Ok(FlowChooser {
             params,
             seed,
-            classifier,
+            classifier: Some(classifier),
         })
+    }
+
+    /// The same choice for about so many packets. By the hash it remembers five-tuples only where there are at least
+    /// four packets for each flow: for fewer of them their digests take less time than what it would remember them in,
+    /// and it takes no memory.
+    pub fn try_new_for(
+        alloc: Global,
+        params: Params,
+        seed: Seed,
+        packets: u64,
+    ) -> Result<FlowChooser, Memory>
+        ensures { IfOk result (λ chooser. chooser ≡ record { params = params; seed = seed }) }
+    {
+        let few = packets / PACKETS_PER_FLOW < u64::from(params.flows());
+        if few && params.classify() == Classify::Hash {
+            return Ok(FlowChooser {
+                params,
+                seed,
+                classifier: None,
+            });
+        }
+        FlowChooser::try_new(alloc, params, seed)
     }
 
     /// The number of a packet's flow, below the number of flows (RFC 8290, section 4.1).
     pub fn flow_of(&mut self, packet: &Packet) -> u32
         ensures value { result
             ≡ flow_number self.old.params.classify self.old.params.flows self.old.seed packet.now.tuple }
+        ensures below { result < self.old.params.flows }
         ensures kept { self.new ≡ self.old }
     {
-        self.classifier.flow_of(packet)
+        match &mut self.classifier {
+            Some(classifier) => classifier.flow_of(packet),
+            None => flow_of(&self.params, &self.seed, &packet.tuple()),
+        }
     }
 }
