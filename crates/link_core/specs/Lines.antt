@@ -1,5 +1,5 @@
 -- A link's run over a plain queue on the way.
-use Rattle.std.specs.Prelude.{◌≡◌, ℕ, ◌+◌, ◌<◌, ◌≤◌, false, List, [], ◌∷◌, ◌++◌, All, length, map, Option, IfSome}
+use Rattle.std.specs.Prelude.{◌≡◌, ℕ, ◌+◌, ◌<◌, ◌≤◌, false, List, [], ◌∷◌, ◌++◌, All, length, map, Option}
 use Rattle.packet_core.specs.FlowNumber.{flow_number}
 use Rattle.packet_core.specs.declared.flow.Seed.{Seed}
 use Rattle.packet_core.specs.declared.packet.Waiting.{Waiting}
@@ -10,7 +10,6 @@ use Rattle.journal_core.specs.declared.step.Step.{Step}
 use Rattle.journal_core.specs.Calls.{Standing}
 use Rattle.journal_core.specs.Disciplines.{Given}
 use Rattle.journal_core.specs.Steps.{drop_event, sent_events}
-use Rattle.sched_core.specs.Choosing.{Choosing}
 use Rattle.link_core.specs.declared.arrival.Arrival.{Arrival}
 use Rattle.link_core.specs.declared.free_at.FreeAt.{FreeAt}
 use Rattle.link_core.specs.declared.line.Line.{Line}
@@ -45,10 +44,6 @@ waiting_next l a = record { id = l.arrived; stamp = a.moment; packet = a.packet 
 -- the number of the flow that these parameters and this seed choose for the packet
 pub record HasFlow (p : ParamFields) (seed : Seed) (flow : ℕ) (a : Arrival) : Type 0 where
   pub value : flow ≡ flow_number p.classify p.flows seed a.packet.tuple
-
--- a chooser of flows by these parameters and this seed, if there is one
-abbrev pub IsChooserOf : ParamFields → Seed → Option Choosing → Type 0
-IsChooserOf p seed chooser = IfSome chooser (λ c. c ≡ record { params = p; seed = seed })
 
 -- The packet came in.
 pub record HasTakenIn (old : Line) (a : Arrival) (new : Line) : Type 0 where

@@ -22,7 +22,7 @@ loop-i-preserved c =
       on_link = subst (λ (r : List Arrival). IsOnFifo c.args.link.now c.args.arrivals.now c.meet_next.new.self c.in_ok-busy.busy r) (next_of c.args.arrivals.now c.loop-i.i) done.on_link;
       params = done.kept.params ∙ inv.params;
       seed = done.kept.seed ∙ inv.seed;
-      chooser = c.chosen_flow-flow.ensures.kept;
+      chooser = c.flow_of-flow.ensures.kept ∙ inv.chooser;
     }
 
 pub meet_next-requires-clause-flow : goal.meet_next-requires-clause-flow
@@ -30,8 +30,8 @@ meet_next-requires-clause-flow c =
     let inv = c.loop-i.invariant in
     let all = c.args.arrivals.now in
     let here = c.index-arrivals-i.result in
-    let P = λ (a : Arrival). HasFlow c.loop-i.line.params c.loop-i.line.seed c.chosen_flow-flow.result a in
-    let its : P (get_or all c.loop-i.i here) = record { value = rw (inv.params, inv.seed) c.chosen_flow-flow.ensures.value } in
+    let P = λ (a : Arrival). HasFlow c.loop-i.line.params c.loop-i.line.seed c.flow_of-flow.result a in
+    let its : P (get_or all c.loop-i.i here) = record { value = rw (inv.params, inv.seed) (rw inv.chooser at c.flow_of-flow.ensures.value) } in
     rw (rest_of all c.loop-i.i) (first_from P all c.loop-i.i here (omega arith) its)
 
 pub ask_before-requires-clause-on_link : goal.ask_before-requires-clause-on_link

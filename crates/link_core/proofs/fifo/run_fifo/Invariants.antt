@@ -1,5 +1,5 @@
 use Rattle.std.proofs.Common.{◌≡◌, drop}
-use Rattle.link_core.specs.Lines.{IsChooserOf, IsOnFifo}
+use Rattle.link_core.specs.Lines.{IsOnFifo}
 use Rattle.link_core.proofs.fifo.run_fifo.Given as goal
 
 -- the arrivals so far were met, and flows are chosen by the same parameters and seed
@@ -8,5 +8,5 @@ invariant-loop-i l = record {
   on_link : IsOnFifo l.link l.arrivals l.line l.busy (drop l.i l.arrivals);
   params : l.line.params ≡ l.fn.params;
   seed : l.line.seed ≡ l.fn.seed;
-  chooser : IsChooserOf l.fn.params l.fn.seed l.chooser;
+  chooser : l.chooser ≡ record { params = l.fn.params; seed = l.fn.seed };
 }
