@@ -8,16 +8,11 @@ use Rattle.packet_core.specs.declared.flow.Seed.{Seed}
 use Rattle.packet_core.specs.declared.params.ParamFields.{ParamFields}
 use Rattle.journal_core.specs.declared.step.Step.{Step}
 use Rattle.journal_core.specs.declared.step.Step.TheVariants.{Enqueue, Dequeue, Close}
-use Rattle.sched_core.specs.Choosing.{Choosing}
 use Rattle.port_core.specs.Lanes.{Sending}
 use Rattle.port_core.specs.Ports.{Seat}
 use Rattle.port_core.specs.Senders.{SendsSome}
 use Rattle.port_core.specs.declared.gate.Stop.{Stop}
 use Rattle.port_core.specs.declared.gate.Stop.TheVariants as stop
-
--- a chooser of flows by these parameters and this seed, if there is one
-abbrev pub IsChooserOf : ParamFields → Seed → Option Choosing → Type 0
-IsChooserOf p seed chooser = IfSome chooser (λ c. c ≡ record { params = p; seed = seed })
 
 -- the sender of a packet: its flow modulo the number of senders
 abbrev pub sender_of : ParamFields → Seed → ℕ → PacketParts → ℕ

@@ -1,10 +1,9 @@
 //! The senders of a trace: the packets of each, and their threads.
 ghost use Rattle.std.specs.Prelude.{◌≡◌, ◌<◌, ℕ, IfOk, length, map, slice_index_or};
 ghost use denote.Param.Send.{IsSend, IsSync};
-ghost use Rattle.packet_core.specs.FlowNumber.{flow_number};
-ghost use Rattle.sender_core.specs.Senders.{AreCalls, IsChooserOf, IsDone, LetsThrough};
+ghost use Rattle.sender_core.specs.Senders.{AreCalls, IsDone, LetsThrough};
 
-use packet_core::{Packet, Params, Seed, flow_of};
+use packet_core::{Packet, Params, Seed};
 use port_core::{Gate, LockedDone, LockedPort, PortSeat, send_locked};
 use sched_core::{FlowChooser, Step};
 use std::alloc::{AllocError, Global};
@@ -28,50 +27,15 @@ pub fn lists_of(
     for _sender in 0..senders {
         lists.push(Vec::new(alloc))?;
     }
-    let mut chooser = chooser_for(alloc, params, seed, steps.len())?;
+    // A digest takes more time than all else that is done for a packet.
+    let mut chooser = FlowChooser::try_new_for(alloc, *params, *seed, steps.len() as u64)?;
     for step in steps {
         if let Step::Enqueue { moment, packet, .. } = *step {
-            let sender = chosen_flow(&mut chooser, params, seed, &packet) % senders;
+            let sender = chooser.flow_of(&packet) % senders;
             lists[sender as usize].push((moment, packet))?;
         }
     }
     Ok(lists)
-}
-
-/// What chooses the flows of the packets of so many steps: a chooser that remembers five-tuples, or none, where they are
-/// so few that their digests take less time than its table.
-// A digest takes more time than all else that is done for a packet. The table has four places for each flow.
-fn chooser_for(
-    alloc: Global,
-    params: &Params,
-    seed: &Seed,
-    steps: usize,
-) -> Result<Option<FlowChooser>, AllocError>
-    ensures { IfOk result (λ chooser. IsChooserOf params.now seed.now chooser) }
-{
-    if steps < params.flows() as usize {
-        return Ok(None);
-    }
-    let chooser = FlowChooser::try_new(alloc, *params, *seed)?;
-    Ok(Some(chooser))
-}
-
-/// The number of a packet's flow.
-fn chosen_flow(
-    chooser: &mut Option<FlowChooser>,
-    params: &Params,
-    seed: &Seed,
-    packet: &Packet,
-) -> u32
-    requires { IsChooserOf params.now seed.now chooser.old }
-    ensures value { result
-        ≡ flow_number params.now.classify params.now.flows seed.now packet.now.tuple }
-    ensures kept { IsChooserOf params.now seed.now chooser.new }
-{
-    match chooser {
-        Some(chooser) => chooser.flow_of(packet),
-        None => flow_of(params, seed, &packet.tuple()),
-    }
 }
 
 /// What one sender is given.

@@ -1,4 +1,4 @@
-use Rattle.std.proofs.Common.{◌≡◌, ◌++◌, ◌∷◌, [], ◌%◌, ◌+◌, ◌<◌, ℕ, Vec, Global, arith, get_or, rules, slice_index_or, subst, sym, take}
+use Rattle.std.proofs.Common.{◌≡◌, ◌∙◌, ◌++◌, ◌∷◌, [], ◌%◌, ◌+◌, ◌<◌, ℕ, Vec, Global, arith, get_or, rules, slice_index_or, subst, sym, take}
 use Rattle.packet_core.specs.Packets.{PacketParts}
 use Rattle.journal_core.specs.declared.step.Step.{Step}
 use Rattle.sender_core.specs.Senders.{AreCalls, sender_of}
@@ -22,14 +22,14 @@ loop-step-preserved c =
     elim c.match-step.branch [
       | in-Enqueue+in_ok-push-2 w ↦
           let p = w.in-Enqueue.packet in
-          let sender = w.chosen_flow.result % c.args.senders in
+          let sender = w.flow_of.result % c.args.senders in
           let new = w.push-in-Enqueue.new.self in
           let stands = subst (λ (x : Step). x ≡ get_or steps k x) w.in-Enqueue.is c.step-item.is in
           let own : sender ≡ sender_of c.args.params.now c.args.seed.now c.args.senders p = search rules in
           let below : sender < c.args.senders = search rules in
           let pushed : new.items ≡ (slice_index_or c.loop-step.lists.items sender new).items ++ (w.in-Enqueue.moment, p) ∷ [] = search rules in
           record {
-            chooser = rw w.chooser-is w.chosen_flow.ensures.kept;
+            chooser = rw w.chooser-is (w.flow_of.ensures.kept ∙ c.loop-step.invariant.chooser);
             calls = subst (λ (v : Vec (Vec (ℕ × PacketParts) Global) Global). AreCalls c.args.params.now c.args.seed.now c.args.senders (take (k + 1) steps) v.items) (sym w.lists-is)
                 (calls_push c.args.params.now c.args.seed.now c.args.senders steps k w.in-Enqueue.moment w.in-Enqueue.lane p c.loop-step.lists.items sender new new
                 c.loop-step-test.true stands own below pushed c.loop-step.invariant.calls);

@@ -1,6 +1,6 @@
 use Rattle.std.proofs.Common.{◌≡◌, ◌<◌, ℕ, [], Vec, Global, length, slice_index_or, take}
 use Rattle.packet_core.specs.Packets.{PacketParts}
-use Rattle.sender_core.specs.Senders.{AreCalls, IsChooserOf}
+use Rattle.sender_core.specs.Senders.{AreCalls}
 use Rattle.sender_core.proofs.senders.lists_of.Given as goal
 
 abbrev pub invariant-loop-sender : goal.invariant-loop-sender
@@ -11,5 +11,5 @@ invariant-loop-sender l =
 abbrev pub invariant-loop-step : goal.invariant-loop-step
 invariant-loop-step l = record {
   calls : AreCalls l.fn.params l.fn.seed l.senders (take l.step-index l.steps) l.lists.items;
-  chooser : IsChooserOf l.fn.params l.fn.seed l.chooser;
+  chooser : l.chooser ≡ record { params = l.fn.params; seed = l.fn.seed };
 }
