@@ -1,6 +1,6 @@
 //! Packets: each part that goes in comes back, alone and beside the greatest values of the other parts.
 
-use packet_core::{Ecn, FiveTuple, Ip, Packet};
+use packet_core::{Ecn, FiveTuple, Ip, Packet, TupleWords};
 use std::process::Abort;
 
 /// An address of IPv4 whose bytes all differ.
@@ -8,6 +8,9 @@ const SHORT: Ip = Ip::V4([10, 2, 3, 4]);
 
 /// An address of IPv6 whose bytes all differ.
 const LONG: Ip = Ip::V6([32, 1, 13, 184, 4, 5, 6, 7, 8, 9, 10, 11, 12, 14, 15, 255]);
+
+/// An address of IPv6 that begins with the bytes of the one of IPv4.
+const OTHER: Ip = Ip::V6([10, 2, 3, 4, 0, 0, 0, 0, 0, 0, 0, 0, 0, 0, 0, 0]);
 
 /// A packet with the greatest values, but for its addresses, ECN field and tag.
 fn greatest(rt: &impl Abort, src: Ip, dst: Ip, ecn: Ecn) -> Packet {
@@ -35,6 +38,43 @@ fn addresses_come_back(rt: &impl Abort, src: Ip, dst: Ip) {
     assert_eq!(rt; packet.tag(), u64::MAX);
 }
 
+/// Whether the words of a packet between two addresses are those of its five-tuple and of no other, whatever its length
+/// and its ECN field are.
+fn words_are_of_one_five_tuple(rt: &impl Abort, src: Ip, dst: Ip) {
+    let packet = greatest(rt, src, dst, Ecn::Ect1);
+    let tuple = packet.tuple();
+    let words = packet.tuple_words();
+    assert!(rt; words.tuple() == tuple);
+    assert!(rt; words.is_same(&TupleWords::new(&tuple)));
+    let shorter = Packet::try_new(tuple, 1, Ecn::Ce).expect(rt, "a packet");
+    assert!(rt; words.is_same(&shorter.tuple_words()));
+    let others = [
+        FiveTuple {
+            proto: 254,
+            ..tuple
+        },
+        FiveTuple {
+            sport: 32_767,
+            ..tuple
+        },
+        FiveTuple {
+            dport: 65_534,
+            ..tuple
+        },
+        FiveTuple {
+            src: OTHER,
+            ..tuple
+        },
+        FiveTuple {
+            dst: OTHER,
+            ..tuple
+        },
+    ];
+    for other in &others {
+        assert!(rt; !words.is_same(&TupleWords::new(other)));
+    }
+}
+
 #[cfg(test)]
 mod tests {
     use super::*;
@@ -46,6 +86,14 @@ mod tests {
         addresses_come_back(&rt, SHORT, LONG);
         addresses_come_back(&rt, LONG, SHORT);
         addresses_come_back(&rt, LONG, LONG);
+    }
+
+    #[test]
+    fn words_tell_five_tuples_apart(rt: HostRuntime) {
+        words_are_of_one_five_tuple(&rt, SHORT, SHORT);
+        words_are_of_one_five_tuple(&rt, SHORT, LONG);
+        words_are_of_one_five_tuple(&rt, LONG, SHORT);
+        words_are_of_one_five_tuple(&rt, LONG, LONG);
     }
 
     #[test]
