@@ -1,8 +1,11 @@
 -- The five-tuples of packets, and the packet whose fate is set.
-use Rattle.std.proofs.Common.{◌≡◌, ◌==◌, ◌&&◌, ℕ, zero, suc, ◌+◌, ◌<◌, ◌≤◌, Bool, List, [], ◌∷◌, ◌++◌, get_or, set, length, fold, refl, sym, ap, ◌∙◌, arith}
-use Rattle.std.specs.List.{list_any, position_or_len}
+use Rattle.std.proofs.Common.{◌≡◌, ◌==◌, ◌&&◌, ℕ, zero, suc, ◌+◌, ◌<◌, ◌≤◌, Bool, true, false, List, [], ◌∷◌, ◌++◌, get_or, inl, inr, set, length, fold, refl, sym, ap, ◌∙◌, arith}
+use Rattle.std.specs.List.{IsDistinct, position_or_len}
 use Rattle.std.proofs.Math.Bool.{and_assoc}
-use Rattle.std.proofs.lemmas.List.{length-set, length_push}
+use Rattle.std.proofs.lemmas.Bool.{cases_Bool}
+use Rattle.std.proofs.lemmas.List.{length_push}
+use Rattle.std.proofs.lemmas.List.Elements.{All-from_recursion}
+use Rattle.std.proofs.lemmas.List.Folds.{list_any_at}
 use Rattle.packet_core.specs.Packets.{same_ip, same_tuple}
 use Rattle.packet_core.specs.declared.packet.Ip.{Ip}
 use Rattle.packet_core.specs.declared.packet.Ip.TheVariants.{V4, V6}
@@ -12,6 +15,7 @@ use Rattle.packet_core.specs.contracts.packet.IpPartialEq.TheImpl as ip_equality
 use Rattle.journal_core.specs.TupleRows.{with_new}
 use Rattle.journal_core.specs.declared.event.Event.{Event}
 use Rattle.journal_core.specs.declared.event.Event.TheVariants as event
+use Rattle.journal_core.proofs.LawsOfHistory.{same_tuple-Decides}
 use Rattle.journal_core.proofs.TupleEquality.{any_agree}
 use Rattle.link_report.specs.declared.packets.Fate.{Fate}
 use Rattle.link_report.specs.declared.packets.Fate.TheVariants.{Waiting, Sent, Dropped}
@@ -38,6 +42,33 @@ tuples_agree a b =
 -- the number that the set gives
 pub numbers_agree : (t : FiveTuple) (ts : List FiveTuple) → position_or_len ((tuple_equality.ghosts).eq t) ts ≡ number_of ts t
 numbers_agree t ts = ap (λ (test : FiveTuple → Bool). position_or_len test ts) (λ i. λ u. tuples_agree t u i)
+
+-- Where a five-tuple is the same as one of others that are all different, that one is the first.
+first_of_distinct : (t : FiveTuple) (ts : List FiveTuple) (i : ℕ) (d : FiveTuple) → IsDistinct (tuple_equality.ghosts).eq ts → i < length ts → (tuple_equality.ghosts).eq t (get_or ts i d) ≡ true
+    → position_or_len ((tuple_equality.ghosts).eq t) ts ≡ i
+unfolding IsDistinct
+first_of_distinct t [] i d distinct low same = absurd (omega arith)
+first_of_distinct t (u ∷ ts) zero d distinct low same = rw same refl
+first_of_distinct t (u ∷ ts) (suc i) d distinct low same =
+    let is : t ≡ get_or ts i d = (same_tuple-Decides t (get_or ts i d)).0 (sym (tuples_agree t (get_or ts i d)) ∙ same) in
+    let apart : (tuple_equality.ghosts).eq u (get_or ts i d) ≡ false = All-from_recursion (λ (x : FiveTuple). (tuple_equality.ghosts).eq u x ≡ false) ts distinct.0 i d (omega arith) in
+    let other : (tuple_equality.ghosts).eq t u ≡ false = elim (cases_Bool ((tuple_equality.ghosts).eq t u)) [
+      | inl equal ↦
+          let was : t ≡ u = (same_tuple-Decides t u).0 (sym (tuples_agree t u) ∙ equal) in
+          cc (apart, is, was)
+      | inr differ ↦ differ
+    ] in
+    let next : 1 + i ≡ suc i = omega arith in
+    rw other (ap (λ n. 1 + n) (first_of_distinct t ts i d distinct.1 (omega arith) same) ∙ next)
+
+-- so its place is its number,
+pub number_at : (t : FiveTuple) (ts : List FiveTuple) (i : ℕ) (d : FiveTuple) → IsDistinct (tuple_equality.ghosts).eq ts → i < length ts → (tuple_equality.ghosts).eq t (get_or ts i d) ≡ true
+    → number_of ts t ≡ i
+number_at t ts i d distinct low same = sym (numbers_agree t ts) ∙ first_of_distinct t ts i d distinct low same
+
+-- and it is none more.
+pub known_at : (t : FiveTuple) (ts : List FiveTuple) (i : ℕ) (d : FiveTuple) → i < length ts → (tuple_equality.ghosts).eq t (get_or ts i d) ≡ true → with_new same_tuple ts t ≡ ts
+known_at t ts i d low same = rw (sym (any_agree t ts) ∙ list_any_at ((tuple_equality.ghosts).eq t) ts i d low same) refl
 
 -- setting the fate of the packet at a place
 pub with_fate_at : (ps : List PacketRecord) (id : ℕ) (fate : Fate) (d : PacketRecord) → id < length ps → with_fate ps id fate ≡ set ps id (record (get_or ps id d) { fate = fate })

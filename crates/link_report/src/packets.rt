@@ -1,6 +1,9 @@
 //! The packets of a journal, and what became of each.
 
-ghost use Rattle.std.specs.Prelude.{◌≡◌, ◌<◌, ◌≤◌, ◌+◌, IfOk, OnOk, length};
+ghost use Rattle.std.specs.Prelude.{◌≡◌, ◌<◌, ◌≤◌, ◌+◌, IfOk, OnOk, length, true};
+ghost use Rattle.packet_core.specs.Packets.{same_tuple};
+ghost use Rattle.journal_core.specs.TupleRows.{with_new};
+ghost use Rattle.link_report.specs.Packets as Spec;
 ghost use Rattle.link_report.specs.Packets.{delay_sent, is_codel_drop, is_marked, is_overflow_drop, is_sent, known_of, last_moment, sent_len, with_event, with_fate};
 
 use indexmap::IndexSet;
@@ -8,6 +11,10 @@ use journal_core::{Cause, Event, Mark, Memory};
 use packet_core::{Ecn, FiveTuple, Packet};
 use std::alloc::Global;
 use std::marker::Model;
+
+/// How many places remember the number of the five-tuple that was seen last. A flow has the place of its number, modulo
+/// this.
+const PLACES: usize = 1_024;
 
 /// What became of a packet. Moments are in microseconds.
 #[derive(Clone, Copy, Debug, PartialEq, Eq)]
@@ -176,14 +183,15 @@ impl Packets {
         ensures { IfOk result (λ packets. packets ≡ known_of events.now) }
     {
         let mut packets = Packets::new(alloc);
+        let mut latest = [0; PLACES];
         for event in events {
-            packets.add(event)?;
+            packets.add(event, &mut latest)?;
         }
         Ok(packets)
     }
 
-    /// Adds what an event says.
-    fn add(&mut self, event: &Event) -> Result<(), Memory>
+    /// Adds what an event says. `latest` has, at each place, the number of the five-tuple that was seen last there.
+    fn add(&mut self, event: &Event, latest: &mut [usize; PLACES]) -> Result<(), Memory>
         requires { self.old.sent < u64.MAX }
         ensures { OnOk result (self.new ≡ with_event self.old event.now) }
     {
@@ -194,7 +202,10 @@ impl Packets {
                 flow,
                 packet,
                 ..
-            } => self.arrive(id, moment, flow, &packet)?,
+            } => {
+                let number = &mut latest[flow as usize % PLACES];
+                self.arrive(id, moment, flow, &packet, number)?;
+            }
             Event::Sent {
                 id,
                 moment,
@@ -219,11 +230,19 @@ impl Packets {
         Ok(())
     }
 
-    /// Adds a packet that arrived.
-    fn arrive(&mut self, id: u64, moment: u64, flow: u32, packet: &Packet) -> Result<(), Memory>
+    /// Adds a packet that arrived. `number` is a number that its five-tuple may have, and is then that which it has.
+    fn arrive(
+        &mut self,
+        id: u64,
+        moment: u64,
+        flow: u32,
+        packet: &Packet,
+        number: &mut usize,
+    ) -> Result<(), Memory>
         ensures { OnOk result (self.new ≡ arrived self.old id moment flow packet.now) }
     {
-        let (tuple, _) = self.tuples.insert_full(packet.tuple())?;
+        let tuple = number_of(&mut self.tuples, packet.tuple(), *number)?;
+        *number = tuple;
         self.records.push(PacketRecord {
             id,
             tuple: tuple as u64,
@@ -249,6 +268,31 @@ impl Packets {
     {
         &self.records
     }
+}
+
+/// The number of a five-tuple, which is then among those. Where it has the number `guess` it isn't hashed.
+fn number_of(
+    tuples: &mut IndexSet<FiveTuple>,
+    tuple: FiveTuple,
+    guess: usize,
+) -> Result<usize, Memory>
+    ensures number { IfOk result (λ number. number ≡ Spec.number_of tuples.old.keys tuple) }
+    ensures tuples { OnOk result (tuples.new.keys ≡ with_new same_tuple tuples.old.keys tuple) }
+{
+    if has_number(tuples, &tuple, guess) {
+        return Ok(guess);
+    }
+    let (number, _) = tuples.insert_full(tuple)?;
+    Ok(number)
+}
+
+/// Whether a five-tuple is among those and has that number.
+fn has_number(tuples: &IndexSet<FiveTuple>, tuple: &FiveTuple, number: usize) -> bool
+    ensures number { result ≡ true → Spec.number_of tuples.now.keys tuple.now ≡ number }
+    ensures known { result ≡ true → with_new same_tuple tuples.now.keys tuple.now ≡ tuples.now.keys }
+{
+    let known = tuples.as_slice();
+    number < known.len() && *tuple == known[number]
 }
 
 /// Sets the fate of the packet with that id, if there is one.
