@@ -164,9 +164,10 @@ fn place_of(tuple: &TupleWords, factors: (u64, u64), places: usize) -> usize
     ensures { result < places }
 {
     let (first, second) = factors;
-    // Eighteen bits are enough for the most places.
+    // Eighteen bits are enough for the most places. A bit of a product depends on the bits of both sides up to it alone,
+    // so the topmost ones are mixed into those below: of few places the number depends on the protocol, too.
     let high = tuple.spread(first, second) >> 46;
-    high as usize & (places - 1)
+    (high ^ high >> 9) as usize & (places - 1)
 }
 
 /// Sixteen bytes as two words.

@@ -1,5 +1,5 @@
 -- Steps of a shaper's scheduler, and the room for more.
-use Rattle.std.proofs.Common.{◌≡◌, ℕ, ◌+◌, ◌≤◌, max, Ok, Err, length, sym, subst, arith}
+use Rattle.std.proofs.Common.{◌≡◌, ℕ, ◌+◌, ◌≤◌, Ok, Err, length, sym, subst, arith}
 use Rattle.std.specs.Prelude.{OnErr, OnOk, Result}
 use Rattle.journal_core.specs.declared.outcome.Answer.{Answer}
 use Rattle.journal_core.specs.declared.outcome.Answer.TheVariants as answer
@@ -13,11 +13,6 @@ use Rattle.shaper_core.proofs.StepDrops.{close_settles}
 pub advanced_with_room : {old mid new : Scheduler} {step : Step} {said : Answer} → IsAdvanced old step said mid → new ≡ record mid { room = new.room } → IsAdvanced old step said new
 advanced_with_room {old} {mid} {new} {step} {said} a same =
     subst (λ (s : Scheduler). IsAdvanced old step said s) (sym same) (record { advances = a.advances; params = a.params; seed = a.seed; turns = a.turns })
-
--- A reservation takes no room away.
-pub room_stays : {A E : Type 0} (r : Result A E) (mid new : Scheduler) → OnOk r (new.room ≡ max mid.room 1) → OnErr r (new ≡ mid) → mid.room ≤ new.room
-room_stays (Ok a) mid new is same = omega (arith, is)
-room_stays (Err e) mid new is same = let room : new.room ≡ mid.room = λ i. (same i).room in omega arith
 
 -- so many drops came after the last acceptance
 abbrev pub Reach : ℕ → Scheduler → Type 0

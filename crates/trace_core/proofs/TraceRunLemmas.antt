@@ -95,7 +95,7 @@ step_accepts d old step said made new = by (refusal_of old step)
     by None makes = makes_accepts d old step said made new makes
     by (Some r) refused = subst (AcceptsBy step) (sym refused.1) (refused_accepts step)
 
--- an enqueue whose first note is of an acceptance accepts that packet alone,
+-- an enqueue whose first note is of an acceptance accepts that packet alone
 pub accepts_one : (moment lane : ℕ) (packet : PacketParts) (made : List Event) (flow : ℕ) → AcceptsBy (Enqueue moment lane packet) made → accepted_flow (map note_of made) ≡ Some flow
     → (a : Acceptance) × (acceptances made ≡ a ∷ []) × (a.packet ≡ packet) × (a.flow ≡ flow)
 accepts_one moment lane packet [] flow accepts is = absurd cc
@@ -106,11 +106,3 @@ accepts_one moment lane packet (Accepted l id m f p ∷ rest) flow (a, is_first,
 accepts_one moment lane packet (Sent id m ecn mark ∷ rest) flow accepts is = absurd cc
 accepts_one moment lane packet (Dropped id m why ∷ rest) flow accepts is = absurd cc
 accepts_one moment lane packet (Closed m ∷ rest) flow accepts is = absurd cc
-
--- and one with another first note, or with none, nothing
-pub accepts_none : (moment lane : ℕ) (packet : PacketParts) (made : List Event) → AcceptsBy (Enqueue moment lane packet) made → accepted_flow (map note_of made) ≡ None → acceptances made ≡ []
-accepts_none moment lane packet [] accepts is = refl
-accepts_none moment lane packet (Accepted l id m f p ∷ rest) accepts is = absurd cc
-accepts_none moment lane packet (Sent id m ecn mark ∷ rest) (a, is_first, _, _) is = absurd cc
-accepts_none moment lane packet (Dropped id m why ∷ rest) (a, is_first, _, _) is = absurd cc
-accepts_none moment lane packet (Closed m ∷ rest) (a, is_first, _, _) is = absurd cc
