@@ -1,22 +1,19 @@
 -- An arrival more.
-use Rattle.std.proofs.Common.{◌≡◌, ◌∙◌, ℕ, zero, suc, ◌+◌, ◌-◌, ◌<◌, ◌≤◌, All, List, [], ◌∷◌, ◌++◌, Some, ap, ap₂, get_or, inl, inr, leb, length, ltb, map, refl, rules, sym, take, arith}
+use Rattle.std.proofs.Common.{◌≡◌, ◌∙◌, ℕ, zero, suc, ◌-◌, ◌<◌, ◌≤◌, All, List, [], ◌∷◌, ◌++◌, Ok, Some, ap, ap₂, get_or, inl, inr, leb, length, ltb, map, refl, rules, sym, take, arith}
 use Rattle.std.proofs.lemmas.Bool.{cases_Bool}
-use Rattle.std.proofs.lemmas.List.{get_or_default, length_push, map-append, take_more}
+use Rattle.std.proofs.lemmas.List.{length_push, map-append}
 use Rattle.std.proofs.lemmas.List.Elements.{All-push}
 use Rattle.std.proofs.lemmas.List.Sorted.{IsNonDecreasingBy-push}
 use Rattle.journal_core.specs.declared.step.Step.{Step}
 use Rattle.journal_core.specs.declared.step.Step.TheVariants.{Enqueue, Dequeue, Close}
+use Rattle.row_core.specs.Traces.{trace_of}
 use Rattle.row_core.specs.declared.faults.TraceFaultKind.{TraceFaultKind}
 use Rattle.link_core.specs.Arrivals.{AreArrivals, arrival_moment}
 use Rattle.link_core.specs.declared.arrival.Arrival.{Arrival}
 use Rattle.link_core.specs.declared.arrival.TheConstants.{MAX_ARRIVALS, MAX_ARRIVAL_MOMENT}
-use Rattle.link_command.specs.ArrivalTexts.{IsPlaceFault, arrival_step, last_moment, step_fault, without_lane}
+use Rattle.link_command.specs.ArrivalTexts.{HasItsRow, IsPlaceFault, IsRowOfStep, IsStepFault, arrival_step, last_moment, step_fault, without_lane}
 use Rattle.link_command.specs.declared.faults.RowFault.{RowFault}
 use Rattle.link_command.specs.declared.faults.RowFault.TheVariants.{Trace, NotAnArrival, TooLate, Backwards}
-
--- there is none yet
-pub no_arrivals : AreArrivals []
-no_arrivals = record { few = omega arith; soon = λ i d low. absurd (omega arith); rise = λ i j d before low. absurd (omega arith) }
 
 -- one that comes at the last moment or later
 pub arrivals_push : (arrivals : List Arrival) (a : Arrival) (last : ℕ) → AreArrivals arrivals → All (λ (b : Arrival). b.moment ≤ last) arrivals → last ≤ a.moment → a.moment < MAX_ARRIVAL_MOMENT → length arrivals < MAX_ARRIVALS
@@ -33,12 +30,10 @@ before_push arrivals a last before after =
     All-push (λ (b : Arrival). b.moment ≤ a.moment) arrivals a (λ i d low. omega (arith, before i d low)) (omega arith)
 
 -- what an arrival more is, by its step
-pub taken_more : (steps : List Step) (place : ℕ) (step : Step) (arrivals : List Arrival) (a : Arrival) → place < length steps → step ≡ get_or steps place step
-    → map without_lane (take place steps) ≡ map arrival_step arrivals → without_lane step ≡ arrival_step a
-    → map without_lane (take (place + 1) steps) ≡ map arrival_step (arrivals ++ a ∷ [])
-taken_more steps place step arrivals a within is before same =
-    ap (map without_lane) (take_more steps place step within) ∙ map-append without_lane (take place steps) (get_or steps place step ∷ [])
-    ∙ ap₂ (λ xs x. xs ++ x ∷ []) before (ap without_lane (sym is) ∙ same) ∙ sym (map-append arrival_step arrivals (a ∷ []))
+pub same_more : (steps : List Step) (step : Step) (arrivals : List Arrival) (a : Arrival) → map without_lane steps ≡ map arrival_step arrivals → without_lane step ≡ arrival_step a
+    → map without_lane (steps ++ step ∷ []) ≡ map arrival_step (arrivals ++ a ∷ [])
+same_more steps step arrivals a before same =
+    map-append without_lane steps (step ∷ []) ∙ ap₂ (λ xs x. xs ++ x ∷ []) before same ∙ sym (map-append arrival_step arrivals (a ∷ []))
 
 at_end : (arrivals : List Arrival) (a : Arrival) (n : ℕ) → n ≡ length arrivals → get_or (map arrival_moment (arrivals ++ a ∷ [])) n 0 ≡ a.moment
 at_end [] a zero e = refl
@@ -61,20 +56,61 @@ no_trace last (Enqueue moment lane packet) what e = elim (cases_Bool (leb MAX_AR
   ]
 ]
 
-fault_at : (steps : List Step) (place : ℕ) (step : Step) (last l : ℕ) (what : RowFault) → place < length steps → step ≡ get_or steps place step → l ≡ last
-    → step_fault l step ≡ Some what → step_fault last (get_or steps place (Close 0)) ≡ Some what
-fault_at steps place step last l what within is same fault =
-    let at : step ≡ get_or steps place (Close 0) = is ∙ get_or_default steps place step (Close 0) within in
-    ap₂ step_fault (sym same) (sym at) ∙ fault
+get_last : (steps : List Step) (step d : Step) → get_or (steps ++ step ∷ []) (length steps) d ≡ step
+get_last [] step d = refl
+get_last (s ∷ steps) step d = get_last steps step d
 
--- a step that is no arrival
-pub place_fault : (steps : List Step) (place : ℕ) (step : Step) (what : RowFault) (arrivals : List Arrival) (l : ℕ) → place < length steps
-    → step ≡ get_or steps place step → AreArrivals arrivals → map without_lane (take place steps) ≡ map arrival_step arrivals → l ≡ last_moment arrivals
-    → step_fault l step ≡ Some what → IsPlaceFault steps place what
-place_fault steps place step (Trace what) arrivals l within is are before same fault = absurd (no_trace l step what fault)
-place_fault steps place step NotAnArrival arrivals l within is are before same fault =
-    record { within = within; arrivals = arrivals; are = are; before = before; fault = fault_at steps place step (last_moment arrivals) l NotAnArrival within is same fault }
-place_fault steps place step TooLate arrivals l within is are before same fault =
-    record { within = within; arrivals = arrivals; are = are; before = before; fault = fault_at steps place step (last_moment arrivals) l TooLate within is same fault }
-place_fault steps place step Backwards arrivals l within is are before same fault =
-    record { within = within; arrivals = arrivals; are = are; before = before; fault = fault_at steps place step (last_moment arrivals) l Backwards within is same fault }
+take_before : (steps : List Step) (step : Step) → take (length steps) (steps ++ step ∷ []) ≡ steps
+take_before [] step = refl
+take_before (s ∷ steps) step = ap (λ l. s ∷ l) (take_before steps step)
+
+step_fault_at : (steps : List Step) (step : Step) (what : RowFault) (arrivals : List Arrival) (l : ℕ) → AreArrivals arrivals → map without_lane steps ≡ map arrival_step arrivals
+    → l ≡ last_moment arrivals → step_fault l step ≡ Some what → IsStepFault (steps ++ step ∷ []) (length steps) what
+step_fault_at steps step what arrivals l are before same fault = record {
+  within = omega (arith, length_push steps step);
+  arrivals = arrivals;
+  are = are;
+  before = ap (map without_lane) (take_before steps step) ∙ before;
+  fault = ap₂ step_fault (sym same) (get_last steps step (Close 0)) ∙ fault;
+}
+
+-- a step that is no arrival behind those that are
+pub place_fault : (steps : List Step) (step : Step) (what : RowFault) (arrivals : List Arrival) (l : ℕ) → AreArrivals arrivals → map without_lane steps ≡ map arrival_step arrivals
+    → l ≡ last_moment arrivals → step_fault l step ≡ Some what → IsPlaceFault (steps ++ step ∷ []) (length steps) what
+place_fault steps step (Trace what) arrivals l are before same fault = absurd (no_trace l step what fault)
+place_fault steps step NotAnArrival arrivals l are before same fault = step_fault_at steps step NotAnArrival arrivals l are before same fault
+place_fault steps step TooLate arrivals l are before same fault = step_fault_at steps step TooLate arrivals l are before same fault
+place_fault steps step Backwards arrivals l are before same fault = step_fault_at steps step Backwards arrivals l are before same fault
+
+get_before : (steps : List Step) (step d : Step) (place : ℕ) → place < length steps → get_or (steps ++ step ∷ []) place d ≡ get_or steps place d
+get_before [] step d place within = absurd (omega arith)
+get_before (s ∷ steps) step d zero within = refl
+get_before (s ∷ steps) step d (suc place) within = get_before steps step d place (omega arith)
+
+take_less : (steps : List Step) (step : Step) (place : ℕ) → place < length steps → take place (steps ++ step ∷ []) ≡ take place steps
+take_less [] step place within = absurd (omega arith)
+take_less (s ∷ steps) step zero within = refl
+take_less (s ∷ steps) step (suc place) within = ap (λ l. s ∷ l) (take_less steps step place (omega arith))
+
+step_fault_stays : (steps : List Step) (step : Step) (place : ℕ) (what : RowFault) → IsStepFault steps place what → IsStepFault (steps ++ step ∷ []) place what
+step_fault_stays steps step place what h = record {
+  within = omega (arith, h.within, length_push steps step);
+  arrivals = h.arrivals;
+  are = h.are;
+  before = ap (map without_lane) (take_less steps step place h.within) ∙ h.before;
+  fault = ap (step_fault (last_moment h.arrivals)) (get_before steps step (Close 0) place h.within) ∙ h.fault;
+}
+
+-- which stays the first one, whatever step follows
+pub fault_stays : (steps : List Step) (step : Step) (place : ℕ) (what : RowFault) → IsPlaceFault steps place what → IsPlaceFault (steps ++ step ∷ []) place what
+fault_stays steps step place (Trace what) h = (h.0, omega (arith, h.1, length_push steps step))
+fault_stays steps step place NotAnArrival h = step_fault_stays steps step place NotAnArrival h
+fault_stays steps step place TooLate h = step_fault_stays steps step place TooLate h
+fault_stays steps step place Backwards h = step_fault_stays steps step place Backwards h
+
+-- and has its row
+pub has_its_row : (text : List ℕ) (row place : ℕ) (steps : List Step) (what : RowFault) → trace_of text ≡ Ok steps → IsPlaceFault steps place what → IsRowOfStep text row place → HasItsRow text row what
+has_its_row text row place steps (Trace what) read fault row_is = tt
+has_its_row text row place steps NotAnArrival read fault row_is = record { steps = steps; read = read; place = place; fault = fault; row_is = row_is }
+has_its_row text row place steps TooLate read fault row_is = record { steps = steps; read = read; place = place; fault = fault; row_is = row_is }
+has_its_row text row place steps Backwards read fault row_is = record { steps = steps; read = read; place = place; fault = fault; row_is = row_is }

@@ -2,7 +2,8 @@
 use Rattle.std.specs.Prelude.{◌≡◌, ◌⊎◌, ℕ, ◌-◌, ◌<◌, List, Option, Some, None, Ok, get_or, length, map, nat_le, nat_lt, take, if◌then◌else◌}
 use Rattle.journal_core.specs.declared.step.Step.{Step}
 use Rattle.journal_core.specs.declared.step.Step.TheVariants.{Enqueue, Dequeue, Close}
-use Rattle.row_core.specs.Traces.{IsFaultOf, trace_of}
+use Rattle.row_core.specs.Traces.{HasTaken, IsFaultOf, next_number, trace_of}
+use Rattle.row_core.specs.declared.reader.TraceRows.{TraceRows}
 use Rattle.row_core.specs.declared.faults.TraceFaultKind.TheVariants as kind
 use Rattle.link_core.specs.Arrivals.{AreArrivals, moment_at}
 use Rattle.link_core.specs.declared.arrival.Arrival.{Arrival}
@@ -69,3 +70,27 @@ IsRowFault bytes row (Trace what) =
 IsRowFault bytes row NotAnArrival = HasPlaceFault bytes NotAnArrival
 IsRowFault bytes row TooLate = HasPlaceFault bytes TooLate
 IsRowFault bytes row Backwards = HasPlaceFault bytes Backwards
+
+-- The rows before this one ask for as many steps as stand before the place: so the row asks for the step at the place.
+pub record IsRowOfStep (text : List ℕ) (row place : ℕ) : Type 0 where
+  pub rows : TraceRows
+  pub turns : ℕ
+  pub steps : List Step
+  pub taken : HasTaken text rows turns steps
+  pub number : row ≡ next_number rows
+  pub before : length steps ≡ place
+
+-- The text is a trace, of whose steps the one that this row asks for is the first that is no arrival.
+pub record IsNoArrivalAt (text : List ℕ) (row : ℕ) (what : RowFault) : Type 0 where
+  pub steps : List Step
+  pub read : trace_of text ≡ Ok steps
+  pub place : ℕ
+  pub fault : IsStepFault steps place what
+  pub row_is : IsRowOfStep text row place
+
+-- The number of a row that is no arrival. That of a fault of traces is told by `IsRowFault`.
+abbrev pub HasItsRow : List ℕ → ℕ → RowFault → Type 0
+HasItsRow text row (Trace what) = Unit {0}
+HasItsRow text row NotAnArrival = IsNoArrivalAt text row NotAnArrival
+HasItsRow text row TooLate = IsNoArrivalAt text row TooLate
+HasItsRow text row Backwards = IsNoArrivalAt text row Backwards

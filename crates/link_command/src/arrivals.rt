@@ -1,15 +1,15 @@
 //! The arrivals that a trace has.
 
-ghost use Rattle.std.specs.Prelude.{◌≡◌, ◌<◌, ◌≤◌, [], ℕ, IfErr, IfOk, IfSome, Ok, Some, length, map};
-ghost use Rattle.row_core.specs.Traces.{IsFaultOf, trace_of};
+ghost use Rattle.std.specs.Prelude.{◌≡◌, ◌<◌, ◌≤◌, ℕ, List, IfErr, IfOk, IfSome, Some, length};
+ghost use Rattle.row_core.specs.Traces.{HasTaken};
 ghost use Rattle.link_core.specs.Arrivals.{AreArrivals};
-ghost use Rattle.link_command.specs.ArrivalTexts.{IsArrivalText, IsPlaceFault, arrival_step, step_fault, without_lane};
+ghost use Rattle.link_command.specs.ArrivalTexts.{HasItsRow, IsArrivalText, IsPlaceFault, IsRowFault, IsRowOfStep, arrival_step, step_fault, without_lane};
 ghost use Rattle.link_command.specs.InputFaults.{IsInputFault, IsToldAt};
 
 use crate::faults::{Found, ProgramFault, RowFault};
 use crate::fields::faulty_field;
-use journal_core::Step;
-use link_core::{Arrival, MAX_ARRIVAL_MOMENT, MAX_ARRIVALS};
+use journal_core::{GhostList, Step};
+use link_core::{Arrival, MAX_ARRIVAL_MOMENT};
 use row_core::{MAX_BYTES, Next, TraceFault, TraceFaultKind, TraceRows, read_text};
 use std::alloc::{AllocError, Global};
 use std::io::Read;
@@ -38,17 +38,9 @@ fn text_arrivals(alloc: Global, text: &[u8]) -> Result<Vec<Arrival>, ProgramFaul
     ensures text { IfOk result (λ arrivals. IsArrivalText text.now arrivals.items) }
     ensures fault { IfErr result (IsInputFault (Some text.now)) }
 {
-    let rows = match rows_of(alloc, text) {
-        Ok(rows) => rows,
-        Err(fault) => return Err(trace_fault(alloc, text, &fault)),
-    };
-    match arrivals_of(alloc, &rows.steps) {
+    match arrivals_of(alloc, text) {
         Ok(arrivals) => Ok(arrivals),
-        Err(StepFault::Memory) => Err(ProgramFault::Memory),
-        Err(StepFault::At(place, what)) => {
-            let row = rows.first.saturating_add(place as u64);
-            Err(row_fault(alloc, text, row, what))
-        }
+        Err(fault) => Err(row_fault(alloc, text, fault.row, fault.what)),
     }
 }
 
@@ -99,33 +91,43 @@ fn is_empty_line(line: &[u8]) -> bool {
     matches!(line, b"" | b"\r" | b"\"\"")
 }
 
-/// The steps of a trace, and the number of the row of the first one. The others follow, one after the other.
-#[derive(Drop)]
-struct Rows {
-    first: u64,
-    steps: Vec<Step>,
+/// What is wrong with a row, which is counted from 1.
+#[derive(Clone, Copy)]
+struct FaultyRow {
+    row: u64,
+    what: RowFault,
 }
 
-/// The steps of a text.
-fn rows_of(alloc: Global, text: &[u8]) -> Result<Rows, TraceFault>
+/// The arrivals of a text. Its steps stand in proofs alone.
+fn arrivals_of(alloc: Global, text: &[u8]) -> Result<Vec<Arrival>, FaultyRow>
     requires { length text.now ≤ MAX_BYTES }
-    ensures steps { IfOk result (λ rows. trace_of text.now ≡ Ok rows.steps.items) }
-    ensures fault { IfErr result (λ fault. IsFaultOf text.now fault) }
+    ensures arrivals { IfOk result (λ arrivals. AreArrivals arrivals.items) }
+    ensures text { IfOk result (λ arrivals. IsArrivalText text.now arrivals.items) }
+    ensures fault { IfErr result (λ fault. IsRowFault text.now fault.row fault.what) }
+    ensures row { IfErr result (λ fault. HasItsRow text.now fault.row fault.what) }
 {
     let mut rows = TraceRows::new(alloc, text);
-    let mut steps = Vec::new(alloc);
+    let mut steps = GhostList::new();
+    let mut arrivals = Vec::new(alloc);
+    let mut last = 0;
     // A record takes a byte or more, so the text ends before the turns do.
     for _turn in 0..u64::MAX {
         let row = rows.row_number();
-        match rows.next()? {
-            Next::End => {
-                // The rows with a step are the last ones.
-                let first = row.saturating_sub(steps.len() as u64);
-                return Ok(Rows { first, steps });
-            }
+        let next = match rows.next() {
+            Ok(next) => next,
+            Err(fault) => return Err(row_of_trace(&fault)),
+        };
+        match next {
+            Next::End => return Ok(arrivals),
             Next::NoStep => {}
             Next::Row(step) => {
-                if steps.push(step).is_err() {
+                steps = steps.and(&step);
+                let arrival = match arrival_of(&step, last) {
+                    Ok(arrival) => arrival,
+                    Err(what) => return Err(first_fault(&mut rows, steps, FaultyRow { row, what })),
+                };
+                last = arrival.moment;
+                if arrivals.push(arrival).is_err() {
                     return Err(fault_at(row, TraceFaultKind::Memory));
                 }
             }
@@ -134,53 +136,44 @@ fn rows_of(alloc: Global, text: &[u8]) -> Result<Rows, TraceFault>
     Err(fault_at(rows.row_number(), TraceFaultKind::TooLarge))
 }
 
-/// A fault of a trace.
-fn fault_at(row: u64, what: TraceFaultKind) -> TraceFault
-    ensures { result ≡ record { row = row; what = what } }
+/// The first fault of a text of which a row is no arrival, and the rows up to that one ask for these steps: one of the
+/// grammar of a row behind it, and else that row's own.
+fn first_fault(rows: &mut TraceRows<'_>, mut steps: GhostList<Step>, fault: FaultyRow) -> FaultyRow
+    ensures fault { (text : List ℕ) (turns place : ℕ) → HasTaken text rows.old turns steps.items
+        → IsPlaceFault steps.items place fault.what → IsRowFault text result.row result.what }
+    ensures row { (text : List ℕ) (turns place : ℕ) → HasTaken text rows.old turns steps.items
+        → IsPlaceFault steps.items place fault.what → IsRowOfStep text fault.row place
+        → HasItsRow text result.row result.what }
 {
-    TraceFault { row, what }
-}
-
-/// Why steps are no arrivals: what is wrong with the one at a place, from 0.
-#[derive(Clone, Copy)]
-enum StepFault {
-    At(usize, RowFault),
-    Memory,
-}
-
-/// The arrivals of steps that are all arrivals.
-fn arrivals_of(alloc: Global, steps: &[Step]) -> Result<Vec<Arrival>, StepFault>
-    ensures arrivals { IfOk result (λ arrivals. AreArrivals arrivals.items) }
-    ensures steps { IfOk result (λ arrivals. map without_lane steps.now ≡ map arrival_step arrivals.items) }
-    ensures fault { IfErr result (λ fault. (place : ℕ) (what : _) → fault ≡ StepFault.At place what
-        → IsPlaceFault steps.now place what) }
-{
-    let mut arrivals = no_arrivals(alloc, steps.len())?;
-    let mut last = 0;
-    for place in 0..steps.len() {
-        if place >= MAX_ARRIVALS {
-            return Err(StepFault::At(place, RowFault::Trace(TraceFaultKind::TooLarge)));
-        }
-        let arrival = match arrival_of(&steps[place], last) {
-            Ok(arrival) => arrival,
-            Err(what) => return Err(StepFault::At(place, what)),
+    // A record takes a byte or more, so the text ends before the turns do.
+    for _turn in 0..u64::MAX {
+        let next = match rows.next() {
+            Ok(next) => next,
+            Err(fault) => return row_of_trace(&fault),
         };
-        last = arrival.moment;
-        if arrivals.push(arrival).is_err() {
-            return Err(StepFault::Memory);
+        match next {
+            Next::End => return fault,
+            Next::NoStep => {}
+            Next::Row(step) => steps = steps.and(&step),
         }
     }
-    Ok(arrivals)
+    fault_at(rows.row_number(), TraceFaultKind::TooLarge)
 }
 
-/// No arrival, with memory for so many.
-fn no_arrivals(alloc: Global, count: usize) -> Result<Vec<Arrival>, StepFault>
-    ensures none { IfOk result (λ arrivals. arrivals.items ≡ []) }
-    ensures fault { IfErr result (λ fault. fault ≡ StepFault.Memory) }
+/// The faulty row of a trace.
+fn row_of_trace(fault: &TraceFault) -> FaultyRow
+    ensures { result ≡ record { row = fault.now.row; what = RowFault.Trace fault.now.what } }
 {
-    match Vec::with_capacity(alloc, count) {
-        Ok(arrivals) => Ok(arrivals),
-        Err(_) => Err(StepFault::Memory),
+    fault_at(fault.row, fault.what)
+}
+
+/// A row with a fault of traces.
+fn fault_at(row: u64, what: TraceFaultKind) -> FaultyRow
+    ensures { result ≡ record { row = row; what = RowFault.Trace what } }
+{
+    FaultyRow {
+        row,
+        what: RowFault::Trace(what),
     }
 }
 

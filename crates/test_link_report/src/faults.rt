@@ -73,6 +73,36 @@ enq,MOMENT,PROTO,SRC,DST,SPORT,DPORT,LEN,ECN\n",
     }
 }
 
+/// A row that is no arrival has its number, empty lines aside, whatever comes behind it. A fault of the grammar in a row
+/// behind it comes before it.
+#[test]
+fn rows_that_are_no_arrivals(rt: HostRuntime) {
+    let table = [
+        (
+            "\nenq,5,6,10.0.0.1,10.0.0.9,5000,443,1514,2\n\"\"\nenq,5,6,10.0.0.1,10.0.0.9,5000,443,1514,2\n\n\
+deq,9\nenq,7,6,10.0.0.1,10.0.0.9,5000,443,1514,2\n",
+            "maltlink: row 3: NotAnArrival\n  row 3, field 1 (KIND): \"deq\" is no arrival; wanted is enq\n",
+        ),
+        (
+            "version,2\nenq,5,6,10.0.0.1,10.0.0.9,5000,443,1514,2\nclose,9\ndeq,9\nenq,7,6,10.0.0.1,10.0.0.9,5000,443,1514,2",
+            "maltlink: row 3: NotAnArrival\n  row 3, field 1 (KIND): \"close\" is no arrival; wanted is enq\n",
+        ),
+        (
+            "enq,5,6,10.0.0.1,10.0.0.9,5000,443,1514,2\nenq,4,6,10.0.0.1,10.0.0.9,5000,443,1514,2\ndeq,9\n",
+            "maltlink: row 2: Backwards\n  row 2, field 2 (MOMENT): \"4\" is below the moment of the row before; wanted \
+is 0 to 576460752303423487, in microseconds, never falling\n",
+        ),
+        (
+            "deq,9\nenq,7,6,10.0.0.1,10.0.0.9,5000,443,1514,2\nclose\nenq\n",
+            "maltlink: row 3: BadFieldCount\n  row 3: \"close\" has another number of fields; wanted is \
+enq,MOMENT,PROTO,SRC,DST,SPORT,DPORT,LEN,ECN\n",
+        ),
+    ];
+    for (input, wanted) in table {
+        faults(&rt, &["--rate", "10mbit"], input, 2, wanted);
+    }
+}
+
 /// Words are looked at in their order, before the input.
 #[test]
 fn words_before_rows(rt: HostRuntime) {
