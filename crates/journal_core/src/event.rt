@@ -18,7 +18,7 @@ pub enum Event {
     /// A packet was accepted into the queue of a flow.
     Accepted {
         /// The lane that it came from.
-        // It stands first since it fills the place behind the mark of the variant: an event has 72 bytes, and not 80.
+        // It stands first, in the place behind the mark of the variant.
         lane: u32,
         /// The packet's id.
         id: u64,
@@ -55,3 +55,5 @@ pub enum Event {
         moment: u64,
     },
 }
+
+const _: () = prove!(size_of::<Event>() == 80);

@@ -62,5 +62,5 @@ impl Note {
     }
 }
 
-// An event has 72 bytes.
+// An event has 80 bytes.
 const _: () = prove!(size_of::<Note>() == 16);

@@ -91,7 +91,8 @@ impl Tally {
         }
     }
 
-    /// A packet more, which was accepted into that flow. It fails for want of memory alone.
+    /// A packet more, which was accepted into that flow. It fails for want of memory alone. Nothing is said of the tally
+    /// after that: a row may have no packet.
     pub fn accept(&mut self, tuple: FiveTuple, flow: u32) -> Result<(), Memory>
         ensures { OnOk result ((accepted : List Acceptance) → (a : Acceptance)
             → tuple_of a ≡ tuple → a.flow ≡ flow

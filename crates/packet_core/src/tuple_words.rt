@@ -12,7 +12,7 @@ use std::marker::Model;
 /// than a `FiveTuple`, and two of them are compared without a branch.
 // The words are those of a packet, but for its length and its ECN field: these bits are zero. So equal five-tuples have
 // equal words.
-#[derive(Clone, Copy, PartialEq, Eq)]
+#[derive(Clone, Copy)]
 pub struct TupleWords {
     src: (u64, u64),
     dst: (u64, u64),
