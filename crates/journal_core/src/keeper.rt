@@ -74,6 +74,14 @@ impl<T> Stored<T> {
         &self.items
     }
 
+    /// All that it was told, in order, once it is told nothing more.
+    pub fn into_items(self) -> Vec<T>
+        ensures { result.items ≡ stored_items self }
+    {
+        let Stored { items, lost: _ } = self;
+        items
+    }
+
     /// Where its memory comes from.
     pub fn allocator(&self) -> Global {
         *self.items.allocator()

@@ -1,17 +1,22 @@
 -- The faults of a run, by the step that they come from.
-use Rattle.std.proofs.Common.{◌≡◌, ◌≢◌, ◌⊎◌, ℕ, Bool, List, Option, Result, Ok, Err, String, Global, inl, inr, refl}
-use Rattle.std.specs.Prelude.{IfErr, IfSome, IsErrAnd}
+use Rattle.std.proofs.Common.{◌≡◌, ◌≢◌, ◌≤◌, ◌⊎◌, ℕ, Bool, List, Option, Some, None, Result, Ok, Err, true, String, Global, inl, inr, refl, length, arith}
+use Rattle.std.specs.Prelude.{IfErr, IfSome, IsErrAnd, option_map}
 use Rattle.journal_core.specs.declared.event.Event.{Event}
 use Rattle.journal_core.specs.declared.step.Step.{Step}
 use Rattle.link_core.specs.declared.arrival.Arrival.{Arrival}
+use Rattle.link_core.specs.Fifo.{IsFifoJournal}
 use Rattle.link_core.specs.LinkRuns.{HasRunLink}
 use Rattle.sched_core.specs.Engines.{Running}
+use Rattle.link_report.specs.FlowTables.{flows_text, known_flows_text}
+use Rattle.link_report.specs.Packets.{Known, known_of}
+use Rattle.link_report.specs.declared.summary.TheConstants.{MAX_EVENTS}
+use Rattle.link_report.proofs.PacketLemmas.{few_packets}
 use Rattle.link_report.specs.StepTables.{steps_text}
 use Rattle.link_command.specs.ArrivalTexts.{IsArrivalText}
 use Rattle.link_command.specs.CommandLine.{AsksForRun, IsMistake, Texts}
 use Rattle.link_command.specs.FaultsOn.{IsWordsFault}
 use Rattle.link_command.specs.InputFaults.{IsInputFault}
-use Rattle.link_command.specs.Runs.{IsComparedFault, IsComparedText, IsFaultOn, IsJournalOf, IsRunFault, IsTable, IsTableFault}
+use Rattle.link_command.specs.Runs.{IsBeside, IsComparedFault, IsComparedText, IsFaultOn, IsJournalOf, IsRunFault, IsTable, IsTableFault}
 use Rattle.link_command.specs.Values.{RunParts, SaysRun}
 use Rattle.link_command.specs.declared.command_line.TableName.{TableName}
 use Rattle.link_command.specs.declared.command_line.TableName.TheVariants.{Flows, Packets, Series, Steps, Svg}
@@ -112,3 +117,36 @@ compared_fails run arrivals steps events Write is h = h
 pub journal_of_engine : (run : RunParts) (arrivals : List Arrival) (e : Running) → HasRunLink run.params run.seed run.link arrivals e
     → IsJournalOf run arrivals e.steps e.sched.standing.events
 journal_of_engine run arrivals e has = record { made = has.made; last = e.sched.standing.state; runs = has.run; journal = has.journal }
+
+-- the journal of a FIFO stands beside one where that is asked for
+pub beside_fifo : (has_fifo : Bool) (run : RunParts) (arrivals : List Arrival) (fifo : List Event) → has_fifo ≡ true → IsFifoJournal run.params run.seed run.link arrivals fifo
+    → IsBeside has_fifo run arrivals (Some fifo)
+beside_fifo has_fifo run arrivals fifo asked is = rw asked is
+
+-- a table of bins is one of any text
+pub bins_table : (table : TableName) (has_fifo : Bool) (run : RunParts) (arrivals : List Arrival) (steps : List Step) (events : List Event) (fifo : Option (List Event)) (text : List ℕ)
+    → table ≡ Series → IsBeside has_fifo run arrivals fifo → IsTable table has_fifo run arrivals steps events text
+bins_table table has_fifo run arrivals steps events fifo text same beside = rw same (record { fifo = fifo; beside = beside; journals = tt })
+
+-- the tables of packets are those of the journals whose packets they are
+pub flows_of_packets : {B : Type 0} (journal : B → List Event) (events : List Event) (fifo : Option B)
+    → known_flows_text (known_of events) (option_map (λ e. known_of (journal e)) fifo) ≡ flows_text events (option_map journal fifo)
+flows_of_packets journal events None = refl
+flows_of_packets journal events (Some fifo) = refl
+
+-- so many packets as a table sums up
+abbrev pub AreFew : Known → Type 0
+AreFew known = length known.packets ≤ MAX_EVENTS
+
+few_of_journal : {B : Type 0} (journal : B → List Event) (fifo : Option B) → IfSome fifo (λ e. length (journal e) ≤ MAX_EVENTS) → IfSome (option_map (λ e. known_of (journal e)) fifo) AreFew
+few_of_journal journal None few = tt
+few_of_journal journal (Some fifo) few = omega (arith, few_packets (journal fifo), few)
+
+few_shown : {A : Type 0} (view : A → Known) (others : Option A) → IfSome (option_map view others) AreFew → IfSome others (λ p. AreFew (view p))
+few_shown view None few = tt
+few_shown view (Some others) few = few
+
+-- a journal of few events has few packets
+pub few_others : {A B : Type 0} (view : A → Known) (journal : B → List Event) (others : Option A) (fifo : Option B) → option_map view others ≡ option_map (λ e. known_of (journal e)) fifo
+    → IfSome fifo (λ e. length (journal e) ≤ MAX_EVENTS) → IfSome others (λ p. AreFew (view p))
+few_others view journal others fifo same few = few_shown view others (rw same (few_of_journal journal fifo few))

@@ -1,24 +1,27 @@
 //! The whole program over words and streams: it writes a table of a link's run, or help, and reports a fault with its
 //! status.
 
-ghost use Rattle.std.specs.Prelude.{◌≡◌, ◌≢◌, ◌≤◌, ◌<◌, ℕ, IfErr, IfOk, IfSome, OnErr, OnOk, Some, IsSomeAnd, false, true, length, map, option_map, take};
+ghost use Rattle.std.specs.Prelude.{◌≡◌, ◌≢◌, [], ◌≤◌, ◌<◌, ℕ, IfErr, IfOk, IfSome, OnErr, OnOk, Some, IsSomeAnd, false, true, length, map, option_map, take};
 ghost use Rattle.std.specs.Io.KnownBytes.{Appends, Keeps};
 ghost use Rattle.link_core.specs.Arrivals.{AreArrivals};
+ghost use Rattle.link_core.specs.LinkRuns.{HasRunLink};
 ghost use Rattle.link_command.specs.CommandLine.{texts_of};
 ghost use Rattle.link_command.specs.Runs.{Answers, IsAsked, IsFaultOn, IsJournalOf, IsJournalText, AreManyEvents, IsComparedFault, IsComparedText, IsRunFault, IsTooMany, IsTableFault, IsTableFor, IsTableOf, IsTraceOf};
 ghost use Rattle.link_command.specs.RunsSaid.{parts_of};
+ghost use Rattle.link_report.specs.Packets.{known_of};
 
 use crate::arrivals::read_arrivals;
 use crate::command_line::{Asked, RunRequest, TableName, parse};
 use crate::faults::{Found, ProgramFault, RowFault, tell};
 use crate::notes::{Stage, Terminals, note_input, note_stage};
 use crate::values::{Run, run_of};
-use journal_core::Event;
-use link_core::{Arrival, run_fifo, run_link, run_link_with_keeper};
-use link_picture::picture_text;
-use link_report::{MAX_EVENTS, flows_text, packets_text, series_text, steps_text};
+use link_core::{Arrival, run_fifo, run_fifo_with_keeper, run_link_with_keepers};
+use link_picture::picture_text_of;
+use link_report::{
+    Gathered, MAX_EVENTS, Packets, flows_text_of, packets_text_of, series_text, steps_text,
+};
 use row_core::TraceFaultKind;
-use sched_core::Unstored;
+use sched_core::{Engine, Event, Keeps, Memory, Step, Stored, Unstored};
 use std::alloc::Global;
 use std::io::{Read, Write};
 
@@ -135,25 +138,53 @@ fn table_text<F: Write>(
     if request.table == TableName::Steps {
         return trace_text(alloc, run, arrivals, notes, terminals);
     }
-    // Nobody reads the steps.
-    let engine = run_link_with_keeper(
-        alloc,
-        run.params,
-        run.seed,
-        &run.link,
-        arrivals,
-        Unstored::new(),
-    )?;
+    if request.table == TableName::Series {
+        return bins_text(alloc, request, run, arrivals, notes, terminals);
+    }
+    let events = keeper_for(alloc, request.table);
+    let engine = run_told(alloc, run, arrivals, events, Unstored::new())?;
     note_stage(notes, terminals, Stage::Run, arrivals.len());
     compared_text(
         alloc,
         request,
         run,
         arrivals,
-        engine.events(),
+        engine.keeper(),
         notes,
         terminals,
     )
+}
+
+/// The run of these arrivals, whose events and steps these keepers are told.
+fn run_told<K: Keeps<Event>, S: Keeps<Step>>(
+    alloc: Global,
+    run: &Run,
+    arrivals: &[Arrival],
+    events: K,
+    steps: S,
+) -> Result<Engine<K, S>, Memory>
+    requires arrivals { AreArrivals arrivals.now }
+    requires events { K.told events ≡ [] }
+    requires no_loss { K.lost events ≡ [] }
+    requires steps { S.told steps ≡ [] }
+    ensures { IfOk result (HasRunLink run.now.params run.now.seed run.now.link arrivals.now) }
+{
+    run_link_with_keepers(
+        alloc, run.params, run.seed, &run.link, arrivals, events, steps,
+    )
+}
+
+/// A keeper of what that table shows of events.
+fn keeper_for(alloc: Global, table: TableName) -> Gathered
+    ensures events { result.events ≡ [] }
+    ensures lost { result.lost ≡ [] }
+{
+    // Of more events than these the others are refused.
+    let most = match table {
+        TableName::Packets => u64::MAX,
+        _ => MAX_EVENTS as u64,
+    };
+    Gathered::new(alloc, most)
 }
 
 /// The steps of a run of these arrivals, as a trace.
@@ -169,71 +200,117 @@ fn trace_text<F: Write>(
     ensures fault { IfErr result (λ fault. fault ≡ ProgramFault.Memory) }
     ensures quiet { terminals.faults ≡ false → Keeps (F.contents notes.old) (F.contents notes.new) }
 {
-    let engine = run_link(alloc, run.params, run.seed, &run.link, arrivals)?;
+    let steps = Stored::new(alloc);
+    let engine = run_told(alloc, run, arrivals, Unstored::new(), steps)?;
     note_stage(notes, terminals, Stage::Run, arrivals.len());
     Ok(steps_text(alloc, engine.steps())?)
 }
 
-/// The table of a run's journal, beside that of a FIFO where one is asked for.
+/// The table of bins of a run of these arrivals, beside those of a FIFO where that is asked for. It reads the events in
+/// their order.
+fn bins_text<F: Write>(
+    alloc: Global,
+    request: &RunRequest<'_>,
+    run: &Run,
+    arrivals: &[Arrival],
+    notes: &mut F,
+    terminals: Terminals,
+) -> Result<Vec<u8>, ProgramFault>
+    requires arrivals { AreArrivals arrivals.now }
+    requires table { request.now.table ≡ TableName.Series }
+    ensures text { IfOk result (λ text. IsTableOf (texts_of request.now) (parts_of run.now) arrivals.now text.items) }
+    ensures fault { IfErr result (λ fault. fault ≡ ProgramFault.Memory) }
+    ensures quiet { terminals.faults ≡ false → Keeps (F.contents notes.old) (F.contents notes.new) }
+{
+    let events = Stored::new(alloc);
+    let engine = run_told(alloc, run, arrivals, events, Unstored::new())?;
+    note_stage(notes, terminals, Stage::Run, arrivals.len());
+    if !request.has_fifo {
+        return Ok(series_text(alloc, run.every, engine.events(), None)?);
+    }
+    let fifo = run_fifo(alloc, run.params, run.seed, &run.link, arrivals)?;
+    note_stage(notes, terminals, Stage::Compared, arrivals.len());
+    Ok(series_text(alloc, run.every, engine.events(), Some(&fifo))?)
+}
+
+/// The table of a run's packets, beside that of a FIFO's where one is asked for.
 fn compared_text<F: Write>(
     alloc: Global,
     request: &RunRequest<'_>,
     run: &Run,
     arrivals: &[Arrival],
-    events: &[Event],
+    events: &Gathered,
     notes: &mut F,
     terminals: Terminals,
 ) -> Result<Vec<u8>, ProgramFault>
     requires arrivals { AreArrivals arrivals.now }
-    requires table { request.now.table ≢ TableName.Steps }
+    requires steps { request.now.table ≢ TableName.Steps }
+    requires series { request.now.table ≢ TableName.Series }
     ensures text { IfOk result (λ text. IsComparedText request.now.table request.now.has_fifo
-        (parts_of run.now) arrivals.now events.now text.items) }
-    ensures fault { IfErr result (IsComparedFault (parts_of run.now) arrivals.now events.now) }
+        (parts_of run.now) arrivals.now events.now.events text.items) }
+    ensures fault { IfErr result (IsComparedFault (parts_of run.now) arrivals.now events.now.events) }
     ensures quiet { terminals.faults ≡ false → Keeps (F.contents notes.old) (F.contents notes.new) }
 {
     if !request.has_fifo {
-        return journal_text(alloc, request.table, run, events, None);
+        return packets_table(alloc, request.table, run, events, None);
     }
-    let fifo = run_fifo(alloc, run.params, run.seed, &run.link, arrivals)?;
+    let told = keeper_for(alloc, request.table);
+    let fifo = run_fifo_with_keeper(alloc, run.params, run.seed, &run.link, arrivals, told)?;
     note_stage(notes, terminals, Stage::Compared, arrivals.len());
-    journal_text(alloc, request.table, run, events, Some(&fifo))
+    packets_table(alloc, request.table, run, events, Some(&fifo))
 }
 
-/// The table of journals, or their picture.
-fn journal_text(
+/// The table of the packets of journals, or their picture.
+fn packets_table(
     alloc: Global,
     table: TableName,
     run: &Run,
-    events: &[Event],
-    fifo: Option<&[Event]>,
+    events: &Gathered,
+    fifo: Option<&Gathered>,
 ) -> Result<Vec<u8>, ProgramFault>
-    requires { table ≢ TableName.Steps }
-    ensures text { IfOk result (λ text.
-        IsJournalText table run.now.every events.now (option_map (λ e. e.now) fifo.entry) text.items) }
-    ensures fault { IfErr result (AreManyEvents events.now (option_map (λ e. e.now) fifo.entry)) }
+    requires steps { table ≢ TableName.Steps }
+    requires series { table ≢ TableName.Series }
+    ensures text { IfOk result (λ text. IsJournalText table run.now.every
+        events.now.events (option_map (λ e. e.now.events) fifo.entry) text.items) }
+    ensures fault { IfErr result (AreManyEvents events.now.events (option_map (λ e. e.now.events) fifo.entry)) }
 {
     match table {
-        TableName::Packets => Ok(packets_text(alloc, events, fifo)?),
-        TableName::Series => Ok(series_text(alloc, run.every, events, fifo)?),
+        TableName::Packets => {
+            let (packets, others) = (events.packets()?, packets_of(fifo)?);
+            Ok(packets_text_of(alloc, packets, others)?)
+        }
         TableName::Flows => {
-            if events.len() > MAX_EVENTS || has_many(fifo) {
-                Err(too_many(alloc))
-            } else {
-                Ok(flows_text(alloc, events, fifo)?)
+            if events.event_count() > MAX_EVENTS as u64 || has_many(fifo) {
+                return Err(too_many(alloc));
             }
+            let (packets, others) = (events.packets()?, packets_of(fifo)?);
+            Ok(flows_text_of(alloc, packets, others)?)
         }
         TableName::Svg => {
-            if events.len() > MAX_EVENTS || has_many(fifo) {
-                Err(too_many(alloc))
-            } else {
-                Ok(picture_text(alloc, run.link.rate(), run.every, events, fifo)?)
+            if events.event_count() > MAX_EVENTS as u64 || has_many(fifo) {
+                return Err(too_many(alloc));
             }
+            let (packets, others) = (events.packets()?, packets_of(fifo)?);
+            let rate = run.link.rate();
+            Ok(picture_text_of(alloc, rate, run.every, packets, others)?)
         }
+        TableName::Series => unreachable!(),
         TableName::Steps => unreachable!(),
     }
 }
 
-/// The fault for more events than `flows_text` and `picture_text` take. A million rows have two million events.
+/// The packets of the other queue, where there is one.
+fn packets_of<'a>(fifo: Option<&'a Gathered>) -> Result<Option<&'a Packets>, Memory>
+    ensures { IfOk result (λ packets. option_map (λ p. p.now) packets
+        ≡ option_map (λ e. known_of e.now.events) fifo.entry) }
+{
+    match fifo {
+        Some(fifo) => Ok(Some(fifo.packets()?)),
+        None => Ok(None),
+    }
+}
+
+/// The fault for more events than the tables of five-tuples and the picture take. A million rows have two million events.
 fn too_many(alloc: Global) -> ProgramFault
     ensures { IsTooMany result }
 {
@@ -241,13 +318,13 @@ fn too_many(alloc: Global) -> ProgramFault
     ProgramFault::Row(0, RowFault::Trace(TraceFaultKind::TooLarge), none)
 }
 
-/// Whether there are more events than `flows_text` takes.
-fn has_many(events: Option<&[Event]>) -> bool
-    ensures few { result ≡ false → IfSome events.entry (λ e. length e.now ≤ MAX_EVENTS) }
-    ensures many { result ≡ true → IsSomeAnd events.entry (λ e. MAX_EVENTS < length e.now) }
+/// Whether there are more events than these take.
+fn has_many(events: Option<&Gathered>) -> bool
+    ensures few { result ≡ false → IfSome events.entry (λ e. length e.now.events ≤ MAX_EVENTS) }
+    ensures many { result ≡ true → IsSomeAnd events.entry (λ e. MAX_EVENTS < length e.now.events) }
 {
     match events {
-        Some(events) => events.len() > MAX_EVENTS,
+        Some(events) => events.event_count() > MAX_EVENTS as u64,
         None => false,
     }
 }

@@ -1,13 +1,13 @@
 //! A plain queue at the head of a link, to compare with.
 
-ghost use Rattle.std.specs.Prelude.{IfOk};
+ghost use Rattle.std.specs.Prelude.{◌≡◌, [], IfOk};
 ghost use Rattle.link_core.specs.Arrivals.{AreArrivals};
 ghost use Rattle.link_core.specs.Fifo.{IsFifoJournal};
 
 use crate::arrival::Arrival;
 use crate::line::Line;
 use crate::link::Link;
-use journal_core::{Event, Memory};
+use journal_core::{Event, Keeps, Memory, Stored};
 use packet_core::{Params, Seed};
 use sched_core::FlowChooser;
 use std::alloc::Global;
@@ -26,14 +26,33 @@ pub fn run_fifo(
     requires { AreArrivals arrivals.now }
     ensures { IfOk result (λ events. IsFifoJournal params seed link.now arrivals.now events.items) }
 {
+    let events = Stored::new(alloc);
+    Ok(run_fifo_with_keeper(alloc, params, seed, link, arrivals, events)?.into_items())
+}
+
+/// The same as `run_fifo`, but it tells the events to a keeper that was told none, and hands that out. It tells drops as
+/// it tells other events: no packet is told as lost.
+pub fn run_fifo_with_keeper<K: Keeps<Event>>(
+    alloc: Global,
+    params: Params,
+    seed: Seed,
+    link: &Link,
+    arrivals: &[Arrival],
+    events: K,
+) -> Result<K, Memory>
+    requires arrivals { AreArrivals arrivals.now }
+    requires events { K.told events ≡ [] }
+    ensures { IfOk result (λ events. IsFifoJournal params seed link.now arrivals.now (K.told events)) }
+{
     // A digest takes more time than all else that is done for a packet.
     let mut chooser = FlowChooser::try_new_for(alloc, params, seed, arrivals.len() as u64)?;
+    let mut keeper = events;
     let mut line = Line::new(alloc, params, seed);
     let mut busy = None;
     for i in 0..arrivals.len() {
         let flow = chooser.flow_of(&arrivals[i].packet);
-        busy = line.meet_next(link, arrivals, busy, &arrivals[i..], flow)?;
+        busy = line.meet_next(&mut keeper, link, arrivals, busy, &arrivals[i..], flow)?;
     }
-    line.ask_before(link, arrivals, busy, &[])?;
-    Ok(line.events)
+    line.ask_before(&mut keeper, link, arrivals, busy, &[])?;
+    Ok(keeper)
 }

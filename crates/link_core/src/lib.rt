@@ -12,6 +12,6 @@ mod link;
 mod run;
 
 pub use arrival::{Arrival, MAX_ARRIVAL_MOMENT, MAX_ARRIVALS};
-pub use fifo::run_fifo;
+pub use fifo::{run_fifo, run_fifo_with_keeper};
 pub use link::{Link, LinkFields, LinkName};
-pub use run::{run_link, run_link_with_keeper};
+pub use run::{run_link, run_link_with_keepers};

@@ -13,7 +13,7 @@ use crate::arrival::{Arrival, MAX_ARRIVALS};
 use crate::free_at::FreeAt;
 use crate::link::Link;
 use packet_core::{Params, Seed};
-use sched_core::{Engine, Keeps, Memory, Refusal, Step, Stored};
+use sched_core::{Engine, Event, Keeps, Memory, Refusal, Step, Stored};
 use std::alloc::{AllocError, Global};
 
 /// Makes the steps of a link for these arrivals with a new engine of those parameters and that seed. Each packet comes
@@ -30,24 +30,28 @@ pub fn run_link(
     requires { AreArrivals arrivals.now }
     ensures { IfOk result (HasRunLink params seed link.now arrivals.now) }
 {
-    run_link_with_keeper(alloc, params, seed, link, arrivals, Stored::new(alloc))
+    let (events, steps) = (Stored::new(alloc), Stored::new(alloc));
+    run_link_with_keepers(alloc, params, seed, link, arrivals, events, steps)
 }
 
-/// The same as `run_link`, but the engine tells its steps to a keeper that was told none: `Unstored`, where nobody reads
-/// them. Then a run takes less memory.
-pub fn run_link_with_keeper<S: Keeps<Step>>(
+/// The same as `run_link`, but the engine tells its events and its steps to keepers that were told none. `Unstored` is
+/// for those that nobody reads: a run takes less memory then.
+pub fn run_link_with_keepers<K: Keeps<Event>, S: Keeps<Step>>(
     alloc: Global,
     params: Params,
     seed: Seed,
     link: &Link,
     arrivals: &[Arrival],
+    events: K,
     steps: S,
-) -> Result<Engine<Stored, S>, Memory>
+) -> Result<Engine<K, S>, Memory>
     requires arrivals { AreArrivals arrivals.now }
-    requires untold { S.told steps ≡ [] }
+    requires events { K.told events ≡ [] }
+    requires no_loss { K.lost events ≡ [] }
+    requires steps { S.told steps ≡ [] }
     ensures { IfOk result (HasRunLink params seed link.now arrivals.now) }
 {
-    let mut engine = Engine::try_with_keepers(alloc, params, seed, Stored::new(alloc), steps)?;
+    let mut engine = Engine::try_with_keepers(alloc, params, seed, events, steps)?;
     let mut busy = None;
     for i in 0..arrivals.len() {
         busy = meet_next(&mut engine, link, arrivals, busy, &arrivals[i..])?;
@@ -57,8 +61,8 @@ pub fn run_link_with_keeper<S: Keeps<Step>>(
 }
 
 /// The link asks for packets until the next one comes, takes that in, and asks for one at once where it is idle.
-fn meet_next<S: Keeps<Step>>(
-    engine: &mut Engine<Stored, S>,
+fn meet_next<K: Keeps<Event>, S: Keeps<Step>>(
+    engine: &mut Engine<K, S>,
     link: &Link,
     arrivals: &[Arrival],
     busy: Option<FreeAt>,
@@ -80,8 +84,8 @@ fn meet_next<S: Keeps<Step>>(
 }
 
 /// Asks for packets as long as the link gets free before the next one comes, or none is to come.
-fn ask_before<S: Keeps<Step>>(
-    engine: &mut Engine<Stored, S>,
+fn ask_before<K: Keeps<Event>, S: Keeps<Step>>(
+    engine: &mut Engine<K, S>,
     link: &Link,
     arrivals: &[Arrival],
     busy: Option<FreeAt>,
@@ -104,7 +108,10 @@ fn ask_before<S: Keeps<Step>>(
 }
 
 /// The packet comes in, by lane 0.
-fn take_in<S: Keeps<Step>>(engine: &mut Engine<Stored, S>, arrival: &Arrival) -> Result<(), Memory>
+fn take_in<K: Keeps<Event>, S: Keeps<Step>>(
+    engine: &mut Engine<K, S>,
+    arrival: &Arrival,
+) -> Result<(), Memory>
     requires { refusal_of engine.old.sched.standing.state (Enqueue arrival.now.moment 0 arrival.now.packet) ≡ None }
     ensures made { OnOk result (IsAdvanced engine.old.sched
         (Enqueue arrival.now.moment 0 arrival.now.packet) answer.Accepted engine.new.sched) }
@@ -119,8 +126,8 @@ fn take_in<S: Keeps<Step>>(engine: &mut Engine<Stored, S>, arrival: &Arrival) ->
 }
 
 /// The link asks for a packet, and sends it if there is one: when it gets free again.
-fn ask<S: Keeps<Step>>(
-    engine: &mut Engine<Stored, S>,
+fn ask<K: Keeps<Event>, S: Keeps<Step>>(
+    engine: &mut Engine<K, S>,
     link: &Link,
     arrivals: &[Arrival],
     now: FreeAt,

@@ -53,8 +53,9 @@ impl Content {
         Content::of_packets(alloc, every, &packets, &others)
     }
 
-    /// What a picture shows of these packets and those of the other queue.
-    fn of_packets(
+    /// What a picture shows of the scheduler's packets and those of the other queue, of which there are none where there
+    /// is no such queue. Each has at most `MAX_EVENTS`. It fails for want of memory alone.
+    pub fn of_packets(
         alloc: Global,
         every: u64,
         packets: &Packets,

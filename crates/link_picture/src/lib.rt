@@ -27,6 +27,6 @@ pub use layout::{
 };
 pub use lines::{MAX_NAMED, choose, line_of, packets_on};
 pub use octaves::octave;
-pub use picture::picture_text;
+pub use picture::{picture_text, picture_text_of};
 pub use points::{Point, rate_points, share_points, wait_points};
 pub use scales::{RateScale, WaitScale};

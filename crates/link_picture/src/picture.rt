@@ -13,6 +13,7 @@ use crate::scales::{RateScale, WaitScale};
 use crate::svg::{Anchor, Svg, Weight};
 use crate::wording::rate_text;
 use journal_core::{Event, Memory};
+use link_report::Packets;
 use std::alloc::Global;
 
 /// The picture of a link of that rate, in bits a second, as the text of an SVG, with bins of `every` microseconds or a
@@ -30,13 +31,40 @@ pub fn picture_text(
     requires fifo_few { IfSome fifo (λ e. length e.now ≤ MAX_EVENTS) }
 {
     let content = Content::of(alloc, every, events, fifo)?;
+    drawn(alloc, link, fifo.is_some(), &content)
+}
+
+/// The picture of the packets of journals, as `picture_text` draws it. What its lines show is what `Content::of_packets`
+/// says.
+pub fn picture_text_of(
+    alloc: Global,
+    link: u64,
+    every: u64,
+    packets: &Packets,
+    fifo: Option<&Packets>,
+) -> Result<Vec<u8>, Memory>
+    requires few { length packets.now.packets ≤ MAX_EVENTS }
+    requires fifo_few { IfSome fifo (λ p. length p.now.packets ≤ MAX_EVENTS) }
+{
+    let content = match fifo {
+        Some(fifo) => Content::of_packets(alloc, every, packets, fifo)?,
+        None => {
+            let none = Packets::of(alloc, &[])?;
+            Content::of_packets(alloc, every, packets, &none)?
+        }
+    };
+    drawn(alloc, link, fifo.is_some(), &content)
+}
+
+/// The picture of a link of that rate that shows this.
+fn drawn(alloc: Global, link: u64, has_fifo: bool, content: &Content) -> Result<Vec<u8>, Memory> {
     let show = Show {
         alloc,
-        content: &content,
-        has_fifo: fifo.is_some(),
+        content,
+        has_fifo,
         link,
         waits: WaitScale::upto(longest(&content.fifo, longest(&content.scheduler, 0))),
-        rates: RateScale::upto(most(&content)),
+        rates: RateScale::upto(most(content)),
     };
     let mut svg = Svg::open(alloc, title(&show)?.as_str())?;
     headline(&mut svg, &show)?;

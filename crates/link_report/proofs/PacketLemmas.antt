@@ -113,3 +113,11 @@ one_sent known (event.Accepted lane id moment flow packet) = omega arith
 one_sent known (event.Sent id moment ecn mark) = omega arith
 one_sent known (event.Dropped id moment cause) = omega arith
 one_sent known (event.Closed moment) = omega arith
+
+sent_from : (known : Known) (events : List Event) → (fold with_event known events).sent ≤ known.sent + length events
+sent_from known [] = omega arith
+sent_from known (e ∷ events) = omega (arith, one_sent known e, sent_from (with_event known e) events)
+
+-- no more were sent than there are events
+pub few_sent : (events : List Event) → (known_of events).sent ≤ length events
+few_sent events = omega (arith, sent_from nothing_known events)

@@ -81,3 +81,8 @@ flow_lines queue events = known_lines queue (known_of events)
 abbrev pub flows_text : List Event → Option (List Event) → List ℕ
 flows_text events None = line_of flows_header ++ flow_lines FqCodel events
 flows_text events (Some fifo) = (line_of flows_header ++ flow_lines FqCodel events) ++ flow_lines Fifo fifo
+
+-- the same table of the packets of journals
+abbrev pub known_flows_text : Known → Option Known → List ℕ
+known_flows_text known None = line_of flows_header ++ known_lines FqCodel known
+known_flows_text known (Some fifo) = (line_of flows_header ++ known_lines FqCodel known) ++ known_lines Fifo fifo

@@ -5,6 +5,7 @@ pub mod QueueNames
 pub mod Tables
 pub mod PacketTables
 pub mod StepTables
+pub mod Gatherings
 pub mod Groups
 pub mod FlowTables
 pub mod SummaryFields

@@ -8,7 +8,7 @@ use Rattle.link_report.specs.declared.packets.Fate.TheVariants.{Waiting, Sent, D
 use Rattle.link_report.specs.declared.packets.PacketRecord.{PacketRecord}
 use Rattle.link_report.specs.declared.table.Queue.{Queue}
 use Rattle.link_report.specs.declared.table.Queue.TheVariants.{FqCodel, Fifo}
-use Rattle.link_report.specs.Packets.{known_of}
+use Rattle.link_report.specs.Packets.{Known, known_of}
 use Rattle.link_report.specs.QueueNames.{queue_name}
 use Rattle.link_report.specs.Tables.{cause_name, ecn_digit, line_of, mark_name}
 
@@ -45,3 +45,10 @@ abbrev pub packets_text : List Event → Option (List Event) → List ℕ
 packets_text events None = line_of packets_header ++ packet_lines FqCodel events
 packets_text events (Some fifo) =
     (line_of packets_header ++ packet_lines FqCodel events) ++ packet_lines Fifo fifo
+
+-- the same table of the packets of journals
+abbrev pub known_packets_text : Known → Option Known → List ℕ
+known_packets_text known None = line_of packets_header ++ flat_map (packet_line FqCodel) known.packets
+known_packets_text known (Some fifo) =
+    (line_of packets_header ++ flat_map (packet_line FqCodel) known.packets)
+    ++ flat_map (packet_line Fifo) fifo.packets

@@ -3,7 +3,7 @@
 ghost use Rattle.std.specs.Prelude.{◌≡◌, ◌≤◌, All, IfOk, IfSome, OnOk, length, option_map};
 ghost use Rattle.std.specs.List.{flat_map};
 ghost use Rattle.link_report.specs.Tables as Tables;
-ghost use Rattle.link_report.specs.FlowTables.{all_line, delay_fields, first_flow, flow_lines, flows_header, flows_text, group_line, known_lines, span_of, summary_fields};
+ghost use Rattle.link_report.specs.FlowTables.{all_line, delay_fields, first_flow, flow_lines, flows_header, flows_text, group_line, known_flows_text, known_lines, span_of, summary_fields};
 
 use crate::decimal::Digits;
 use crate::groups::{Group, grouped};
@@ -27,6 +27,41 @@ pub fn flows_text(
     let mut table = Table::new(alloc);
     write_flows(&mut table, events, fifo)?;
     table.into_text()
+}
+
+/// The text of the table of the packets of journals, as `flows_text` writes it. It fails for want of memory alone.
+pub fn flows_text_of(
+    alloc: Global,
+    packets: &Packets,
+    fifo: Option<&Packets>,
+) -> Result<Vec<u8>, Memory>
+    requires few { length packets.now.packets ≤ MAX_EVENTS }
+    requires fifo_few { IfSome fifo (λ p. length p.now.packets ≤ MAX_EVENTS) }
+    ensures { IfOk result (λ text. text.items
+        ≡ known_flows_text packets.now (option_map (λ p. p.now) fifo.entry)) }
+{
+    let mut table = Table::new(alloc);
+    write_known_flows(&mut table, packets, fifo)?;
+    table.into_text()
+}
+
+/// Writes the table of packets.
+fn write_known_flows(
+    table: &mut Table,
+    packets: &Packets,
+    fifo: Option<&Packets>,
+) -> Result<(), Memory>
+    requires few { length packets.now.packets ≤ MAX_EVENTS }
+    requires fifo_few { IfSome fifo (λ p. length p.now.packets ≤ MAX_EVENTS) }
+    ensures { OnOk result (Tables.Adds table.old table.new
+        (known_flows_text packets.now (option_map (λ p. p.now) fifo.entry))) }
+{
+    header(table)?;
+    known_rows(table, Queue::FqCodel, packets)?;
+    match fifo {
+        Some(fifo) => known_rows(table, Queue::Fifo, fifo),
+        None => Ok(()),
+    }
 }
 
 /// Writes the table.

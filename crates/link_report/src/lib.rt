@@ -4,6 +4,7 @@
 
 mod decimal;
 mod flows;
+mod gathered;
 mod groups;
 mod packet_rows;
 mod packets;
@@ -13,8 +14,9 @@ mod steps;
 mod summary;
 mod table;
 
-pub use flows::flows_text;
-pub use packet_rows::packets_text;
+pub use flows::{flows_text, flows_text_of};
+pub use gathered::Gathered;
+pub use packet_rows::{packets_text, packets_text_of};
 pub use packets::{Fate, PacketRecord, Packets};
 pub use percentiles::percentile;
 pub use series::series_text;

@@ -4,7 +4,7 @@ ghost use Rattle.std.specs.Prelude.{◌≡◌, ◌++◌, IfOk, OnOk, option_map}
 ghost use Rattle.std.specs.List.{flat_map};
 ghost use Rattle.link_report.specs.Packets.{known_of};
 ghost use Rattle.link_report.specs.Tables as Tables;
-ghost use Rattle.link_report.specs.PacketTables.{packet_line, packet_lines, packets_header, packets_text};
+ghost use Rattle.link_report.specs.PacketTables.{known_packets_text, packet_line, packet_lines, packets_header, packets_text};
 
 use crate::decimal::Digits;
 use crate::packets::{Fate, PacketRecord, Packets};
@@ -24,6 +24,37 @@ pub fn packets_text(
     let mut table = Table::new(alloc);
     write_packets(&mut table, events, fifo)?;
     table.into_text()
+}
+
+/// The text of the table of the packets of journals, as `packets_text` writes it. It fails for want of memory alone.
+pub fn packets_text_of(
+    alloc: Global,
+    packets: &Packets,
+    fifo: Option<&Packets>,
+) -> Result<Vec<u8>, Memory>
+    ensures { IfOk result (λ text. text.items
+        ≡ known_packets_text packets.now (option_map (λ p. p.now) fifo.entry)) }
+{
+    let mut table = Table::new(alloc);
+    write_known_packets(&mut table, packets, fifo)?;
+    table.into_text()
+}
+
+/// Writes the table of packets where nothing is written yet.
+fn write_known_packets(
+    table: &mut Table,
+    packets: &Packets,
+    fifo: Option<&Packets>,
+) -> Result<(), Memory>
+    ensures { OnOk result (Tables.Adds table.old table.new
+        (known_packets_text packets.now (option_map (λ p. p.now) fifo.entry))) }
+{
+    header(table)?;
+    rows(table, Queue::FqCodel, packets.records())?;
+    match fifo {
+        Some(fifo) => rows(table, Queue::Fifo, fifo.records()),
+        None => Ok(()),
+    }
 }
 
 /// Writes the table where nothing is written yet.

@@ -14,7 +14,7 @@ use std::marker::Model;
 
 /// How many places remember the number of the five-tuple that was seen last. A flow has the place of its number, modulo
 /// this.
-const PLACES: usize = 1_024;
+pub(crate) const PLACES: usize = 1_024;
 
 /// What became of a packet. Moments are in microseconds.
 #[derive(Clone, Copy, Debug, PartialEq, Eq)]
@@ -168,7 +168,7 @@ impl Packets {
     ghost use Rattle.link_report.specs.Packets.{arrived, nothing_known};
 
     /// The packets of no event.
-    fn new(alloc: Global) -> Packets
+    pub(crate) fn new(alloc: Global) -> Packets
         ensures { result ≡ nothing_known }
     {
         Packets {
@@ -190,8 +190,16 @@ impl Packets {
         Ok(packets)
     }
 
+    /// Takes memory for the packets of so many events more, whatever five-tuples they have. The packets stay the same.
+    pub(crate) fn reserve(&mut self, more: usize) -> Result<(), Memory>
+        ensures { self.new ≡ self.old }
+    {
+        self.tuples.reserve(more)?;
+        self.records.reserve(more)
+    }
+
     /// Adds what an event says. `latest` has, at each place, the number of the five-tuple that was seen last there.
-    fn add(&mut self, event: &Event, latest: &mut [usize; PLACES]) -> Result<(), Memory>
+    pub(crate) fn add(&mut self, event: &Event, latest: &mut [usize; PLACES]) -> Result<(), Memory>
         requires { self.old.sent < u64.MAX }
         ensures { OnOk result (self.new ≡ with_event self.old event.now) }
     {

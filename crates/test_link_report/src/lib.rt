@@ -7,4 +7,6 @@ mod faults;
 #[cfg(test)]
 mod journals;
 #[cfg(test)]
+mod runs;
+#[cfg(test)]
 mod tables;

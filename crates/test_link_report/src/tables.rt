@@ -1,8 +1,11 @@
 //! The tables of a journal.
 
 use crate::journals::journal;
-use journal_core::Step;
-use link_report::{flows_text, packets_text, percentile, series_text, steps_text};
+use journal_core::{Event, Keeps, Step};
+use link_report::{
+    Gathered, MAX_EVENTS, Packets, flows_text, flows_text_of, packets_text, packets_text_of,
+    percentile, series_text, steps_text,
+};
 use packet_core::{Ecn, FiveTuple, Ip, Packet};
 use std::process::Abort;
 
@@ -88,6 +91,52 @@ fq_codel,4000,1,0,0,1,300,0,1,1500,1500,0,0\n\
 fq_codel,5000,0,0,0,1,50,0,0,1,1,0,0\n\
 fifo,0,0,2,2000,1,1000,0,0,0,0,1,1000\n",
     );
+}
+
+/// A keeper that was told these events, and makes packets of so many.
+fn told<R: Abort + AllocGlobal>(rt: &R, events: &[Event], most: u64) -> Gathered {
+    let mut gathered = Gathered::new(rt.alloc(), most);
+    for event in events {
+        gathered.reserve(1).expect(rt, "memory");
+        gathered.tell(*event);
+    }
+    assert_eq!(rt; gathered.event_count(), events.len() as u64);
+    gathered
+}
+
+/// A keeper has packets of as many events as it takes, and none of more.
+#[test]
+fn packets_of_so_many_events(rt: HostRuntime) {
+    let events = journal(&rt);
+    let count = events.len() as u64;
+    for (most, is_enough) in [
+        (0, false),
+        (1, false),
+        (count.saturating_sub(1), false),
+        (count, true),
+        (u64::MAX, true),
+    ] {
+        let gathered = told(&rt, &events, most);
+        assert_eq!(rt; gathered.packets().is_ok(), is_enough, "{most}");
+    }
+    assert!(rt; told(&rt, &[], 0).packets().is_ok());
+}
+
+/// A keeper that is told a journal makes the same tables of it, and counts its events.
+#[test]
+fn tables_of_a_keeper(rt: HostRuntime) {
+    let events = journal(&rt);
+    let gathered = told(&rt, &events, events.len() as u64);
+    let packets = gathered.packets().expect(&rt, "memory");
+    assert!(rt; packets.records().len() <= MAX_EVENTS);
+    let first = Packets::of(rt.alloc(), &events[..3]).expect(&rt, "memory");
+    assert!(rt; first.records().len() <= MAX_EVENTS);
+    let flows = flows_text(rt.alloc(), &events, Some(&events[..3])).expect(&rt, "memory");
+    let same = flows_text_of(rt.alloc(), packets, Some(&first)).expect(&rt, "memory");
+    assert_eq!(rt; same.as_slice(), flows.as_slice());
+    let rows = packets_text(rt.alloc(), &events, Some(&events[..3])).expect(&rt, "memory");
+    let same = packets_text_of(rt.alloc(), packets, Some(&first)).expect(&rt, "memory");
+    assert_eq!(rt; same.as_slice(), rows.as_slice());
 }
 
 /// The nearest rank: of ten delays the 50th percentile is the fifth, the 91st the tenth, and the 0th the first.

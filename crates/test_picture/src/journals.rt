@@ -1,8 +1,10 @@
 //! Journals, and the pictures of them. Where a step fails the test ends there.
 
+ghost use Rattle.std.specs.Prelude.{◌≤◌, length};
+
 use journal_core::{Cause, Event};
-use link_picture::picture_text;
-use link_report::MAX_EVENTS;
+use link_picture::{picture_text, picture_text_of};
+use link_report::{MAX_EVENTS, Packets};
 use packet_core::{Ecn, Packet};
 use std::process::Abort;
 use test_support::tuple;
@@ -52,7 +54,17 @@ pub(crate) fn journal<R: Abort + AllocGlobal>(rt: &R, packets: &[Given]) -> Vec<
     events
 }
 
-/// The picture of a link of 10 Mbit/s with that journal, in bins of a millisecond.
+/// The packets of a journal.
+fn packets_of<R: Abort + AllocGlobal>(rt: &R, events: &[Event]) -> Packets
+    ensures { length result.packets ≤ MAX_EVENTS }
+{
+    let packets = Packets::of(rt.alloc(), events).expect(rt, "memory");
+    assert!(rt; packets.records().len() <= MAX_EVENTS);
+    packets
+}
+
+/// The picture of a link of 10 Mbit/s with that journal, in bins of a millisecond. That of the journal's packets is the
+/// same.
 pub(crate) fn picture<R: Abort + AllocGlobal>(
     rt: &R,
     events: &[Event],
@@ -63,6 +75,15 @@ pub(crate) fn picture<R: Abort + AllocGlobal>(
         assert!(rt; fifo.len() <= MAX_EVENTS);
     }
     let text = picture_text(rt.alloc(), 10_000_000, 1_000, events, fifo).expect(rt, "memory");
+    let packets = packets_of(rt, events);
+    let same = match fifo {
+        Some(fifo) => {
+            let others = packets_of(rt, fifo);
+            picture_text_of(rt.alloc(), 10_000_000, 1_000, &packets, Some(&others))
+        }
+        None => picture_text_of(rt.alloc(), 10_000_000, 1_000, &packets, None),
+    };
+    assert_eq!(rt; same.expect(rt, "memory").as_slice(), text.as_slice());
     String::from_utf8(text).ok().expect(rt, "a text")
 }
 

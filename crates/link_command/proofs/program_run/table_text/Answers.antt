@@ -18,7 +18,7 @@ returns-then-eq-clause-text g c =
 pub returns-clause-text : goal.returns-clause-text
 returns-clause-text g c =
     let other : c.args.request.now.table ≢ Steps = same_false the_type _ _ (sym c.if-eq.ensures) in
-    let made = rw c.events.ensures.value at c.compared_text.ensures.text in
+    let made = rw c.keeper.ensures.told at c.compared_text.ensures.text in
     IfOk-weaker c.compared_text.result _ _
     (λ text h. record {
       steps = c.in_ok-engine.engine.steps;
@@ -29,7 +29,7 @@ returns-clause-text g c =
 
 pub returns-clause-fault : goal.returns-clause-fault
 returns-clause-fault g c =
-    let fails = rw c.events.ensures.value at c.compared_text.ensures.fault in
+    let fails = rw c.keeper.ensures.told at c.compared_text.ensures.fault in
     IfErr-weaker c.compared_text.result _ _
     (λ why h. compared_fails (parts_of c.args.run.now) c.args.arrivals.now c.in_ok-engine.engine.steps c.in_ok-engine.engine.sched.standing.events why
     (journal_of_engine (parts_of c.args.run.now) c.args.arrivals.now c.in_ok-engine.engine c.in_ok-engine.ensures) h) fails

@@ -1,15 +1,16 @@
-use Rattle.std.proofs.Common.{◌+◌, ◌*◌, length}
+use Rattle.std.proofs.Common.{◌≡◌, ◌+◌, ◌*◌, length}
 use Rattle.link_core.specs.Lines.{IsOnFifo, KeepsLine}
 use Rattle.link_core.specs.Underway.{busy_count}
 use Rattle.link_core.proofs.line.Line.ask_before.Given as goal
 
--- the link has gone on
+-- the link has gone on, and the keeper was told of it
 abbrev pub invariant-loop-busy : goal.invariant-loop-busy
-invariant-loop-busy l = record {
+invariant-loop-busy g l = record {
   on_link : IsOnFifo l.link l.arrivals l.self l.busy l.coming;
   kept : KeepsLine l.initial.self l.self;
+  told : g.K.Keeps.told l.keeper ≡ l.self.events.items;
 }
 
 -- what waits, and whether the link is busy
 abbrev pub decreases-loop-busy : goal.decreases-loop-busy
-decreases-loop-busy l = 2 * length l.self.waiting.items + busy_count l.busy
+decreases-loop-busy g l = 2 * length l.self.waiting.items + busy_count l.busy

@@ -1,12 +1,13 @@
 use Rattle.std.proofs.Common.{◌≡◌, drop}
 use Rattle.link_core.specs.Lines.{IsOnFifo}
-use Rattle.link_core.proofs.fifo.run_fifo.Given as goal
+use Rattle.link_core.proofs.fifo.run_fifo_with_keeper.Given as goal
 
 -- the arrivals so far were met, and flows are chosen by the same parameters and seed
 abbrev pub invariant-loop-i : goal.invariant-loop-i
-invariant-loop-i l = record {
+invariant-loop-i g l = record {
   on_link : IsOnFifo l.link l.arrivals l.line l.busy (drop l.i l.arrivals);
   params : l.line.params ≡ l.fn.params;
   seed : l.line.seed ≡ l.fn.seed;
+  told : g.K.Keeps.told l.keeper ≡ l.line.events.items;
   chooser : l.chooser ≡ record { params = l.fn.params; seed = l.fn.seed };
 }

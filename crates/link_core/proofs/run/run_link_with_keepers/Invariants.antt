@@ -1,6 +1,6 @@
 use Rattle.std.proofs.Common.{◌≡◌, drop}
 use Rattle.link_core.specs.Underway.{IsOnLink}
-use Rattle.link_core.proofs.run.run_link_with_keeper.Given as goal
+use Rattle.link_core.proofs.run.run_link_with_keepers.Given as goal
 
 -- the arrivals so far were met
 abbrev pub invariant-loop-i : goal.invariant-loop-i

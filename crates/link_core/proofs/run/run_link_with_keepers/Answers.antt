@@ -2,7 +2,7 @@ use Rattle.std.proofs.Common.{◌∙◌, List, refl, subst}
 use Rattle.link_core.specs.declared.arrival.Arrival.{Arrival}
 use Rattle.link_core.specs.Underway.{IsOnLink}
 use Rattle.link_core.proofs.LinkEngines.{has_run, next_of, none_left, opening_on_link, rest_of}
-use Rattle.link_core.proofs.run.run_link_with_keeper.Goals as goal
+use Rattle.link_core.proofs.run.run_link_with_keepers.Goals as goal
 
 pub loop-i-init : goal.loop-i-init
 loop-i-init g c =

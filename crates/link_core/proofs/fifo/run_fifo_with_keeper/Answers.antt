@@ -1,32 +1,33 @@
-use Rattle.std.proofs.Common.{◌∙◌, List, get_or, subst, arith}
+use Rattle.std.proofs.Common.{◌∙◌, sym, List, get_or, subst, arith}
 use Rattle.link_core.specs.declared.arrival.Arrival.{Arrival}
 use Rattle.link_core.specs.Lines.{HasFlow, IsOnFifo}
 use Rattle.link_core.proofs.LineLemmas.{fifo_has_run, opening_on_fifo}
 use Rattle.link_core.proofs.LinkEngines.{first_from, next_of, none_left, rest_of}
-use Rattle.link_core.proofs.fifo.run_fifo.Goals as goal
+use Rattle.link_core.proofs.fifo.run_fifo_with_keeper.Goals as goal
 
 pub loop-i-init : goal.loop-i-init
-loop-i-init c =
+loop-i-init g c =
     let new = c.new-line.ensures in
     let chosen = c.in_ok-chooser.ensures {u = tt} in
-    record { on_link = opening_on_fifo c.args.params c.args.seed c.args.link.now c.args.arrivals.now c.new-line.result c.requires new; params = new.params; seed = new.seed_kept; chooser = chosen }
+    record { on_link = opening_on_fifo c.args.params c.args.seed c.args.link.now c.args.arrivals.now c.new-line.result c.requires.arrivals new; params = new.params; seed = new.seed_kept; told = c.requires.events ∙ sym new.events; chooser = chosen }
 
 pub meet_next-requires-clause-on_link : goal.meet_next-requires-clause-on_link
-meet_next-requires-clause-on_link c = rw (rest_of c.args.arrivals.now c.loop-i.i) c.loop-i.invariant.on_link
+meet_next-requires-clause-on_link g c = rw (rest_of c.args.arrivals.now c.loop-i.i) c.loop-i.invariant.on_link
 
 pub loop-i-preserved : goal.loop-i-preserved
-loop-i-preserved c =
+loop-i-preserved g c =
     let done = c.in_ok-busy.ensures {u = tt} in
     let inv = c.loop-i.invariant in
     record {
       on_link = subst (λ (r : List Arrival). IsOnFifo c.args.link.now c.args.arrivals.now c.meet_next.new.self c.in_ok-busy.busy r) (next_of c.args.arrivals.now c.loop-i.i) done.on_link;
       params = done.kept.params ∙ inv.params;
       seed = done.kept.seed ∙ inv.seed;
+      told = done.told;
       chooser = c.flow_of-flow.ensures.kept ∙ inv.chooser;
     }
 
 pub meet_next-requires-clause-flow : goal.meet_next-requires-clause-flow
-meet_next-requires-clause-flow c =
+meet_next-requires-clause-flow g c =
     let inv = c.loop-i.invariant in
     let all = c.args.arrivals.now in
     let here = c.index-arrivals-i.result in
@@ -35,11 +36,11 @@ meet_next-requires-clause-flow c =
     rw (rest_of all c.loop-i.i) (first_from P all c.loop-i.i here (omega arith) its)
 
 pub ask_before-requires-clause-on_link : goal.ask_before-requires-clause-on_link
-ask_before-requires-clause-on_link c =
+ask_before-requires-clause-on_link g c =
     subst (λ (r : List Arrival). IsOnFifo c.args.link.now c.args.arrivals.now c.loop-i.line c.loop-i.busy r) (none_left c.args.arrivals.now c.loop-i.i c.loop-i-test.false) c.loop-i.invariant.on_link
 
 pub returns : goal.returns
-returns c =
+returns g c =
     let done = c.in_ok-ask_before.ensures {u = tt} in
     let inv = c.loop-i.invariant in
-    fifo_has_run c.args.params c.args.seed c.args.link.now c.args.arrivals.now c.ask_before.new.self c.in_ok-ask_before.field-0 done.on_link done.waits (done.kept.params ∙ inv.params) (done.kept.seed ∙ inv.seed)
+    rw done.told (fifo_has_run c.args.params c.args.seed c.args.link.now c.args.arrivals.now c.ask_before.new.self c.in_ok-ask_before.field-0 done.on_link done.waits (done.kept.params ∙ inv.params) (done.kept.seed ∙ inv.seed))
