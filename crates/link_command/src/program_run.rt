@@ -22,7 +22,7 @@ use link_report::{
 };
 use row_core::TraceFaultKind;
 use sched_core::{Engine, Event, Keeps, Memory, Step, Stored, Unstored};
-use std::alloc::Global;
+use std::alloc::{AllocError, Global};
 use std::io::{Read, Write};
 
 /// The status of a run that went well, and that of help.
@@ -179,7 +179,7 @@ fn keeper_for(alloc: Global, table: TableName) -> Gathered
     ensures events { result.events ≡ [] }
     ensures lost { result.lost ≡ [] }
 {
-    // Of more events than these the others are refused.
+    // The other tables refuse more events than these.
     let most = match table {
         TableName::Packets => u64::MAX,
         _ => MAX_EVENTS as u64,
@@ -276,21 +276,21 @@ fn packets_table(
 {
     match table {
         TableName::Packets => {
-            let (packets, others) = (events.packets()?, packets_of(fifo)?);
+            let (packets, others) = (packets_of(events)?, others_of(fifo)?);
             Ok(packets_text_of(alloc, packets, others)?)
         }
         TableName::Flows => {
             if events.event_count() > MAX_EVENTS as u64 || has_many(fifo) {
                 return Err(too_many(alloc));
             }
-            let (packets, others) = (events.packets()?, packets_of(fifo)?);
+            let (packets, others) = (packets_of(events)?, others_of(fifo)?);
             Ok(flows_text_of(alloc, packets, others)?)
         }
         TableName::Svg => {
             if events.event_count() > MAX_EVENTS as u64 || has_many(fifo) {
                 return Err(too_many(alloc));
             }
-            let (packets, others) = (events.packets()?, packets_of(fifo)?);
+            let (packets, others) = (packets_of(events)?, others_of(fifo)?);
             let rate = run.link.rate();
             Ok(picture_text_of(alloc, rate, run.every, packets, others)?)
         }
@@ -299,13 +299,23 @@ fn packets_table(
     }
 }
 
+/// The packets of a keeper. It takes as many events as its table shows. More were refused before this call.
+fn packets_of<'a>(events: &'a Gathered) -> Result<&'a Packets, Memory>
+    ensures { IfOk result (λ packets. packets.now ≡ known_of events.now.events) }
+{
+    match events.packets() {
+        Some(packets) => Ok(packets),
+        None => Err(AllocError),
+    }
+}
+
 /// The packets of the other queue, where there is one.
-fn packets_of<'a>(fifo: Option<&'a Gathered>) -> Result<Option<&'a Packets>, Memory>
+fn others_of<'a>(fifo: Option<&'a Gathered>) -> Result<Option<&'a Packets>, Memory>
     ensures { IfOk result (λ packets. option_map (λ p. p.now) packets
         ≡ option_map (λ e. known_of e.now.events) fifo.entry) }
 {
     match fifo {
-        Some(fifo) => Ok(Some(fifo.packets()?)),
+        Some(fifo) => Ok(Some(packets_of(fifo)?)),
         None => Ok(None),
     }
 }

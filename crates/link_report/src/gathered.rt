@@ -1,6 +1,6 @@
 //! A keeper that makes the packets of the events that it is told.
 
-ghost use Rattle.std.specs.Prelude.{◌≡◌, [], IfOk, length};
+ghost use Rattle.std.specs.Prelude.{◌≡◌, [], IfSome, length};
 ghost use Rattle.link_report.specs.Packets.{known_of};
 
 use crate::packets::{PLACES, Packets};
@@ -57,14 +57,14 @@ impl Gathered {
         }
     }
 
-    /// The packets of the events that it was told. It fails where these are more than `most`.
-    pub fn packets(&self) -> Result<&Packets, Memory>
-        ensures { IfOk result (λ packets. packets.now ≡ known_of self.now.events) }
+    /// The packets of the events that it was told, or none where these are more than `most`.
+    pub fn packets(&self) -> Option<&Packets>
+        ensures { IfSome result (λ packets. packets.now ≡ known_of self.now.events) }
     {
         if self.is_whole {
-            Ok(&self.packets)
+            Some(&self.packets)
         } else {
-            Err(AllocError)
+            None
         }
     }
 

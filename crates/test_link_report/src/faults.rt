@@ -1,27 +1,12 @@
 //! What the program reports of faults, and to who watches it.
 
+use crate::calls::called;
 use link_command::{Terminals, plain_words, program, read_rate};
 use std::process::Abort;
 
-/// No stream is a terminal.
-const NOWHERE: Terminals = Terminals {
-    input: false,
-    faults: false,
-};
-
 /// The program with these words and this input answers the status, writes nothing, and reports these lines.
 fn faults<R: Abort + AllocGlobal>(rt: &R, words: &[&str], input: &str, status: u8, wanted: &str) {
-    let mut output = Vec::new(rt.alloc());
-    let mut told = Vec::new(rt.alloc());
-    let mut reader = input.as_bytes();
-    let found = program(
-        rt.alloc(),
-        words,
-        &mut reader,
-        &mut output,
-        &mut told,
-        NOWHERE,
-    );
+    let (found, output, told) = called(rt, words, input);
     assert_eq!(rt; found, status, "{input}");
     assert_eq!(rt; output.len(), 0);
     assert_eq!(rt; str::from_utf8(&told).ok(), Some(wanted));

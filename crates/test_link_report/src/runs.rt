@@ -1,6 +1,7 @@
 //! The tables and the picture that the program writes of a run are those of the journals of the same run.
 
-use link_command::{Terminals, program, read_arrivals};
+use crate::calls::called;
+use link_command::read_arrivals;
 use link_core::{Arrival, Link, LinkFields, run_fifo, run_link};
 use link_picture::picture_text;
 use link_report::{MAX_EVENTS, flows_text, packets_text, series_text, steps_text};
@@ -87,20 +88,7 @@ fn written<R: Abort + AllocGlobal>(rt: &R, table: Table, with_fifo: bool, text: 
     words
         .extend_from_slice(&["limit", "40", "flows", "4096"])
         .expect(rt, "memory");
-    let (mut output, mut told) = (Vec::new(rt.alloc()), Vec::new(rt.alloc()));
-    let mut reader = text.as_bytes();
-    let terminals = Terminals {
-        input: false,
-        faults: false,
-    };
-    let status = program(
-        rt.alloc(),
-        &words,
-        &mut reader,
-        &mut output,
-        &mut told,
-        terminals,
-    );
+    let (status, output, _) = called(rt, &words, text);
     assert_eq!(rt; status, 0);
     output
 }

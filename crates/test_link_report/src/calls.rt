@@ -1,0 +1,27 @@
+//! A call of the program, none of whose streams is a terminal.
+
+use link_command::{Terminals, program};
+
+/// The status of a call with these words and this input, what it wrote, and what it reported.
+pub(crate) fn called<R: AllocGlobal>(
+    rt: &R,
+    words: &[&str],
+    input: &str,
+) -> (u8, Vec<u8>, Vec<u8>) {
+    let terminals = Terminals {
+        input: false,
+        faults: false,
+    };
+    let mut output = Vec::new(rt.alloc());
+    let mut told = Vec::new(rt.alloc());
+    let mut reader = input.as_bytes();
+    let status = program(
+        rt.alloc(),
+        words,
+        &mut reader,
+        &mut output,
+        &mut told,
+        terminals,
+    );
+    (status, output, told)
+}
