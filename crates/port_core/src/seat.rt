@@ -3,7 +3,7 @@
 ghost use Rattle.std.specs.Prelude.{◌≡◌, IfOk};
 ghost use Rattle.port_core.specs.Ports.{new_seats};
 
-use sched_core::Event;
+use sched_core::{Event, Memory};
 use std::alloc::{AllocError, Global};
 use std::marker::Model;
 use std::sync::ledger::{Ledger, Share};
@@ -57,6 +57,14 @@ impl<A: Ledger, S: Ledger> PortSeat<A, S> {
         ensures { result ≡ length self.now.told }
     {
         self.told.len() as u64
+    }
+
+    /// Takes memory for what the seat will be told of so many packets more. Where it is refused nothing changes, and
+    /// memory is taken as packets are accepted.
+    pub fn reserve(&mut self, packets: usize) -> Result<(), Memory>
+        ensures { self.new ≡ self.old }
+    {
+        self.told.reserve(packets)
     }
 
     /// How many packets this seat was given.

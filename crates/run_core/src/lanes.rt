@@ -14,11 +14,12 @@ ghost use Rattle.run_core.specs.SendersFaults.{IsLanesRunFault};
 ghost use Rattle.run_core.specs.declared.senders_fault.SendersFault.TheVariants as senders_fault;
 
 use crate::monitors::read_all;
+use crate::room::{BURST, Expected};
 use crate::senders_fault::SendersFault;
 use packet_core::{Packet, Params, Seed};
 use port_core::{
     BookBlank, BookName, Device, LaneDone, LaneSender, Layout, MAX_CAPACITY, MAX_MONITORS, Open,
-    Opened, PublishFault, Screen, Seen, Shown, Stop, lanes,
+    Opened, PublishFault, Screen, Seen, Shown, Stop, lanes_with_keepers,
 };
 use sched_core::{Engine, Refusal, Step};
 use sender_core::{MAX_SENDERS, device_moment, lists_of, packets_of, start_lanes};
@@ -28,9 +29,6 @@ use std::sync::Wait;
 use std::sync::atomic::{AtomicBool, Ordering};
 use std::thread::{self, Threads};
 use trace_core::SenderRow;
-
-/// At each dequeue of the trace at most so many packets are taken from each lane.
-const BURST: u64 = 64;
 
 /// Makes the steps by senders with a lane each and a device, while monitors read, as many as were asked for. It gives
 /// the engine, the rows of the lanes, and what each monitor saw last.
@@ -106,7 +104,10 @@ fn run_in_book<J: BookName + Send + Sync, H: Threads + Wait + Sync>(
     ensures seen { IfOk result (λ r. (length r.2.items ≡ layout.monitors) × All IsSeen r.2.items) }
     ensures fault { IfErr result (IsLanesRunFault (length lists.now)) }
 {
-    let opened = lanes::<J, _>(rt, alloc, blank, params, seed, layout)?;
+    let (events, made) = Expected::of(steps).stores(alloc);
+    let opened = lanes_with_keepers::<J, _, _, _>(
+        rt, alloc, blank, params, seed, layout, events, made,
+    )?;
     run_opened(rt, alloc, opened, steps, lists)
 }
 

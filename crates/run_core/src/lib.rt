@@ -5,6 +5,7 @@
 mod lanes;
 mod locked;
 mod monitors;
+mod room;
 mod senders_fault;
 
 pub use lanes::run_lanes;

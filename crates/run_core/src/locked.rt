@@ -8,6 +8,7 @@ ghost use Rattle.run_core.specs.Journals.{AreLockedJournal, row_of};
 ghost use Rattle.run_core.specs.SendersFaults.{IsLockedRunFault};
 ghost use Rattle.run_core.specs.declared.senders_fault.SendersFault.TheVariants as senders_fault;
 
+use crate::room::Expected;
 use crate::senders_fault::SendersFault;
 use packet_core::{Packet, Params, Seed};
 use port_core::{LockedDone, LockedPort, Open, PortSeat, Stop};
@@ -64,10 +65,15 @@ fn run_lists<A: Ledger + Send + Sync, S: Ledger + Send + Sync, H: Threads + Wait
     ensures fault { IfErr result IsLockedRunFault }
 {
     let count = lists.len() as u32 + 1;
-    let (port, mut seats) = LockedPort::<A, S>::start(alloc, params, seed, count, accepted, sent)?;
+    let expected = Expected::of(steps);
+    let (events, made) = expected.stores(alloc);
+    let (port, mut seats) = LockedPort::<A, S>::start_with_keepers(
+        alloc, params, seed, count, accepted, sent, events, made,
+    )?;
     let Some(seat) = seats.pop() else {
         unreachable!()
     };
+    let seats = with_room(seats, lists, expected.packets);
     let gates = vec![in alloc; Open; lists.len()]?;
     let shared = &port;
     let part = move || -> Result<PortSeat<A, S>, Refusal>
@@ -87,6 +93,22 @@ fn run_lists<A: Ledger + Send + Sync, S: Ledger + Send + Sync, H: Threads + Wait
         }
         Err(_) => Err(SendersFault::Settle),
     }
+}
+
+/// The seats with memory for what each will be told of the packets of its list, of which at most so many are expected.
+/// Where it is refused a seat takes some as it is told.
+fn with_room<A: Ledger, S: Ledger>(
+    seats: Vec<PortSeat<A, S>>,
+    lists: &[Vec<(u64, Packet)>],
+    most: usize,
+) -> Vec<PortSeat<A, S>>
+    ensures { result.items ≡ seats.items }
+{
+    let mut seats = seats;
+    for sender in 0..seats.len().min(lists.len()) {
+        let _ = seats[sender].reserve(lists[sender].len().min(most));
+    }
+    seats
 }
 
 /// The device's part: the dequeues and closes of the steps, in their order. A close after another one is passed over.

@@ -28,7 +28,7 @@ pub fn lists_of(
         lists.push(Vec::new(alloc))?;
     }
     // A digest takes more time than all else that is done for a packet.
-    let mut chooser = FlowChooser::try_new_for(alloc, *params, *seed, steps.len() as u64)?;
+    let mut chooser = FlowChooser::try_new_for(alloc, *params, *seed, enqueues_in(steps))?;
     for step in steps {
         if let Step::Enqueue { moment, packet, .. } = *step {
             let sender = chooser.flow_of(&packet) % senders;
@@ -36,6 +36,14 @@ pub fn lists_of(
         }
     }
     Ok(lists)
+}
+
+/// How many of the steps are enqueues.
+fn enqueues_in(steps: &[Step]) -> u64 {
+    steps
+        .iter()
+        .filter(|step| matches!(step, Step::Enqueue { .. }))
+        .count() as u64
 }
 
 /// What one sender is given.

@@ -10,6 +10,7 @@ mod calls;
 mod devices;
 mod engines;
 mod flow_lists;
+mod keepers;
 mod pictures;
 mod ports;
 mod programs;
@@ -36,7 +37,7 @@ const REFUSED: u32 = 1_000;
 const ALL: &str = "all";
 
 /// The names of the sequences.
-const SEQUENCES: [&str; 17] = [
+const SEQUENCES: [&str; 19] = [
     "flows",
     "sched",
     "engine",
@@ -48,8 +49,10 @@ const SEQUENCES: [&str; 17] = [
     "quiet_sched",
     "quiet_engine",
     "quiet_device",
+    "quiet_port",
     "trace",
     "journal",
+    "gathered",
     "program_locked",
     "program_idle",
     "program_lanes",
@@ -156,8 +159,10 @@ fn make<H: Print + Threads + Wait + Sync>(
         "quiet_sched" => quiet::sched(values, calls),
         "quiet_engine" => quiet::engine(values, calls),
         "quiet_device" => quiet::device(rt, values, calls),
+        "quiet_port" => quiet::port(rt, values, calls),
         "trace" => traces::trace(values, calls),
         "journal" => traces::journal(values, calls),
+        "gathered" => keepers::gathered(values, calls),
         "program_locked" => programs::locked(rt, values.alloc, calls),
         "program_idle" => programs::idle(rt, values.alloc, calls),
         "program_lanes" => programs::lanes(rt, values.alloc, calls),

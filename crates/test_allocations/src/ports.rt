@@ -4,12 +4,13 @@ ghost use Rattle.std.specs.Prelude.{◌≡◌};
 
 use crate::calls::Memory::{Keeps, Spares, Takes};
 use crate::calls::{Answer, Calls, Row, Subject, compared};
+use crate::keepers::take;
 use crate::pictures::first_of;
 use crate::steps::{admitted, gave};
 use crate::values::{SEED, Values};
 use packet_core::Packet;
 use port_core::{LockedPort, Open, PortSeat, Stop, send_locked};
-use sched_core::{Event, Refusal, Totals};
+use sched_core::{Event, Refusal, Stored, Totals};
 use std::marker::Brand;
 use std::sync::Wait;
 use std::sync::ledger::{Blank, Ledger};
@@ -63,11 +64,50 @@ static CLOSES: [Row<'static, Call>; 4] = [
     (Spares, Call::Seat(10, 5), "PortSeat"),
 ];
 
+/// Packets come and go at a port over lists with memory for these steps, and it is closed. The first enqueue takes
+/// memory for several packets.
+static QUIET: [Row<'static, Call>; 9] = [
+    (Takes, Call::Enqueue(0, Ok(0)), ENQUEUE_IN_ROOM),
+    (Spares, Call::Enqueue(1, Ok(1)), ENQUEUE_IN_ROOM),
+    (Spares, Call::Enqueue(2, Ok(2)), ENQUEUE_IN_ROOM),
+    (Spares, Call::Enqueue(3, Ok(3)), ENQUEUE_IN_ROOM),
+    (Spares, Call::Enqueue(4, Ok(4)), ENQUEUE_IN_ROOM),
+    (Spares, Call::Dequeue(5, Ok(Some(0))), DEQUEUE_IN_ROOM),
+    (Spares, Call::Dequeue(5, Ok(Some(1))), DEQUEUE_IN_ROOM),
+    (
+        Spares,
+        Call::Close(5, Ok(5)),
+        "LockedPort::close over lists with memory",
+    ),
+    (Spares, Call::Seat(5, 2), "PortSeat"),
+];
+
+/// The name of an enqueue there.
+const ENQUEUE_IN_ROOM: &str = "LockedPort::enqueue over lists with memory";
+
+/// The name of a dequeue there.
+const DEQUEUE_IN_ROOM: &str = "LockedPort::dequeue over lists with memory";
+
+/// The lists have memory for so many events and steps: a scheduler takes memory for those of 64 packets at once.
+const ROOM: usize = 256;
+
 /// A port is started with ledgers, which don't come back where memory is refused, and then with others.
 pub(crate) fn locked<R: Wait>(rt: &R, values: &Values, calls: &mut Calls<'_>) {
-    if !started::<Brand, Brand, _>(rt, values, calls, Blank::new(1), Blank::new(1)) {
+    starts(rt, values, false, calls);
+}
+
+/// The same of a port over lists with memory.
+pub(crate) fn quiet<R: Wait>(rt: &R, values: &Values, calls: &mut Calls<'_>) {
+    starts(rt, values, true, calls);
+}
+
+/// The same of either.
+fn starts<R: Wait>(rt: &R, values: &Values, is_quiet: bool, calls: &mut Calls<'_>) {
+    let (accepted, sent) = (Blank::new(1), Blank::new(1));
+    if !started::<Brand, Brand, _>(rt, values, is_quiet, calls, accepted, sent) {
         calls.note();
-        let again = started::<Brand, Brand, _>(rt, values, calls, Blank::new(1), Blank::new(1));
+        let (accepted, sent) = (Blank::new(1), Blank::new(1));
+        let again = started::<Brand, Brand, _>(rt, values, is_quiet, calls, accepted, sent);
         calls.wanted(again, "LockedPort::start");
     }
 }
@@ -76,6 +116,7 @@ pub(crate) fn locked<R: Wait>(rt: &R, values: &Values, calls: &mut Calls<'_>) {
 fn started<A: Ledger, S: Ledger, R: Wait>(
     rt: &R,
     values: &Values,
+    is_quiet: bool,
     calls: &mut Calls<'_>,
     accepted: Blank,
     sent: Blank,
@@ -84,25 +125,54 @@ fn started<A: Ledger, S: Ledger, R: Wait>(
     requires sent { (sent.name ≡ S.name) × (sent.parts ≡ S.parts) × (S.parts ≡ 1) }
 {
     let Values { alloc, params, .. } = *values;
-    match LockedPort::<A, S>::start(alloc, params, SEED, 1, accepted, sent) {
+    let port = if is_quiet {
+        let (mut events, mut steps) = (Stored::new(alloc), Stored::new(alloc));
+        take(&mut events, ROOM, calls);
+        take(&mut steps, ROOM, calls);
+        LockedPort::<A, S>::start_with_keepers(
+            alloc, params, SEED, 1, accepted, sent, events, steps,
+        )
+    } else {
+        LockedPort::<A, S>::start(alloc, params, SEED, 1, accepted, sent)
+    };
+    match port {
         Ok((port, seats)) => {
-            port_calls(rt, &port, seats, values.packet, calls);
+            let mut seats = seats;
+            if is_quiet {
+                make_room(&mut seats, calls);
+            }
+            port_calls(rt, &port, seats, is_quiet, values.packet, calls);
             true
         }
         Err(_) => false,
     }
 }
 
-/// Packets come and go, some are sent by a sender, and the port is closed.
+/// Each seat takes memory for those packets. Where it is refused it is taken once more.
+fn make_room<A: Ledger, S: Ledger>(seats: &mut [PortSeat<A, S>], calls: &mut Calls<'_>) {
+    for seat in 0..seats.len() {
+        if seats[seat].reserve(PACKETS as usize).is_err() {
+            calls.note();
+            let again = seats[seat].reserve(PACKETS as usize);
+            calls.wanted(again.is_ok(), "PortSeat::reserve");
+        }
+    }
+}
+
+/// Packets come and go, some are sent by a sender, and the port is closed. Where room was taken no sender sends.
 fn port_calls<A: Ledger, S: Ledger, R: Wait>(
     rt: &R,
     port: &LockedPort<A, S>,
     seats: Vec<PortSeat<A, S>>,
+    is_quiet: bool,
     packet: Packet,
     calls: &mut Calls<'_>,
 ) {
     let mut seats = seats;
     match seats.pop() {
+        Some(seat) if is_quiet => {
+            plays(rt, port, seat, packet, &QUIET, calls);
+        }
         Some(seat) => {
             let seat = plays(rt, port, seat, packet, &COMES_AND_GOES, calls);
             let seat = sent_through(rt, port, seat, packet, calls);

@@ -9,7 +9,7 @@ use crate::calls::{Calls, Row};
 use crate::devices::{self, Call as DeviceCall};
 use crate::steps::Call;
 use crate::values::Values;
-use crate::{engines, schedulers};
+use crate::{engines, ports, schedulers};
 use sched_core::{MomentFault, Refusal};
 use std::alloc::Global;
 use std::sync::Wait;
@@ -127,5 +127,11 @@ pub(crate) fn engine(values: &Values, calls: &mut Calls<'_>) {
 /// A device for which room was taken.
 pub(crate) fn device<R: Wait>(rt: &R, values: &Values, calls: &mut Calls<'_>) {
     devices::plays(rt, values, &DEVICE, calls);
+    allocate(values.alloc, calls);
+}
+
+/// A locked port for which room was taken.
+pub(crate) fn port<R: Wait>(rt: &R, values: &Values, calls: &mut Calls<'_>) {
+    ports::quiet(rt, values, calls);
     allocate(values.alloc, calls);
 }

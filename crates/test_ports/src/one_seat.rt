@@ -3,7 +3,7 @@
 
 use crate::calls::Call;
 use crate::fixtures::{Form, counted, flows, packet};
-use crate::seats::{Part, plays};
+use crate::seats::{Part, plays, plays_in_room};
 use packet_core::{Classify, Ecn, ParamFields, Params};
 use sched_core::{Engine, Event, Mark, MomentFault, Refusal, Step, Totals};
 use std::alloc::Global;
@@ -288,3 +288,29 @@ const CLOSED: Totals = Totals {
     closed: true,
     ..OPEN
 };
+
+/// Lists with memory from the start change no answer, no step and no event, and neither does memory that a seat takes
+/// while packets wait. There are 17 steps and 20 events, and an engine asks for memory for 129 events first.
+#[test]
+fn room_changes_no_call(rt: HostRuntime) {
+    let alloc = rt.alloc();
+    let plain = halves(&rt, alloc, &WHOLE_RUN, None);
+    assert_eq!(rt; plain.totals(), CLOSED);
+    for room in [0, 1, 7, 17, 20, 128, 129, 1_000] {
+        let roomy = halves(&rt, alloc, &WHOLE_RUN, Some(room));
+        assert_eq!(rt; roomy.steps(), plain.steps());
+        assert_eq!(rt; roomy.events(), plain.events());
+    }
+}
+
+/// The calls are made by the one seat, the later half of them after the refusal to settle.
+fn halves<R: Threads + Wait + Abort + Sync>(
+    rt: &R,
+    alloc: Global,
+    calls: &[Call<'_>],
+    room: Option<u32>,
+) -> Engine {
+    let (first, later) = calls.split_at(calls.len() / 2);
+    let part = Part::Alone(first);
+    plays_in_room(rt, alloc, room_for_ten(rt), 1, room, part, later)
+}

@@ -7,7 +7,7 @@ use crate::calls::{Call, makes};
 use crate::together::{all_send, both_send};
 use packet_core::Params;
 use port_core::{LockedPort, MAX_SEATS, PortSeat, Stop, Unsettled, Why};
-use sched_core::Engine;
+use sched_core::{Engine, Keeps, Stored};
 use std::alloc::Global;
 use std::marker::Brand;
 use std::process::Abort;
@@ -39,9 +39,23 @@ pub(crate) fn plays<R: Threads + Wait + Abort + Sync>(
     part: Part<'_>,
     later: &[Call<'_>],
 ) -> Engine {
+    plays_in_room(rt, alloc, params, seats, None, part, later)
+}
+
+/// The same of a port over lists that have memory for so many events and steps. Each seat takes memory for as many
+/// packets before the first call, and the last seat again after the refusal to settle.
+pub(crate) fn plays_in_room<R: Threads + Wait + Abort + Sync>(
+    rt: &R,
+    alloc: Global,
+    params: Params,
+    seats: u32,
+    room: Option<u32>,
+    part: Part<'_>,
+    later: &[Call<'_>],
+) -> Engine {
     assert!(rt; 0 < seats && seats <= MAX_SEATS);
     let (accepted, sent) = (Blank::new(u64::from(seats)), Blank::new(u64::from(seats)));
-    at_seats::<Brand, Brand, _>(rt, alloc, params, seats, part, later, accepted, sent)
+    at_seats::<Brand, Brand, _>(rt, alloc, params, seats, room, part, later, accepted, sent)
 }
 
 fn at_seats<A: Ledger + Send + Sync, S: Ledger + Send + Sync, R: Threads + Wait + Abort + Sync>(
@@ -49,6 +63,7 @@ fn at_seats<A: Ledger + Send + Sync, S: Ledger + Send + Sync, R: Threads + Wait 
     alloc: Global,
     params: Params,
     number: u32,
+    room: Option<u32>,
     part: Part<'_>,
     later: &[Call<'_>],
     accepted: Blank,
@@ -58,11 +73,56 @@ fn at_seats<A: Ledger + Send + Sync, S: Ledger + Send + Sync, R: Threads + Wait 
     requires accepted { (accepted.name ≡ A.name) × (accepted.parts ≡ A.parts) × (A.parts ≡ number) }
     requires sent { (sent.name ≡ S.name) × (sent.parts ≡ S.parts) × (S.parts ≡ number) }
 {
-    let (port, seats) = LockedPort::<A, S>::start(
-        alloc, params, SEED, number, accepted, sent,
-    ).expect(rt, "a port");
+    let (port, mut seats) = started::<A, S, _>(rt, alloc, params, number, room, accepted, sent);
+    assert!(rt; have_room(&mut seats, room));
     let seats = do_part(rt, alloc, &port, seats, part);
-    settles(rt, alloc, port, seats, later)
+    settles(rt, alloc, port, seats, room, later)
+}
+
+/// A new port over lists with memory for so many events and steps, if for any.
+fn started<A: Ledger, S: Ledger, R: Abort>(
+    rt: &R,
+    alloc: Global,
+    params: Params,
+    number: u32,
+    room: Option<u32>,
+    accepted: Blank,
+    sent: Blank,
+) -> (LockedPort<A, S>, Vec<PortSeat<A, S>>)
+    requires number { (0 < number) × (number ≤ MAX_SEATS) }
+    requires accepted { (accepted.name ≡ A.name) × (accepted.parts ≡ A.parts) × (A.parts ≡ number) }
+    requires sent { (sent.name ≡ S.name) × (sent.parts ≡ S.parts) × (S.parts ≡ number) }
+{
+    let started = match room {
+        None => LockedPort::<A, S>::start(alloc, params, SEED, number, accepted, sent),
+        Some(room) => {
+            let (mut events, mut steps) = (Stored::new(alloc), Stored::new(alloc));
+            events.reserve(room as usize).expect(rt, "memory");
+            steps.reserve(room as usize).expect(rt, "memory");
+            LockedPort::<A, S>::start_with_keepers(
+                alloc, params, SEED, number, accepted, sent, events, steps,
+            )
+        }
+    };
+    started.expect(rt, "a port")
+}
+
+/// Each seat takes memory for so many packets, if for any, and has it then.
+fn have_room<A: Ledger, S: Ledger>(seats: &mut [PortSeat<A, S>], room: Option<u32>) -> bool {
+    for seat in 0..seats.len() {
+        if !has_room(&mut seats[seat], room) {
+            return false;
+        }
+    }
+    true
+}
+
+/// The seat takes memory for so many packets, if for any, and has it then.
+fn has_room<A: Ledger, S: Ledger>(seat: &mut PortSeat<A, S>, room: Option<u32>) -> bool {
+    match room {
+        Some(packets) => seat.reserve(packets as usize).is_ok(),
+        None => true,
+    }
 }
 
 /// The seats do their part.
@@ -123,11 +183,14 @@ fn settles<A: Ledger, S: Ledger, R: Wait + Abort>(
     alloc: Global,
     port: LockedPort<A, S>,
     seats: Vec<PortSeat<A, S>>,
+    room: Option<u32>,
     later: &[Call<'_>],
 ) -> Engine {
     let mut seats = seats;
     let last = seats.pop().expect(rt, "the last seat");
     let (port, mut seats) = unsettled(rt, port, seats);
+    let mut last = last;
+    assert!(rt; has_room(&mut last, room));
     let last = makes(rt, alloc, &port, last, later);
     let given = last.sent();
     seats.push(last).expect(rt, "memory");

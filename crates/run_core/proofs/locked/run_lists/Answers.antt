@@ -31,7 +31,7 @@ unreachable-requires g c =
 pub start_locked-requires-clause-each : goal.start_locked-requires-clause-each
 start_locked-requires-clause-each g c =
     let seats = popped g (goal.at.start_locked-requires-clause-each g c).In-Some in
-    let many : length c.pop.new.self.items ≡ length c.args.lists.now = ap length seats.0 ∙ new_seats_length (length c.args.lists.now) in
+    let many : length c.with_room-seats.result.items ≡ length c.args.lists.now = ap length (c.with_room-seats.ensures ∙ seats.0) ∙ new_seats_length (length c.args.lists.now) in
     let gates : length c.deref.result.now ≡ length c.args.lists.now = search rules in
     search (rules, many, gates)
 
@@ -39,7 +39,8 @@ pub returns-in-Ok-clause-journal : goal.returns-in-Ok-clause-journal
 returns-in-Ok-clause-journal g c =
     let n = length c.args.lists.now in
     let seats = popped g (goal.at.returns-in-Ok-clause-journal g c).In-Some in
-    let many : length c.pop.new.self.items ≡ n = ap length seats.0 ∙ new_seats_length n in
+    let roomy = c.with_room-seats.ensures ∙ seats.0 in
+    let many : length c.with_room-seats.result.items ≡ n = ap length roomy ∙ new_seats_length n in
     let done = c.in_ok-done.done.items in
     let device = c.in_ok-seat.seat in
     let engine = c.in-Ok.engine in
@@ -48,7 +49,7 @@ returns-in-Ok-clause-journal g c =
     let rows_are = c.in_ok-rows.ensures.rows in
     let untold : device.told ≡ [] = c.in_ok-seat.ensures.1 ∙ (rw c.in_ok-part.was at c.in_ok-done.ensures.part).1 ∙ ap (λ (s : Seat). s.told) seats.1 in
     let settled : c.push.new.self.items ≡ map (λ d. d.seat) done ++ device ∷ [] = c.in_ok-push.ensures.items ∙ ap (λ (l : List Seat). l ++ device ∷ []) c.in_ok-rows.ensures.seats in
-    let each = rw seats.0 at c.in_ok-done.ensures.each in
+    let each = rw roomy at c.in_ok-done.ensures.each in
     let told = rw settled at c.in-Ok.ensures.told in
     let with_params : engine.sched.params ≡ c.args.params = c.in-Ok.ensures.params.0 ∙ ap (λ (p : Port). p.params) c.in_ok-port.ensures.port in
     let with_seed : engine.sched.seed ≡ c.args.seed = c.in-Ok.ensures.params.1 ∙ ap (λ (p : Port). p.seed) c.in_ok-port.ensures.port in

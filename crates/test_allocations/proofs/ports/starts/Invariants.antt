@@ -1,4 +1,4 @@
-use Rattle.test_allocations.proofs.ports.locked.Given as goal
+use Rattle.test_allocations.proofs.ports.starts.Given as goal
 
 abbrev pub ghosts-started-A-Ledger : goal.ghosts-started-A-Ledger
 ghosts-started-A-Ledger g a = record { name = a.accepted.name; parts = a.accepted.parts }
