@@ -51,7 +51,7 @@ pub(crate) struct FlowNumbers {
     seed: Seed,
     // As many as a power of two.
     places: Vec<Place>,
-    // From the seed: who doesn't know it can't pick five-tuples that share a place.
+    // From the seed, so that other five-tuples share a place where the seed is another.
     factors: (u64, u64),
 }
 
