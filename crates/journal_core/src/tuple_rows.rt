@@ -1,6 +1,6 @@
 //! What became of the packets of each five-tuple.
 
-ghost use Rattle.std.specs.Prelude.{◌≡◌, ◌<◌, ◌≤◌, All, ◌+◌, List, IfOk, OnOk, length, map, take, [], ◌∷◌, ◌++◌, slice_get, Some, IsTrue};
+ghost use Rattle.std.specs.Prelude.{◌≡◌, ◌<◌, ◌≤◌, All, ◌+◌, List, IfOk, OnErr, OnOk, length, map, take, [], ◌∷◌, ◌++◌, slice_get, Some, IsTrue, vec_capacity, vec_len};
 ghost use Rattle.packet_core.specs.Packets.{same_tuple};
 ghost use Rattle.journal_core.specs.Happened.{acceptances, fate_ids};
 ghost use Rattle.journal_core.specs.JournalLaws.{AreDistinct, FatesFollow, IdsInOrder};
@@ -91,15 +91,18 @@ impl Tally {
         }
     }
 
-    /// A packet more, which was accepted into that flow. It fails for want of memory alone. Nothing is said of the tally
-    /// after that: a row may have no packet.
+    /// A packet more, which was accepted into that flow. It fails for want of memory alone, and tallies nothing then.
     pub fn accept(&mut self, tuple: FiveTuple, flow: u32) -> Result<(), Memory>
-        ensures { OnOk result ((accepted : List Acceptance) → (a : Acceptance)
+        ensures added { OnOk result ((accepted : List Acceptance) → (a : Acceptance)
             → tuple_of a ≡ tuple → a.flow ≡ flow
             → IsTallied self.old accepted [] → IsTallied self.new (accepted ++ a ∷ []) []) }
+        ensures unchanged { OnErr result ((accepted : List Acceptance) → (seen : List Event)
+            → IsTallied self.old accepted seen → IsTallied self.new accepted seen) }
     {
+        self.rows.reserve(1)?;
+        self.places.reserve(1)?;
         let row = self.place_of(tuple, flow)?;
-        self.places.push(row)?;
+        self.places.push_reserved(row);
         Ok(())
     }
 
@@ -145,10 +148,12 @@ impl Tally {
 
     /// The place of the five-tuple's row, which is made where there is none.
     fn place_of(&mut self, tuple: FiveTuple, flow: u32) -> Result<usize, Memory>
+        requires room { vec_len self.old.rows < vec_capacity self.old.rows }
         ensures place { IfOk result (λ place. slice_get self.new.tuples.keys place ≡ Some tuple) }
         ensures tuples { OnOk result (self.new.tuples.keys ≡ with_new same_tuple self.old.tuples.keys tuple) }
         ensures row { OnOk result (self.new.rows.items ≡ with_row self.old.tuples.keys self.old.rows.items tuple flow) }
         ensures places { self.new.places ≡ self.old.places }
+        ensures unchanged { OnErr result ((self.new.tuples.keys ≡ self.old.tuples.keys) × (self.new.rows ≡ self.old.rows)) }
     {
         let entry = flow as usize % LATEST;
         let latest = self.latest[entry];
@@ -162,21 +167,23 @@ impl Tally {
 
     /// The same, whatever came last.
     fn place_by_hash(&mut self, tuple: FiveTuple, flow: u32) -> Result<usize, Memory>
+        requires room { vec_len self.old.rows < vec_capacity self.old.rows }
         ensures place { IfOk result (λ place. slice_get self.new.tuples.keys place ≡ Some tuple) }
         ensures tuples { OnOk result (self.new.tuples.keys ≡ with_new same_tuple self.old.tuples.keys tuple) }
         ensures row { OnOk result (self.new.rows.items ≡ with_row self.old.tuples.keys self.old.rows.items tuple flow) }
         ensures places { self.new.places ≡ self.old.places }
+        ensures unchanged { OnErr result ((self.new.tuples.keys ≡ self.old.tuples.keys) × (self.new.rows ≡ self.old.rows)) }
     {
         let (place, is_new) = self.tuples.insert_full(tuple)?;
         if is_new {
-            self.rows.push(TupleRow {
+            self.rows.push_reserved(TupleRow {
                 tuple,
                 flow,
                 accepted: 0,
                 sent: 0,
                 dropped: 0,
                 queued: 0,
-            })?;
+            });
         }
         Ok(place)
     }

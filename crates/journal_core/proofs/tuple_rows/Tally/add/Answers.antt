@@ -11,7 +11,7 @@ returns-in_ok-accept c =
     let seen = take c.args.place c.args.events.now in
     let more : acceptances (take (c.args.place + 1) c.args.events.now) ≡ acceptances seen ++ a ∷ [] =
     ap acceptances (take_more c.args.events.now c.args.place _ c.requires.within ∙ ap (λ (e : Event). seen ++ e ∷ []) accepted.is) ∙ filter_map_push acceptance_of seen _ a refl in
-    rw more (c.in_ok-accept.ensures {u = tt} (acceptances seen) a (sym c.tuple.ensures) refl c.requires.before)
+    rw more ((c.in_ok-accept.ensures {u = tt}).added (acceptances seen) a (sym c.tuple.ensures) refl c.requires.before)
 
 pub returns-in_default : goal.returns-in_default
 returns-in_default c =
