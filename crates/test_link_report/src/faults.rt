@@ -1,6 +1,7 @@
 //! What the program reports of faults, and to who watches it.
 
-use crate::calls::called;
+use crate::calls::{called, called_at};
+use crate::runs::rows;
 use link_command::{Terminals, plain_words, program, read_rate};
 use std::process::Abort;
 
@@ -140,6 +141,44 @@ fn reads_at_a_terminal(rt: HostRuntime) {
             "maltlink: arrivals are read from this terminal; Ctrl-D at the start of a line ends them\n"
         )
     );
+}
+
+/// What the program reports of a run of these arrivals where standard error alone is a terminal.
+fn watched<R: Abort + AllocGlobal>(rt: &R, words: &[&str], input: &str, wanted: &str) {
+    let terminals = Terminals {
+        input: false,
+        faults: true,
+    };
+    let (status, _, told) = called_at(rt, words, input, terminals);
+    assert_eq!(rt; str::from_utf8(&told).ok(), Some(wanted));
+    assert_eq!(rt; status, 0);
+}
+
+/// Who watches a run of 100,000 arrivals sees how far it is. Of a shorter one nothing is reported.
+#[test]
+fn stages_of_a_long_run(rt: HostRuntime) {
+    let flows = ["--rate", "100mbit", "--write", "flows"];
+    let both_flows = ["--rate", "100mbit", "--compare", "fifo", "--write", "flows"];
+    let both_series = [
+        "--rate",
+        "100mbit",
+        "--compare",
+        "fifo",
+        "--write",
+        "series",
+    ];
+    let steps = ["--rate", "100mbit", "--write", "steps"];
+    let mut text = rows(&rt, 99_999);
+    watched(&rt, &both_flows, &text, "");
+    text.push_str("enq,100000000,17,10.0.0.1,10.0.0.9,1,443,40,0\n")
+        .expect(&rt, "memory");
+    let run = "maltlink: 100000 arrivals are read\nmaltlink: the link has sent its last packet\n";
+    let both = "maltlink: 100000 arrivals are read\nmaltlink: the link has sent its last packet\n\
+maltlink: the FIFO has sent its last packet\n";
+    watched(&rt, &flows, &text, run);
+    watched(&rt, &both_flows, &text, both);
+    watched(&rt, &both_series, &text, both);
+    watched(&rt, &steps, &text, run);
 }
 
 /// Rates, worked out by hand: a byte has 8 bits, and `ki` is 1,024.

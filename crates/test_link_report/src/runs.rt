@@ -46,7 +46,7 @@ fn next(state: &mut u64) -> u64 {
 }
 
 /// Arrivals above the link's rate, of both kinds of addresses, with five-tuples that share flows.
-fn rows<R: Abort + AllocGlobal>(rt: &R, count: u64) -> String {
+pub(crate) fn rows<R: Abort + AllocGlobal>(rt: &R, count: u64) -> String {
     let alloc = rt.alloc();
     let mut text = String::new(alloc);
     text.push_str("version,2\n").expect(rt, "memory");
