@@ -81,9 +81,9 @@ impl TupleWords {
             & (self.fields == other.fields)
     }
 
-    /// A number whose high bits depend on all of the five-tuple and on both factors, which are odd. It gives five-tuples
-    /// their places in a table, and isn't a hash against an adversary: of IPv6, eight that differ in certain three bits
-    /// of an address have one number under all factors. That it spreads the others isn't proved.
+    /// A number whose high bits depend on all of the five-tuple and on both factors, which are odd. It gives a
+    /// five-tuple its place in a table, and isn't a hash against an adversary. Of IPv6, eight have one number under all
+    /// factors: their source and destination differ in certain three bits each. That it spreads the others isn't proved.
     #[inline(always)]
     pub fn spread(&self, first: u64, second: u64) -> u64 {
         // Two addresses of IPv4 fill a word, and those of IPv6 are mixed into one each.

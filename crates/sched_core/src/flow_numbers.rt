@@ -51,7 +51,7 @@ pub(crate) struct FlowNumbers {
     seed: Seed,
     // As many as a power of two.
     places: Vec<Place>,
-    // From the seed, so that other five-tuples share a place where the seed is another.
+    // From the seed: under another one, mostly other five-tuples share a place.
     factors: (u64, u64),
 }
 
