@@ -1,6 +1,6 @@
 //! What became of the packets of each five-tuple.
 
-ghost use Rattle.std.specs.Prelude.{◌≡◌, ◌<◌, ◌≤◌, All, ◌+◌, List, IfOk, OnErr, OnOk, length, map, take, [], ◌∷◌, ◌++◌, slice_get, Some, IsTrue, vec_capacity, vec_len};
+ghost use Rattle.std.specs.Prelude.{◌≡◌, ◌<◌, ◌≤◌, All, ◌+◌, List, IfOk, OnErr, OnOk, length, map, take, [], ◌∷◌, ◌++◌, slice_get, Some, IsTrue};
 ghost use Rattle.packet_core.specs.Packets.{same_tuple};
 ghost use Rattle.journal_core.specs.Happened.{acceptances, fate_ids};
 ghost use Rattle.journal_core.specs.JournalLaws.{AreDistinct, FatesFollow, IdsInOrder};
@@ -15,7 +15,7 @@ use crate::noted::Noted;
 use crate::step::Memory;
 use indexmap::IndexSet;
 use packet_core::FiveTuple;
-use std::alloc::Global;
+use std::alloc::{AllocError, Global};
 
 /// What became of the packets of one five-tuple.
 #[derive(Clone, Copy, Debug, PartialEq, Eq)]
@@ -62,8 +62,8 @@ impl TupleRow {
 /// For how many flows a tally remembers the last five-tuple. It is the standard number of flows (tc-fq_codel(8)).
 const LATEST: usize = 1024;
 
-/// The five-tuples of the packets that were accepted so far, with the place of each packet among them. Where all packets
-/// have come to it, it makes the rows.
+/// The five-tuples of the packets that were accepted so far, with the place of each packet among them. Where all
+/// packets have come to it, it makes the rows.
 #[derive(Drop)]
 pub struct Tally {
     /// The five-tuples, in the order of their rows.
@@ -99,7 +99,6 @@ impl Tally {
         ensures unchanged { OnErr result ((accepted : List Acceptance) → (seen : List Event)
             → IsTallied self.old accepted seen → IsTallied self.new accepted seen) }
     {
-        self.rows.reserve(1)?;
         self.places.reserve(1)?;
         let row = self.place_of(tuple, flow)?;
         self.places.push_reserved(row);
@@ -148,12 +147,13 @@ impl Tally {
 
     /// The place of the five-tuple's row, which is made where there is none.
     fn place_of(&mut self, tuple: FiveTuple, flow: u32) -> Result<usize, Memory>
-        requires room { vec_len self.old.rows < vec_capacity self.old.rows }
         ensures place { IfOk result (λ place. slice_get self.new.tuples.keys place ≡ Some tuple) }
         ensures tuples { OnOk result (self.new.tuples.keys ≡ with_new same_tuple self.old.tuples.keys tuple) }
-        ensures row { OnOk result (self.new.rows.items ≡ with_row self.old.tuples.keys self.old.rows.items tuple flow) }
+        ensures row { OnOk result
+            (self.new.rows.items ≡ with_row self.old.tuples.keys self.old.rows.items tuple flow) }
         ensures places { self.new.places ≡ self.old.places }
-        ensures unchanged { OnErr result ((self.new.tuples.keys ≡ self.old.tuples.keys) × (self.new.rows ≡ self.old.rows)) }
+        ensures known { OnErr result (self.new.tuples.keys ≡ self.old.tuples.keys) }
+        ensures rows { OnErr result (self.new.rows.items ≡ self.old.rows.items) }
     {
         let entry = flow as usize % LATEST;
         let latest = self.latest[entry];
@@ -167,23 +167,29 @@ impl Tally {
 
     /// The same, whatever came last.
     fn place_by_hash(&mut self, tuple: FiveTuple, flow: u32) -> Result<usize, Memory>
-        requires room { vec_len self.old.rows < vec_capacity self.old.rows }
         ensures place { IfOk result (λ place. slice_get self.new.tuples.keys place ≡ Some tuple) }
         ensures tuples { OnOk result (self.new.tuples.keys ≡ with_new same_tuple self.old.tuples.keys tuple) }
-        ensures row { OnOk result (self.new.rows.items ≡ with_row self.old.tuples.keys self.old.rows.items tuple flow) }
+        ensures row { OnOk result
+            (self.new.rows.items ≡ with_row self.old.tuples.keys self.old.rows.items tuple flow) }
         ensures places { self.new.places ≡ self.old.places }
-        ensures unchanged { OnErr result ((self.new.tuples.keys ≡ self.old.tuples.keys) × (self.new.rows ≡ self.old.rows)) }
+        ensures known { OnErr result (self.new.tuples.keys ≡ self.old.tuples.keys) }
+        ensures rows { OnErr result (self.new.rows.items ≡ self.old.rows.items) }
     {
         let (place, is_new) = self.tuples.insert_full(tuple)?;
         if is_new {
-            self.rows.push_reserved(TupleRow {
+            let row = TupleRow {
                 tuple,
                 flow,
                 accepted: 0,
                 sent: 0,
                 dropped: 0,
                 queued: 0,
-            });
+            };
+            // A five-tuple stands nowhere without its row.
+            if self.rows.push(row).is_err() {
+                let _undone = self.tuples.pop();
+                return Err(AllocError);
+            }
         }
         Ok(place)
     }
