@@ -154,7 +154,8 @@ fn watched<R: Abort + AllocGlobal>(rt: &R, words: &[&str], input: &str, wanted: 
     assert_eq!(rt; status, 0);
 }
 
-/// Who watches a run of 100,000 arrivals sees how far it is. Of a shorter one nothing is reported.
+/// Who watches a run of 100,000 arrivals sees how far it is. Of a shorter one nothing is reported. The
+/// steps are those of the link alone.
 #[test]
 fn stages_of_a_long_run(rt: HostRuntime) {
     let flows = ["--rate", "100mbit", "--write", "flows"];
@@ -167,7 +168,9 @@ fn stages_of_a_long_run(rt: HostRuntime) {
         "--write",
         "series",
     ];
+    let series = ["--rate", "100mbit", "--write", "series"];
     let steps = ["--rate", "100mbit", "--write", "steps"];
+    let both_steps = ["--rate", "100mbit", "--compare", "fifo", "--write", "steps"];
     let mut text = rows(&rt, 99_999);
     watched(&rt, &both_flows, &text, "");
     text.push_str("enq,100000000,17,10.0.0.1,10.0.0.9,1,443,40,0\n")
@@ -178,7 +181,9 @@ maltlink: the FIFO has sent its last packet\n";
     watched(&rt, &flows, &text, run);
     watched(&rt, &both_flows, &text, both);
     watched(&rt, &both_series, &text, both);
+    watched(&rt, &series, &text, run);
     watched(&rt, &steps, &text, run);
+    watched(&rt, &both_steps, &text, run);
 }
 
 /// Rates, worked out by hand: a byte has 8 bits, and `ki` is 1,024.
