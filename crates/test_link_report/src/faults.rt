@@ -154,8 +154,8 @@ fn watched<R: Abort + AllocGlobal>(rt: &R, words: &[&str], input: &str, wanted: 
     assert_eq!(rt; status, 0);
 }
 
-/// Who watches a run of 100,000 arrivals sees how far it is. Of a shorter one nothing is reported. The
-/// steps are those of the link alone.
+/// Who watches a run of 100,000 arrivals sees how far it is. Of a shorter one nothing is reported. The steps are those
+/// of the link alone.
 #[test]
 fn stages_of_a_long_run(rt: HostRuntime) {
     let flows = ["--rate", "100mbit", "--write", "flows"];
@@ -173,6 +173,8 @@ fn stages_of_a_long_run(rt: HostRuntime) {
     let both_steps = ["--rate", "100mbit", "--compare", "fifo", "--write", "steps"];
     let mut text = rows(&rt, 99_999);
     watched(&rt, &both_flows, &text, "");
+    watched(&rt, &both_series, &text, "");
+    watched(&rt, &both_steps, &text, "");
     text.push_str("enq,100000000,17,10.0.0.1,10.0.0.9,1,443,40,0\n")
         .expect(&rt, "memory");
     let run = "maltlink: 100000 arrivals are read\nmaltlink: the link has sent its last packet\n";
