@@ -20,6 +20,18 @@ impl Digest {
         self.state = (self.state.rotate_left(23) ^ word).wrapping_mul(FACTOR);
     }
 
+    /// Four more words, each times an odd factor of its own. It takes less time than to add one after another.
+    pub(crate) fn add_four(&mut self, words: [u64; 4]) {
+        let [first, second, third, fourth] = words;
+        self.add(
+            first
+                .wrapping_mul(0xbf58_476d_1ce4_e5b9)
+                .wrapping_add(second.wrapping_mul(0x94d0_49bb_1331_11eb))
+                .wrapping_add(third.wrapping_mul(0xd6e8_feb8_6659_fd93))
+                .wrapping_add(fourth.wrapping_mul(0xff51_afd7_ed55_8ccd)),
+        );
+    }
+
     /// More bytes, eight at a time, and how many they are.
     pub(crate) fn add_bytes(&mut self, bytes: &[u8]) {
         let (words, rest) = bytes.as_chunks::<8>();

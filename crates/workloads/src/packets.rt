@@ -37,6 +37,25 @@ fn address(bits: u64, is_ipv6: bool) -> Ip {
     }
 }
 
+/// A five-tuple as two words: its addresses, and the rest.
+pub(crate) fn words_of(tuple: &FiveTuple) -> (u64, u64) {
+    let ends = word_of(tuple.src).rotate_left(32) ^ word_of(tuple.dst);
+    let ports = u64::from(tuple.sport) << 16 | u64::from(tuple.dport);
+    (ends, u64::from(tuple.proto) << 32 | ports)
+}
+
+/// An address as a word. Two of IPv6 have the same one by chance alone.
+fn word_of(address: Ip) -> u64 {
+    match address {
+        Ip::V4(octets) => u64::from(u32::from_le_bytes(octets)),
+        Ip::V6([a, b, c, d, e, f, g, h, i, j, k, l, m, n, o, p]) => {
+            let front = u64::from_le_bytes([a, b, c, d, e, f, g, h]);
+            let back = u64::from_le_bytes([i, j, k, l, m, n, o, p]);
+            front.wrapping_mul(0x9e37_79b9_7f4a_7c15) ^ back
+        }
+    }
+}
+
 /// A packet of a five-tuple, with a length and an ECN field by some bits.
 pub(crate) fn packet(
     tuple: &FiveTuple,

@@ -1,5 +1,5 @@
-//! Senders in threads: `fqsim locked` and `fqsim lanes`. No packet is dropped, so the rows of five-tuples and of senders
-//! are the same in every run, in some order.
+//! Senders in threads: `fqsim locked` and `fqsim lanes`. No packet is dropped. So the rows of five-tuples and of senders
+//! are the same in every run, in some order, and so are all totals but the marks, and the number of rows of each kind.
 
 use crate::Fault;
 use crate::digest::Digest;
@@ -21,6 +21,9 @@ const MARKED: Shape = Shape {
     burst: 0,
     gap: 127,
 };
+
+/// The place of the packets that CoDel marked in the row of totals. It depends on the schedule.
+const MARKS: usize = 8;
 
 /// The words of runs of `fqsim`.
 static WORDS: [[&str; 5]; 4] = [
@@ -47,15 +50,31 @@ pub(crate) fn runs<H: Threads + Wait + Sync>(
     Ok(digest.value())
 }
 
-/// The sum of the digests of the rows that no schedule changes, whatever their order.
+/// The sum of the digests of all rows, whatever their order.
 fn sum_of_rows(journal: &[u8]) -> u64 {
     let mut sum = 0u64;
     for row in journal.split(|byte| *byte == b'\n') {
-        if row.starts_with(b"tuple,") || row.starts_with(b"sender,") {
-            let mut digest = Digest::new();
-            digest.add_bytes(row);
-            sum = sum.wrapping_add(digest.value());
-        }
+        sum = sum.wrapping_add(digest_of_row(row));
     }
     sum
+}
+
+/// The digest of what no schedule changes of a row: all of the row of a five-tuple or of a sender, all totals but the
+/// marks, and of other rows their kind. So their number counts.
+fn digest_of_row(row: &[u8]) -> u64 {
+    let mut digest = Digest::new();
+    if row.starts_with(b"tuple,") || row.starts_with(b"sender,") {
+        digest.add_bytes(row);
+        return digest.value();
+    }
+    let are_totals = row.starts_with(b"totals,");
+    for (place, field) in row.split(|byte| *byte == b',').enumerate() {
+        if place > 0 && !are_totals {
+            break;
+        }
+        if place != MARKS {
+            digest.add_bytes(field);
+        }
+    }
+    digest.value()
 }

@@ -2,10 +2,11 @@
 
 use crate::Fault;
 use crate::digest::Digest;
-use crate::packets::{packet, tuples};
+use crate::packets::{packet, tuples, words_of};
 use crate::random::Random;
-use packet_core::{FiveTuple, Seed, read_params};
-use shaper_core::Shaper;
+use packet_core::{Ecn, FiveTuple, Seed, read_params};
+use sched_core::{Cause, Mark, Sent};
+use shaper_core::{Shaper, ShaperTotals};
 use std::alloc::Global;
 
 /// The rounds of a plan.
@@ -187,13 +188,26 @@ fn run(
             go(&mut shaper, moment, digest)?;
         }
     }
-    let totals = shaper.totals();
+    add_totals(&shaper.totals(), digest);
+    Ok(())
+}
+
+/// Adds all totals.
+fn add_totals(totals: &ShaperTotals, digest: &mut Digest) {
+    digest.add(totals.accepted);
+    digest.add(totals.accepted_bytes);
+    digest.add(totals.sent);
     digest.add(totals.sent_bytes);
     digest.add(totals.dropped_codel);
     digest.add(totals.dropped_overflow);
+    digest.add(totals.dropped_bytes);
     digest.add(totals.marked);
+    digest.add(totals.threshold_marked);
+    digest.add(totals.flushed);
+    digest.add(totals.flushed_bytes);
     digest.add(totals.queued);
-    Ok(())
+    digest.add(totals.queued_bytes);
+    digest.add(u64::from(totals.closed));
 }
 
 /// A packet comes, and the drops for it are read.
@@ -216,6 +230,7 @@ fn come(
     let Ok(enqueued) = shaper.enqueue(moment, packet) else {
         return Err(Fault::Refused);
     };
+    digest.add(enqueued.id << 20 ^ u64::from(enqueued.flow));
     if enqueued.drops > 0 {
         read_drops(shaper, enqueued.drops, digest);
     }
@@ -229,7 +244,7 @@ fn go(shaper: &mut Shaper, moment: u64, digest: &mut Digest) -> Result<(), Fault
         Err(_) => return Err(Fault::Refused),
     };
     match sent {
-        Some(sent) => digest.add(sent.id ^ sent.packet.tag() << 32),
+        Some(sent) => add_sent(&sent, digest),
         None => digest.add(0),
     }
     if drops > 0 {
@@ -238,11 +253,34 @@ fn go(shaper: &mut Shaper, moment: u64, digest: &mut Digest) -> Result<(), Fault
     Ok(())
 }
 
+/// Adds all that is said of a packet that is sent.
+fn add_sent(sent: &Sent, digest: &mut Digest) {
+    let mark = match sent.mark {
+        Mark::NoMark => 0u64,
+        Mark::CodelMark => 1,
+        Mark::Threshold => 2,
+    };
+    let ecn = match sent.packet.ecn() {
+        Ecn::NotEct => 0u64,
+        Ecn::Ect1 => 1,
+        Ecn::Ect0 => 2,
+        Ecn::Ce => 3,
+    };
+    let marks = u64::from(sent.packet.len()) << 4 | mark << 2 | ecn;
+    let (ends, ports) = words_of(&sent.packet.tuple());
+    digest.add_four([sent.id, sent.moment, sent.packet.tag(), marks]);
+    digest.add(ends ^ ports.rotate_left(20));
+}
+
 /// Reads so many drops.
 fn read_drops(shaper: &mut Shaper, drops: u64, digest: &mut Digest) {
     for _ in 0..drops {
         if let Some(dropped) = shaper.next_drop() {
-            digest.add(dropped.tag);
+            let cause = match dropped.cause {
+                Cause::Codel => 0u64,
+                Cause::Overflow => 1,
+            };
+            digest.add_four([dropped.tag, dropped.id, cause, 1]);
         }
     }
 }
