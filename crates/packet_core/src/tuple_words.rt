@@ -1,6 +1,6 @@
 //! Five-tuples in whole words.
 
-ghost use Rattle.std.specs.Prelude.{◌≡◌, ◌↔◌, IsTrue};
+ghost use Rattle.std.specs.Prelude.{◌≡◌, ◌↔◌, ◌<◌, ◌≤◌, IsTrue};
 ghost use Rattle.packet_core.specs.PackedPackets.{IsPacked, parts_of};
 
 use crate::packed::{address_words, fields_word, tuple_in};
@@ -81,11 +81,25 @@ impl TupleWords {
             & (self.fields == other.fields)
     }
 
-    /// A number whose high bits depend on all of the five-tuple and on both factors, which are odd. It gives a
-    /// five-tuple its place in a table, and isn't a hash against an adversary. Of IPv6, eight have one number under all
-    /// factors: their source and destination differ in certain three bits each. That it spreads the others isn't proved.
+    /// The five-tuple's place in a table of so many places, which are a power of two of 2^18 at most. Both factors are
+    /// odd. It isn't a hash against an adversary: of IPv6, four five-tuples have one place under all factors. That it
+    /// spreads the others isn't proved.
     #[inline(always)]
-    pub fn spread(&self, first: u64, second: u64) -> u64 {
+    pub fn place(&self, factors: (u64, u64), places: usize) -> usize
+        requires { 1 ≤ places }
+        ensures { result < places }
+    {
+        // A bit of a product depends on the bits of both sides up to it alone, so the topmost ones are mixed into those
+        // below: of few places the number depends on the protocol, too.
+        let high = self.spread(factors) >> 46;
+        (high ^ high >> 9) as usize & (places - 1)
+    }
+
+    /// A number whose high bits depend on all of the five-tuple and on both factors.
+    // The four of IPv6: at either end, bit 63 of an address's first word makes up for bits 63 and 31 of its second one.
+    #[inline(always)]
+    fn spread(&self, factors: (u64, u64)) -> u64 {
+        let (first, second) = factors;
         // Two addresses of IPv4 fill a word, and those of IPv6 are mixed into one each.
         let kinds = self.fields >> 58;
         let ends = if kinds == 0 {
@@ -93,7 +107,10 @@ impl TupleWords {
         } else {
             let src = mixed(mixed(self.src.0, second) ^ self.src.1, first);
             let dst = mixed(mixed(self.dst.0, second) ^ self.dst.1, first);
-            src.rotate_left(32) ^ dst ^ kinds
+            // An address's last byte is the top one of its second word. It changes bits 56 to 63 of what is mixed, and
+            // by them 24 to 31. Turned by 16 these lie apart from those of the other end. Turned by 32 they would lie
+            // on them, and only the difference of both last bytes would count.
+            src.rotate_left(16) ^ dst ^ kinds
         };
         (mixed(ends, first) ^ self.fields).wrapping_mul(second)
     }

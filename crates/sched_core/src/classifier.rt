@@ -1,9 +1,11 @@
 //! The choice of a packet's flow, by one scheduler's parameters and seed.
 
-ghost use Rattle.std.specs.Prelude.{◌≡◌, ◌%◌, ◌<◌, IfOk};
+ghost use Rattle.std.specs.Prelude.{◌≡◌, ◌%◌, ◌/◌, ◌<◌, ◌≤◌, IfOk, OnErr};
 ghost use Rattle.packet_core.specs.FlowNumber.{flow_number};
+ghost use Rattle.packet_core.specs.declared.params.Classify.TheVariants.{Hash};
+ghost use Rattle.sched_core.specs.declared.classifier.TheConstants.{PACKETS_PER_FLOW};
 
-use crate::flow_numbers::FlowNumbers;
+use crate::flow_numbers::{FlowNumbers, KNOWN_FACTORS, factors_of};
 use journal_core::Memory;
 use packet_core::{Classify, Packet, Params, Seed, flow_of};
 use std::alloc::Global;
@@ -69,9 +71,25 @@ impl Classifier {
         ensures { IfOk result
             (λ classifier. classifier ≡ classifier_by params.now.classify params.now.flows seed) }
     {
+        Classifier::try_with_factors(alloc, params, seed, factors_of(&seed))
+    }
+
+    /// The same, where five-tuples have their places in the table by those factors.
+    fn try_with_factors(
+        alloc: Global,
+        params: &Params,
+        seed: Seed,
+        factors: (u64, u64),
+    ) -> Result<Classifier, Memory>
+        ensures made { IfOk result
+            (λ classifier. classifier ≡ classifier_by params.now.classify params.now.flows seed) }
+        ensures memory { OnErr result (params.now.classify ≡ Hash) }
+    {
         Ok(match params.classify() {
             Classify::Dport => Classifier::Port(PortFlows::new(params.flows())),
-            Classify::Hash => Classifier::Hash(FlowNumbers::try_new(alloc, *params, seed)?),
+            Classify::Hash => {
+                Classifier::Hash(FlowNumbers::try_new(alloc, *params, seed, factors)?)
+            }
         })
     }
 
@@ -91,11 +109,11 @@ impl Classifier {
 
 /// A table of five-tuples is taken where at least as many packets as this come for each flow. For fewer of them their
 /// digests take less time than it.
-const PACKETS_PER_FLOW: u64 = 4;
+const PACKETS_PER_FLOW: u64 = 16;
 
 /// The choice of packets' flows by parameters and a seed, as a scheduler with the same parameters and seed makes it. By
 /// the hash it remembers five-tuples that came before: only one that isn't remembered takes a digest. All memory is taken
-/// when it is made.
+/// when it is made. No look-up in its table depends on the seed.
 #[derive(Debug, Drop)]
 pub struct FlowChooser {
     params: Params,
@@ -117,11 +135,12 @@ impl Model for FlowChooser {
 }
 
 impl FlowChooser {
-    /// The choice by those parameters and that seed. It fails for want of memory alone.
+    /// The choice by those parameters and that seed. It fails for want of memory alone, and by the port never.
     pub fn try_new(alloc: Global, params: Params, seed: Seed) -> Result<FlowChooser, Memory>
-        ensures { IfOk result (λ chooser. chooser ≡ record { params = params; seed = seed }) }
+        ensures made { IfOk result (λ chooser. chooser ≡ record { params = params; seed = seed }) }
+        ensures memory { OnErr result (params.classify ≡ Hash) }
     {
-        let classifier = Classifier::try_new(alloc, &params, seed)?;
+        let classifier = Classifier::try_with_factors(alloc, &params, seed, KNOWN_FACTORS)?;
         Ok(FlowChooser {
             params,
             seed,
@@ -130,15 +149,17 @@ impl FlowChooser {
     }
 
     /// The same choice for about so many packets. By the hash it remembers five-tuples only where there are at least
-    /// four packets for each flow: for fewer of them their digests take less time than what it would remember them in,
-    /// and it takes no memory.
+    /// sixteen packets for each flow: for fewer of them their digests take less time than what it would remember them
+    /// in, and it takes no memory. So it doesn't fail for them.
     pub fn try_new_for(
         alloc: Global,
         params: Params,
         seed: Seed,
         packets: u64,
     ) -> Result<FlowChooser, Memory>
-        ensures { IfOk result (λ chooser. chooser ≡ record { params = params; seed = seed }) }
+        ensures made { IfOk result (λ chooser. chooser ≡ record { params = params; seed = seed }) }
+        ensures memory { OnErr result (params.classify ≡ Hash) }
+        ensures many { OnErr result (params.flows ≤ packets / PACKETS_PER_FLOW) }
     {
         let few = packets / PACKETS_PER_FLOW < u64::from(params.flows());
         if few && params.classify() == Classify::Hash {

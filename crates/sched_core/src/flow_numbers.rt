@@ -13,11 +13,19 @@ use std::marker::Model;
 /// At least as many places as this for each flow: where a few conversations share each flow, few of them share a place.
 const PLACES_PER_FLOW: usize = 4;
 
-/// What a seed's first half is mixed into: 2^64 over the golden ratio. So the zero seed spreads five-tuples, too.
-const FIRST_FACTOR: u64 = 0x9e37_79b9_7f4a_7c15;
+/// Factors that are no secret: 2^64 over the golden ratio, and another odd number. Who knows them can choose five-tuples
+/// that share a place, and each of these takes a digest then.
+pub(crate) const KNOWN_FACTORS: (u64, u64) = (0x9e37_79b9_7f4a_7c15, 0xd6e8_feb8_6659_fd93);
 
-/// What a seed's second half is mixed into.
-const SECOND_FACTOR: u64 = 0xd6e8_feb8_6659_fd93;
+/// The factors of a seed. So under another one, mostly other five-tuples share a place. The zero seed spreads them, too.
+pub(crate) fn factors_of(seed: &Seed) -> (u64, u64) {
+    let (first, second) = halves(&seed.0);
+    // Odd ones, so that each multiplication loses nothing.
+    (
+        (first ^ KNOWN_FACTORS.0) | 1,
+        (second ^ KNOWN_FACTORS.1) | 1,
+    )
+}
 
 /// The five-tuple that stands in each place at first, with its number: a place that can be empty takes one test more at
 /// each look.
@@ -51,7 +59,7 @@ pub(crate) struct FlowNumbers {
     seed: Seed,
     // As many as a power of two.
     places: Vec<Place>,
-    // From the seed: under another one, mostly other five-tuples share a place.
+    // By these a five-tuple has its place.
     factors: (u64, u64),
 }
 
@@ -68,13 +76,17 @@ impl Model for FlowNumbers {
 }
 
 impl FlowNumbers {
-    /// No five-tuple yet.
-    pub(crate) fn try_new(alloc: Global, params: Params, seed: Seed) -> Result<FlowNumbers, Memory>
+    /// No five-tuple yet. Each will have its place by those factors.
+    pub(crate) fn try_new(
+        alloc: Global,
+        params: Params,
+        seed: Seed,
+        factors: (u64, u64),
+    ) -> Result<FlowNumbers, Memory>
         requires { params.classify ≡ Hash }
         ensures { IfOk result (λ numbers. numbers ≡ record { flows = params.flows; seed = seed }) }
     {
         let places = (PLACES_PER_FLOW * params.flows() as usize).next_power_of_two();
-        let (first, second) = halves(&seed.0);
         let first_known = Numbered::new(&params, &seed, TupleWords::new(&FIRST_TUPLE));
         let place = Place {
             later: first_known,
@@ -84,8 +96,7 @@ impl FlowNumbers {
             params,
             seed,
             places: vec![in alloc; place; places]?,
-            // Odd ones, so that each multiplication loses nothing.
-            factors: ((first ^ FIRST_FACTOR) | 1, (second ^ SECOND_FACTOR) | 1),
+            factors,
         })
     }
 
@@ -96,7 +107,7 @@ impl FlowNumbers {
         ensures value { result ≡ flow_number Hash self.old.flows self.old.seed tuple }
         ensures kept { self.new ≡ self.old }
     {
-        let number = place_of(&tuple, self.factors, self.places.len());
+        let number = tuple.place(self.factors, self.places.len());
         self.places[number].recall(&self.params, &self.seed, tuple)
     }
 }
@@ -155,19 +166,6 @@ impl Place {
         self.later = Numbered::new(params, seed, tuple);
         self.later.flow
     }
-}
-
-/// The place of a five-tuple, of so many.
-#[inline(always)]
-fn place_of(tuple: &TupleWords, factors: (u64, u64), places: usize) -> usize
-    requires { 1 ≤ places }
-    ensures { result < places }
-{
-    let (first, second) = factors;
-    // Eighteen bits are enough for the most places. A bit of a product depends on the bits of both sides up to it alone,
-    // so the topmost ones are mixed into those below: of few places the number depends on the protocol, too.
-    let high = tuple.spread(first, second) >> 46;
-    (high ^ high >> 9) as usize & (places - 1)
 }
 
 /// Sixteen bytes as two words.

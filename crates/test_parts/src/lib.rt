@@ -16,6 +16,8 @@ mod packets;
 #[cfg(test)]
 mod parameters;
 #[cfg(test)]
+mod places;
+#[cfg(test)]
 mod queued;
 #[cfg(test)]
 mod spacings;

@@ -12,12 +12,6 @@ const LONG: Ip = Ip::V6([32, 1, 13, 184, 4, 5, 6, 7, 8, 9, 10, 11, 12, 14, 15, 2
 /// An address of IPv6 that begins with the bytes of the one of IPv4.
 const OTHER: Ip = Ip::V6([10, 2, 3, 4, 0, 0, 0, 0, 0, 0, 0, 0, 0, 0, 0, 0]);
 
-/// As many numbers as twelve bits have.
-const PLACES: usize = 4_096;
-
-/// Two odd factors, as a table of flow numbers draws them.
-const FACTORS: (u64, u64) = (0x9e37_79b9_7f4a_7c15, 0xbf58_476d_1ce4_e5b9);
-
 /// A packet with the greatest values, but for its addresses, ECN field and tag.
 fn greatest(rt: &impl Abort, src: Ip, dst: Ip, ecn: Ecn) -> Packet {
     let tuple = FiveTuple {
@@ -81,83 +75,6 @@ fn words_are_of_one_five_tuple(rt: &impl Abort, src: Ip, dst: Ip) {
     }
 }
 
-/// Which part of a five-tuple varies.
-#[derive(Clone, Copy)]
-enum Part {
-    Proto,
-    Source,
-    Destination,
-    SourcePort,
-    DestinationPort,
-}
-
-/// An address of the same kind with that last byte.
-fn ending_in(address: Ip, last: u8) -> Ip {
-    match address {
-        Ip::V4(_) => Ip::V4([10, 2, 3, last]),
-        Ip::V6(_) => Ip::V6([32, 1, 13, 184, 4, 5, 6, 7, 8, 9, 10, 11, 12, 14, 15, last]),
-    }
-}
-
-/// A five-tuple between two addresses that differs from others in that part alone, by that number.
-fn varied(src: Ip, dst: Ip, part: Part, number: u8) -> FiveTuple {
-    let tuple = FiveTuple {
-        proto: 17,
-        src,
-        dst,
-        sport: 40_000,
-        dport: 443,
-    };
-    match part {
-        Part::Proto => FiveTuple {
-            proto: number,
-            ..tuple
-        },
-        Part::Source => FiveTuple {
-            src: ending_in(src, number),
-            ..tuple
-        },
-        Part::Destination => FiveTuple {
-            dst: ending_in(dst, number),
-            ..tuple
-        },
-        Part::SourcePort => FiveTuple {
-            sport: u16::from(number),
-            ..tuple
-        },
-        Part::DestinationPort => FiveTuple {
-            dport: u16::from(number),
-            ..tuple
-        },
-    }
-}
-
-/// Whether five-tuples that differ in one part alone mostly have numbers of their own in the topmost twelve bits. Of 256
-/// random ones 248 would, in the mean.
-fn words_are_spread(rt: &impl Abort, src: Ip, dst: Ip) {
-    let parts = [
-        Part::Proto,
-        Part::Source,
-        Part::Destination,
-        Part::SourcePort,
-        Part::DestinationPort,
-    ];
-    for part in &parts {
-        let mut seen = [false; PLACES];
-        let mut count = 0u32;
-        for number in 0..=u8::MAX {
-            let tuple = varied(src, dst, *part, number);
-            let spread = TupleWords::new(&tuple).spread(FACTORS.0, FACTORS.1);
-            let place = (spread >> 52) as usize % PLACES;
-            if !seen[place] {
-                seen[place] = true;
-                count = count.saturating_add(1);
-            }
-        }
-        assert!(rt; count >= 200, "{count}");
-    }
-}
-
 #[cfg(test)]
 mod tests {
     use super::*;
@@ -177,14 +94,6 @@ mod tests {
         words_are_of_one_five_tuple(&rt, SHORT, LONG);
         words_are_of_one_five_tuple(&rt, LONG, SHORT);
         words_are_of_one_five_tuple(&rt, LONG, LONG);
-    }
-
-    #[test]
-    fn words_of_five_tuples_are_spread(rt: HostRuntime) {
-        words_are_spread(&rt, SHORT, SHORT);
-        words_are_spread(&rt, SHORT, LONG);
-        words_are_spread(&rt, LONG, SHORT);
-        words_are_spread(&rt, LONG, LONG);
     }
 
     #[test]
@@ -220,14 +129,19 @@ mod tests {
         let tuple = FiveTuple {
             proto: 17,
             src: SHORT,
-            dst: SHORT,
+            dst: Ip::V4([10, 5, 6, 7]),
             sport: 5000,
             dport: 53,
         };
         let packet = Packet::try_new(tuple, 100, Ecn::Ect0).expect(&rt, "a packet");
         let shown = format!(in rt.alloc(); "{:?}", packet.with_tag(9))?;
         let wanted = "Packet { tuple: FiveTuple { proto: 17, src: V4([10, 2, 3, 4]), \
-                      dst: V4([10, 2, 3, 4]), sport: 5000, dport: 53 }, len: 100, ecn: Ect0, tag: 9 }";
+                      dst: V4([10, 5, 6, 7]), sport: 5000, dport: 53 }, len: 100, ecn: Ect0, tag: 9 }";
+        assert_eq!(&rt; shown.as_str(), wanted);
+        let words = packet.with_tag(9).tuple_words();
+        let shown = format!(in rt.alloc(); "{:?}", words)?;
+        let wanted =
+            "FiveTuple { proto: 17, src: V4([10, 2, 3, 4]), dst: V4([10, 5, 6, 7]), sport: 5000, dport: 53 }";
         assert_eq!(&rt; shown.as_str(), wanted);
         Ok(())
     }
