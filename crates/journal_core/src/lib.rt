@@ -13,6 +13,7 @@ mod note;
 mod noted;
 mod outcome;
 mod step;
+mod tally;
 mod totals;
 mod tuple_rows;
 
@@ -27,5 +28,6 @@ pub use note::Note;
 pub use noted::Noted;
 pub use outcome::{Answer, Outcome};
 pub use step::{Admitted, CloseFault, MAX_MOMENT, Memory, MomentFault, Refusal, Sent, Step};
+pub use tally::Tally;
 pub use totals::Totals;
-pub use tuple_rows::{Tally, TupleRow, gather_rows};
+pub use tuple_rows::{TupleRow, gather_rows};
