@@ -17,5 +17,6 @@ pub mod RunLemmas
 pub mod StepTotals
 pub mod RunsWithoutRefused
 pub mod TallyLemmas
+pub mod SeenLemmas
 pub mod Walks
 pub mod TupleEquality

@@ -1,11 +1,11 @@
 -- Each accepted packet was sent, was lost or waits, and that once.
-use Rattle.std.proofs.Common.{◌≡◌, ◌≢◌, ℕ, ◌+◌, ◌<◌, ◌≤◌, Bool, true, false, cond, not, All, List, [], ◌∷◌, ◌++◌, map, filter, eqb, get_or, length, Option, Some, None, option_map, refl, sym, ap, subst, ◌∙◌, inl, inr, arith}
+use Rattle.std.proofs.Common.{◌≡◌, ◌≢◌, ℕ, ◌+◌, ◌<◌, ◌≤◌, true, false, not, All, List, [], ◌∷◌, ◌++◌, map, filter, get_or, length, Option, Some, None, option_map, refl, sym, ap, ◌∙◌, inl, inr, arith}
 use Rattle.std.specs.List.{cons_option, flat_map}
 use Rattle.std.specs.List.Sorted.{IsPermutation}
 use Rattle.std.proofs.lemmas.List.Elements.{All-filter}
 use Rattle.std.proofs.lemmas.List.Sorted.{IsPermutation-append, IsPermutation-cons, IsPermutation-filter_both, IsPermutation-map, IsPermutation-middle, IsPermutation-refl, IsPermutation-sym, IsPermutation-trans}
 use Rattle.journal_core.specs.Losses.{AreGivenBackOnce, accepted_packets, lost_packets, packets_named, sent_packets, waited_as}
-use Rattle.journal_core.proofs.Words.{AllByRecursion, filter_map, cases_Bool, cases_eq, eq-eqb, ne_eqb, map-append, recursion_from_All, FiveTuple, Waiting, Event, Accepted, Sent, Dropped, Closed, Acceptance, waiting_of, acceptances, fate_ids, is_among, named, without_fate, AreDistinct, JournalLaws, WaitWithoutFate, sent_of, dropped_of}
+use Rattle.journal_core.proofs.Words.{filter_map, cases_Bool, cases_eq, eq-eqb, ne_eqb, map-append, recursion_from_All, FiveTuple, Waiting, Event, Accepted, Sent, Dropped, Closed, Acceptance, waiting_of, acceptances, fate_ids, is_among, named, without_fate, AreDistinct, JournalLaws, WaitWithoutFate, sent_of, dropped_of}
 use Rattle.journal_core.proofs.IdLemmas.{Rises, Rises-above, Rises-range, is_among_none, named_none}
 use Rattle.journal_core.proofs.ListLemmas.{ByRecursion-weaker}
 use Rattle.journal_core.proofs.WaitingPackets.{queues_hold}

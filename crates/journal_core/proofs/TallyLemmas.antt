@@ -14,7 +14,7 @@ use Rattle.journal_core.proofs.FatelessPackets.{count_fated, sum_fates, sum_left
 use Rattle.journal_core.proofs.IdLemmas.{Rises-range, id_of, ids_below, named_at, named_itself, named_within, passes_at}
 use Rattle.journal_core.proofs.LawsOfHistory.{same_tuple-Decides}
 
-same_tuple-IsEquivalence : IsEquivalence same_tuple
+pub same_tuple-IsEquivalence : IsEquivalence same_tuple
 same_tuple-IsEquivalence = record {
   refl = λ t. (same_tuple-Decides t t).1 refl;
   symm = λ t u. same_from_decides (same_tuple t u) (same_tuple u t) (Decides-like (same_tuple t u) sym sym (same_tuple-Decides t u)) (same_tuple-Decides u t);
@@ -22,7 +22,7 @@ same_tuple-IsEquivalence = record {
 }
 
 -- the first acceptance of each five-tuple
-abbrev firsts_of : List Acceptance → List Acceptance
+abbrev pub firsts_of : List Acceptance → List Acceptance
 firsts_of accepted = first_of_each of_one_tuple accepted
 
 -- Whatever f tells of the first ones: with one acceptance more it tells of that one last, where its five-tuple is new.
@@ -42,22 +42,31 @@ firsts_push f accepted a =
     has_tuple (b ∷ firsts) = ap (λ r. of_one_tuple a b || r) (has_tuple firsts)
 
 -- what stands at a place still does behind more elements
-slice_get-append : {X : Type 0} (xs ys : List X) (place : ℕ) (x : X) → slice_get xs place ≡ Some x → slice_get (xs ++ ys) place ≡ Some x
+pub slice_get-append : {X : Type 0} (xs ys : List X) (place : ℕ) (x : X) → slice_get xs place ≡ Some x → slice_get (xs ++ ys) place ≡ Some x
 slice_get-append [] ys place x e = absurd cc
 slice_get-append (y ∷ xs) ys zero x e = e
 slice_get-append (y ∷ xs) ys (suc place) x e = slice_get-append xs ys place x e
 
 -- The place of each packet's five-tuple
-abbrev ArePlaced : List FiveTuple → List ℕ → List Acceptance → Type 0
+abbrev pub ArePlaced : List FiveTuple → List ℕ → List Acceptance → Type 0
 ArePlaced tuples places accepted = AllZip (λ place a. slice_get tuples place ≡ Some (tuple_of a)) places accepted
 
 -- is its own with one packet more, whose five-tuple may be new.
-placed_push : (tuples more : List FiveTuple) (places : List ℕ) (accepted : List Acceptance) (place : ℕ) (a : Acceptance) → slice_get (tuples ++ more) place ≡ Some (tuple_of a)
+pub placed_push : (tuples more : List FiveTuple) (places : List ℕ) (accepted : List Acceptance) (place : ℕ) (a : Acceptance) → slice_get (tuples ++ more) place ≡ Some (tuple_of a)
     → ArePlaced tuples places accepted → ArePlaced (tuples ++ more) (places ++ place ∷ []) (accepted ++ a ∷ [])
 placed_push tuples more [] [] place a at h = (at, tt)
 placed_push tuples more [] (b ∷ accepted) place a at h = absurd h
 placed_push tuples more (p ∷ places) [] place a at h = absurd h
 placed_push tuples more (p ∷ places) (b ∷ accepted) place a at h = (slice_get-append tuples more p (tuple_of b) h.0, placed_push tuples more places accepted place a at h.1)
+
+-- and what stands at the place of each
+pub placed_at : (tuples : List FiveTuple) (places : List ℕ) (accepted : List Acceptance) (i d : ℕ) (a : Acceptance) → i < length accepted → ArePlaced tuples places accepted
+    → (i < length places) × (slice_get tuples (get_or places i d) ≡ Some (tuple_of (get_or accepted i a)))
+placed_at tuples [] [] i d a low z = absurd (omega arith)
+placed_at tuples [] (b ∷ accepted) i d a low z = absurd z
+placed_at tuples (p ∷ places) [] i d a low z = absurd z
+placed_at tuples (p ∷ places) (b ∷ accepted) zero d a low z = (omega arith, z.0)
+placed_at tuples (p ∷ places) (b ∷ accepted) (suc i) d a low z = let rest = placed_at tuples places accepted i d a (omega arith) z.1 in let within = rest.0 in (omega arith, rest.1)
 
 -- One packet more is accepted.
 pub tallied_adds : (tuples : List FiveTuple) (rows : List TupleRow) (places : List ℕ) (accepted : List Acceptance) (a : Acceptance) (place : ℕ) → slice_get (with_new same_tuple tuples (tuple_of a)) place ≡ Some (tuple_of a)
@@ -245,15 +254,8 @@ module _ (tuples : List FiveTuple) (rows : List TupleRow) (places : List ℕ) (a
         let who = of_packet.who in
         let found = sym of_packet.found ∙ named_at (length accepted) accepted id who ids of_packet.below in
         let is_who : get_or accepted id who ≡ who = cc in
-        let at = placed_at places accepted id d who of_packet.below h.places_are in
+        let at = placed_at tuples places accepted id d who of_packet.below h.places_are in
         (at.0, at.1 ∙ ap (λ a. Some (tuple_of a)) is_who)
-      where
-        placed_at : (some : List ℕ) (more : List Acceptance) (i d : ℕ) (a : Acceptance) → i < length more → ArePlaced tuples some more → (i < length some) × (slice_get tuples (get_or some i d) ≡ Some (tuple_of (get_or more i a)))
-        placed_at [] [] i d a low z = absurd (omega arith)
-        placed_at [] (b ∷ more) i d a low z = absurd z
-        placed_at (p ∷ some) [] i d a low z = absurd z
-        placed_at (p ∷ some) (b ∷ more) zero d a low z = (omega arith, z.0)
-        placed_at (p ∷ some) (b ∷ more) (suc i) d a low z = let rest = placed_at some more i d a (omega arith) z.1 in let within = rest.0 in (omega arith, rest.1)
 
     -- and so is its row, which changes
     module _ (place : ℕ) (at : slice_get tuples place ≡ Some (tuple_of of_packet.who)) where

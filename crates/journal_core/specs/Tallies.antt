@@ -1,10 +1,12 @@
-use Rattle.std.specs.Prelude.{◌≡◌, ℕ, ◌+◌, ◌-◌, Bool, List, [], ◌∷◌, ◌++◌, map, count_by, Some, slice_get, if◌then◌else◌}
+use Rattle.std.specs.Prelude.{◌≡◌, ℕ, ◌+◌, ◌-◌, ◌<◌, vec_capacity, vec_len, Bool, List, [], ◌∷◌, ◌++◌, map, count_by, Some, slice_get, if◌then◌else◌}
 use Rattle.std.specs.List.{AllZip, IsDistinct, filter_map, list_any}
 use Rattle.packet_core.specs.Packets.{same_tuple}
 use Rattle.packet_core.specs.declared.packet.FiveTuple.{FiveTuple}
 use Rattle.journal_core.specs.declared.event.Event.{Event}
 use Rattle.journal_core.specs.declared.event.Event.TheVariants.{Accepted, Sent, Dropped, Closed}
-use Rattle.journal_core.specs.declared.tuple_rows.Tally.{Tally}
+use Rattle.journal_core.specs.declared.tally.Seen.{Seen}
+use Rattle.journal_core.specs.declared.tally.Tally.{Tally}
+use Rattle.journal_core.specs.declared.tuple_rows.RowsByTuple.{RowsByTuple}
 use Rattle.journal_core.specs.declared.tuple_rows.TupleRow.{TupleRow}
 use Rattle.journal_core.specs.Happened.{Acceptance, acceptances, passes}
 use Rattle.journal_core.specs.Statistics.{sent_of, dropped_of}
@@ -56,9 +58,33 @@ pub record AreTallied (tuples : List FiveTuple) (rows : List TupleRow) (places :
   pub rows_are : rows ≡ map (row_so_far accepted seen) (first_of_each of_one_tuple accepted)
   pub places_are : AllZip (λ place a. slice_get tuples place ≡ Some (tuple_of a)) places accepted
 
--- The tally is that of the acceptances and the events.
-abbrev pub IsTallied : Tally → List Acceptance → List Event → Type 0
-IsTallied tally accepted seen = AreTallied tally.tuples.keys tally.rows.items tally.places.items accepted seen
+-- The rows are those of the acceptances and the events.
+abbrev pub IsTallied : RowsByTuple → List Acceptance → List Event → Type 0
+IsTallied rows accepted seen = AreTallied rows.tuples.keys rows.rows.items rows.places.items accepted seen
+
+-- what is kept of a packet whose five-tuple is seen
+abbrev pub seen_of : Acceptance → Seen
+seen_of a = record { tuple = tuple_of a; flow = a.flow }
+
+-- the five-tuples that are seen
+abbrev pub tuples_of : List Seen → List FiveTuple
+tuples_of seen = map (λ (s : Seen). s.tuple) seen
+
+-- What is kept of acceptances before any row is made: some of them, among which is the first of each five-tuple, and
+-- for each packet a place where its five-tuple is seen.
+pub record AreSeen (seen : List Seen) (places : List ℕ) (accepted : List Acceptance) : Type 0 where
+  pub kept : List Acceptance
+  pub seen_are : seen ≡ map seen_of kept
+  pub firsts_are : first_of_each of_one_tuple kept ≡ first_of_each of_one_tuple accepted
+  pub places_are : AllZip (λ place a. slice_get (tuples_of seen) place ≡ Some (tuple_of a)) places accepted
+
+-- The packets of these acceptances have come to the tally.
+abbrev pub HasSeen : Tally → List Acceptance → Type 0
+HasSeen tally accepted = AreSeen tally.seen.items tally.places.items accepted
+
+-- A packet more can come to the tally without more memory.
+abbrev pub HasRoom : Tally → Type 0
+HasRoom tally = (vec_len tally.seen < vec_capacity tally.seen) × (vec_len tally.places < vec_capacity tally.places)
 
 -- the rows with one more for a five-tuple that is new
 abbrev pub with_row : List FiveTuple → List TupleRow → FiveTuple → ℕ → List TupleRow

@@ -1,6 +1,6 @@
 //! What became of the packets of each five-tuple.
 
-ghost use Rattle.std.specs.Prelude.{◌≡◌, ◌<◌, ◌≤◌, All, ◌+◌, List, IfOk, OnErr, OnOk, length, map, take, [], ◌∷◌, ◌++◌, slice_get, Some, IsTrue};
+ghost use Rattle.std.specs.Prelude.{◌≡◌, ◌<◌, ◌≤◌, ◌↔◌, All, ◌+◌, List, IfOk, OnErr, OnOk, length, map, take, [], ◌∷◌, ◌++◌, slice_get, slice_index, Some, IsTrue, vec_len};
 ghost use Rattle.packet_core.specs.Packets.{same_tuple};
 ghost use Rattle.journal_core.specs.Happened.{acceptances, fate_ids};
 ghost use Rattle.journal_core.specs.JournalLaws.{AreDistinct, FatesFollow, IdsInOrder};
@@ -10,6 +10,7 @@ ghost use Rattle.journal_core.specs.TupleRows.{tuple_rows, with_new};
 
 use crate::event::Event;
 use crate::ghost_list::GhostList;
+use crate::latest::LatestPlaces;
 use crate::note::Note;
 use crate::noted::Noted;
 use crate::step::Memory;
@@ -59,78 +60,75 @@ impl TupleRow {
     }
 }
 
-/// For how many flows a tally remembers the last five-tuple. It is the standard number of flows (tc-fq_codel(8)).
-const LATEST: usize = 1024;
-
-/// The five-tuples of the packets that were accepted so far, with the place of each packet among them. Where all
-/// packets have come to it, it makes the rows.
+/// The rows of the packets that were accepted so far, with the place of each packet's row among them.
 #[derive(Drop)]
-pub struct Tally {
+pub(crate) struct RowsByTuple {
     /// The five-tuples, in the order of their rows.
     tuples: IndexSet<FiveTuple>,
     rows: Vec<TupleRow>,
     /// For each packet, by its id, the place of its five-tuple's row.
     places: Vec<usize>,
-    /// For each flow, modulo `LATEST`, the place that its last packet was given. Most packets are of their flow's last
-    /// five-tuple: one comparison finds it, and no hash is taken.
-    latest: [usize; LATEST],
+    /// For each flow the place of its last packet. One comparison finds the row of most packets, and no hash is taken.
+    latest: LatestPlaces,
 }
 
-impl Tally {
+impl RowsByTuple {
     ghost use Rattle.journal_core.specs.Happened.{Acceptance};
 
     /// No packet yet.
-    pub fn new(alloc: Global) -> Tally
+    pub(crate) fn new(alloc: Global) -> RowsByTuple
         ensures { IsTallied result [] [] }
     {
-        Tally {
+        RowsByTuple {
             tuples: IndexSet::new(alloc),
             rows: Vec::new(alloc),
             places: Vec::new(alloc),
-            latest: [0; LATEST],
+            latest: LatestPlaces::new(alloc),
         }
     }
 
-    /// A packet more, which was accepted into that flow. It fails for want of memory alone, and tallies nothing then.
-    pub fn accept(&mut self, tuple: FiveTuple, flow: u32) -> Result<(), Memory>
-        ensures added { OnOk result ((accepted : List Acceptance) → (a : Acceptance)
+    /// A packet more, which was accepted into that flow. It fails for want of memory alone.
+    pub(crate) fn accept(&mut self, tuple: FiveTuple, flow: u32) -> Result<(), Memory>
+        ensures { OnOk result ((accepted : List Acceptance) → (a : Acceptance)
             → tuple_of a ≡ tuple → a.flow ≡ flow
             → IsTallied self.old accepted [] → IsTallied self.new (accepted ++ a ∷ []) []) }
-        ensures unchanged { OnErr result ((accepted : List Acceptance) → (seen : List Event)
-            → IsTallied self.old accepted seen → IsTallied self.new accepted seen) }
     {
         self.places.reserve(1)?;
         let row = self.place_of(tuple, flow)?;
         self.places.push_reserved(row);
+        self.latest.prepare(self.places.len());
         Ok(())
     }
 
-    /// The rows of the events that a keeper noted, where all packets that they accept have come here.
-    pub fn rows(mut self, noted: &Noted) -> Vec<TupleRow>
-        requires ids { IdsInOrder noted.now.events }
-        requires follow { FatesFollow noted.now.events }
-        requires once { AreDistinct (fate_ids noted.now.events) }
-        requires tallied { IsTallied self (acceptances noted.now.events) [] }
-        ensures rows { result.items ≡ tuple_rows noted.now.events }
-        ensures balance { All IsBalanced result.items }
+    /// The packets are those at these places among the packets so far.
+    pub(crate) fn turn(&mut self, mut places: Vec<usize>)
+        requires { All (λ place. place < vec_len self.old.places) places.items }
+        ensures tuples { self.new.tuples ≡ self.old.tuples }
+        ensures rows { self.new.rows ≡ self.old.rows }
+        ensures places { self.new.places.items ≡ map (λ place. slice_index self.old.places.items place) places.items }
     {
-        let notes = noted.notes();
-        for place in 0..notes.len() {
-            self.count(notes[place], noted.told(), place);
+        for place in places.iter_mut() {
+            *place = self.places[*place];
         }
-        self.settle();
+        self.places = places;
+    }
+
+    /// The rows.
+    pub(crate) fn into_rows(self) -> Vec<TupleRow>
+        ensures { result.items ≡ self.rows.items }
+    {
         self.rows
     }
 
     /// A row for each five-tuple of an accepted packet, with nothing counted.
-    fn open(alloc: Global, events: &[Event]) -> Result<Tally, Memory>
-        ensures { IfOk result (λ tally. IsTallied tally (acceptances events.now) []) }
+    fn open(alloc: Global, events: &[Event]) -> Result<RowsByTuple, Memory>
+        ensures { IfOk result (λ rows. IsTallied rows (acceptances events.now) []) }
     {
-        let mut tally = Tally::new(alloc);
+        let mut rows = RowsByTuple::new(alloc);
         for place in 0..events.len() {
-            tally.add(events, place)?;
+            rows.add(events, place)?;
         }
-        Ok(tally)
+        Ok(rows)
     }
 
     /// Gives a row to the packet that the event at that place accepts, where those before it have theirs.
@@ -155,13 +153,12 @@ impl Tally {
         ensures known { OnErr result (self.new.tuples.keys ≡ self.old.tuples.keys) }
         ensures rows { OnErr result (self.new.rows.items ≡ self.old.rows.items) }
     {
-        let entry = flow as usize % LATEST;
-        let latest = self.latest[entry];
+        let latest = self.latest.at(flow);
         if self.stands_at(&tuple, latest) {
             return Ok(latest);
         }
         let place = self.place_by_hash(tuple, flow)?;
-        self.latest[entry] = place;
+        self.latest.set(flow, place);
         Ok(place)
     }
 
@@ -196,7 +193,7 @@ impl Tally {
 
     /// Whether the five-tuple is the one at that place.
     fn stands_at(&self, tuple: &FiveTuple, place: usize) -> bool
-        ensures { IsTrue result → slice_get self.now.tuples.keys place ≡ Some tuple.now }
+        ensures { IsTrue result ↔ (slice_get self.now.tuples.keys place ≡ Some tuple.now) }
     {
         self.tuples.get_index(place) == Some(tuple)
     }
@@ -211,6 +208,19 @@ impl Tally {
         let told = listed(events);
         for place in 0..events.len() {
             self.count(Note::of(&events[place]), &told, place);
+        }
+    }
+
+    /// Counts the events that a keeper noted.
+    pub(crate) fn count_noted(&mut self, noted: &Noted)
+        requires ids { IdsInOrder noted.now.events }
+        requires follow { FatesFollow noted.now.events }
+        requires before { IsTallied self.old (acceptances noted.now.events) [] }
+        ensures { IsTallied self.new (acceptances noted.now.events) noted.now.events }
+    {
+        let notes = noted.notes();
+        for place in 0..notes.len() {
+            self.count(notes[place], noted.told(), place);
         }
     }
 
@@ -231,7 +241,7 @@ impl Tally {
     }
 
     /// Sets in each row how many packets wait.
-    fn settle(&mut self)
+    pub(crate) fn settle(&mut self)
         requires { All (λ row. row.sent + row.dropped ≤ row.accepted) self.old.rows.items }
         ensures { self.new.rows.items ≡ map settled self.old.rows.items }
     {
@@ -260,8 +270,8 @@ pub fn gather_rows(alloc: Global, events: &[Event]) -> Result<Vec<TupleRow>, Mem
     ensures rows { IfOk result (λ rows. rows.items ≡ tuple_rows events.now) }
     ensures balance { IfOk result (λ rows. All IsBalanced rows.items) }
 {
-    let mut tally = Tally::open(alloc, events)?;
-    tally.count_all(events);
-    tally.settle();
-    Ok(tally.rows)
+    let mut rows = RowsByTuple::open(alloc, events)?;
+    rows.count_all(events);
+    rows.settle();
+    Ok(rows.into_rows())
 }

@@ -1,0 +1,12 @@
+use Rattle.std.proofs.Common.{◌∙◌}
+use Rattle.journal_core.proofs.TallyLemmas.{rows_are_balanced, rows_are_settled, rows_settle}
+use Rattle.journal_core.proofs.tally.Tally.rows.Goals as goal
+
+pub settle-requires : goal.settle-requires
+settle-requires c = rows_settle c.args.noted.now.events c.requires.ids c.requires.once _ _ _ c.count_noted.ensures
+
+pub returns-clause-rows : goal.returns-clause-rows
+returns-clause-rows c = c.into_rows.ensures ∙ c.settle.ensures ∙ rows_are_settled c.args.noted.now.events c.requires.ids c.requires.once _ _ _ c.count_noted.ensures
+
+pub returns-clause-balance : goal.returns-clause-balance
+returns-clause-balance c = rw (returns-clause-rows c) (rows_are_balanced c.args.noted.now.events c.requires.ids c.requires.once)

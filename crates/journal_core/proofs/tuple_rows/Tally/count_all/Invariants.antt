@@ -1,7 +1,0 @@
-use Rattle.std.proofs.Common.{take}
-use Rattle.journal_core.proofs.Words.{acceptances, IsTallied}
-use Rattle.journal_core.proofs.tuple_rows.Tally.count_all.Given as goal
-
--- the events so far are counted
-abbrev pub invariant-loop-place : goal.invariant-loop-place
-invariant-loop-place l = IsTallied l.self (acceptances l.events) (take l.place l.events)
