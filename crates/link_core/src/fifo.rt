@@ -42,7 +42,8 @@ pub fn run_fifo_with_keeper<K: Keeps<Event>>(
 ) -> Result<K, Memory>
     requires arrivals { AreArrivals arrivals.now }
     requires events { K.told events ≡ [] }
-    ensures { IfOk result (λ events. IsFifoJournal params seed link.now arrivals.now (K.told events)) }
+    ensures journal { IfOk result (λ keeper. IsFifoJournal params seed link.now arrivals.now (K.told keeper)) }
+    ensures lost { IfOk result (λ keeper. K.lost keeper ≡ K.lost events) }
 {
     // A digest takes more time than all else that is done for a packet.
     let mut chooser = FlowChooser::try_new_for(alloc, params, seed, arrivals.len() as u64)?;

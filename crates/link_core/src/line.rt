@@ -58,6 +58,7 @@ impl Line {
         ensures on_link { IfOk result (λ left. IsOnFifo link.now arrivals.now self.new left (drop 1 coming.now)) }
         ensures kept { OnOk result (KeepsLine self.old self.new) }
         ensures told { OnOk result (K.told keeper.new ≡ self.new.events.items) }
+        ensures lost { OnOk result (K.lost keeper.new ≡ K.lost keeper.old) }
     {
         let left = self.ask_before(keeper, link, arrivals, busy, coming)?;
         let next = &coming[0];
@@ -84,6 +85,7 @@ impl Line {
         ensures waits { IfOk result (λ left. IfSome left (λ free. ComesBy free.moment coming.now)) }
         ensures kept { OnOk result (KeepsLine self.old self.new) }
         ensures told { OnOk result (K.told keeper.new ≡ self.new.events.items) }
+        ensures lost { OnOk result (K.lost keeper.new ≡ K.lost keeper.old) }
     {
         let mut busy = busy;
         while let Some(free) = busy {
@@ -107,6 +109,7 @@ impl Line {
         requires told { K.told keeper.old ≡ self.old.events.items }
         ensures taken { OnOk result (HasTakenIn self.old arrival.now self.new) }
         ensures told { OnOk result (K.told keeper.new ≡ self.new.events.items) }
+        ensures lost { OnOk result (K.lost keeper.new ≡ K.lost keeper.old) }
     {
         let id = self.arrived;
         let accepted = Event::Accepted {
@@ -150,6 +153,7 @@ impl Line {
         requires told { K.told keeper.old ≡ self.old.events.items }
         ensures given { IfOk result (λ busy. HasGiven link.now arrivals.now now self.old busy self.new) }
         ensures told { OnOk result (K.told keeper.new ≡ self.new.events.items) }
+        ensures lost { OnOk result (K.lost keeper.new ≡ K.lost keeper.old) }
     {
         let Some(head) = self.waiting.pop_front() else {
             return Ok(None);
@@ -174,6 +178,7 @@ fn tell<K: Keeps<Event>>(
     requires { K.told keeper.old ≡ events.old.items }
     ensures items { OnOk result (events.new.items ≡ events.old.items ++ event ∷ []) }
     ensures told { OnOk result (K.told keeper.new ≡ events.new.items) }
+    ensures lost { OnOk result (K.lost keeper.new ≡ K.lost keeper.old) }
 {
     keeper.reserve(1)?;
     *events = events.and(&event);

@@ -8,7 +8,7 @@ use Rattle.std.proofs.lemmas.List.Folds.{fold_stays}
 use Rattle.std.proofs.lemmas.List.Sums.{fold-append, fold_push}
 use Rattle.std.proofs.lemmas.Option.{IfSome_then}
 use Rattle.csv.specs.Machine.{Read as Cut, ends_at_end, field_after, fields_after, is_end, next_record, step}
-use Rattle.csv.specs.Reading.{ExplainsRead, Reached, default_config, is_bom, is_flexible, is_io, reader_state, records, records_from}
+use Rattle.csv.specs.Reading.{ExplainsRead, Reached, default_config, has_failed, is_bom, is_flexible, is_io, reader_state, records, records_from}
 use Rattle.csv.specs.Reading.{stops_reader, strip_bom}
 use Rattle.csv.specs.declared.error.ErrorKind.{ErrorKind}
 use Rattle.csv.specs.declared.error.ErrorKind.TheVariants as csv_error
@@ -17,7 +17,7 @@ use Rattle.csv.specs.declared.parser.State.{State}
 use Rattle.csv.specs.declared.parser.State.TheVariants as st
 use Rattle.journal_core.specs.declared.step.Step.{Step}
 use Rattle.row_core.specs.declared.faults.TraceFault.{TraceFault}
-use Rattle.row_core.specs.declared.faults.TraceFaultKind.TheVariants.{Read}
+use Rattle.row_core.specs.declared.faults.TraceFaultKind.TheVariants.{Memory, Read}
 use Rattle.row_core.specs.declared.reader.TraceRows.{TraceRows}
 use Rattle.row_core.specs.Traces.{HasRead, HasTaken, IsFaultOf, IsRowsFault, ReadFails, ReadsUpTo, RowsSoFar, TextReader}
 use Rattle.row_core.specs.Traces.{csv_fault, no_rows, rows_of_records, steps_of, steps_told, text_left, with_record}
@@ -123,6 +123,19 @@ io_alone csv_error.OutOfMemory old new flexible explained told = cc told
 io_alone (csv_error.UnequalLengths place expected len) old new flexible explained told = cc (flexible, explained.0)
 io_alone (csv_error.Serialize why) old new flexible explained told = absurd explained
 io_alone (csv_error.Deserialize place why) old new flexible explained told = absurd explained
+
+-- want of memory stops a reader
+pub memory_stops : (kind : ErrorKind) → csv_fault kind ≡ Memory → stops_reader kind ≡ true
+memory_stops (csv_error.Io why) told = refl
+memory_stops (csv_error.Utf8 place why) told = cc told
+memory_stops csv_error.OutOfMemory told = refl
+memory_stops (csv_error.UnequalLengths place expected len) told = cc told
+memory_stops (csv_error.Serialize why) told = cc told
+memory_stops (csv_error.Deserialize place why) told = cc told
+
+-- a reader that reads on has not failed
+pub reads_on : (text : List ℕ) (reader : TextReader) (before : List (List (List ℕ))) → HasRead text reader before → has_failed reader ≡ true → ⊥
+reads_on text reader before read failed = let none = rw failed at read.source in cc none
 
 -- what the rows with one record more told
 pub record_more : (before : List (List (List ℕ))) (fields : List (List ℕ)) (rows : RowsSoFar) → rows_of_records before ≡ Ok rows

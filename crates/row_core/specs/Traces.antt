@@ -189,3 +189,13 @@ TakesNext old next.NoStep new = (text : List ℕ) (turns : ℕ) (steps : List St
     → HasTaken text old turns steps → HasTaken text new (turns + 1) steps
 TakesNext old next.End new = (text : List ℕ) (turns : ℕ) (steps : List Step)
     → HasTaken text old turns steps → steps_of text ≡ Ok steps
+
+-- the reader of `csv` under the rows has failed
+abbrev pub HasFailed : TraceRows → Type 0
+HasFailed rows = has_failed (reader_of rows) ≡ true
+
+-- a row that asks for a step is counted
+abbrev pub IsCounted : TraceRows → Next → TraceRows → Type 0
+IsCounted old (next.Row step) new = next_number new ≡ next_number old + 1
+IsCounted old next.NoStep new = Unit {0}
+IsCounted old next.End new = Unit {0}

@@ -1,6 +1,6 @@
 //! The reading of a trace: its bytes, the records that `csv` cuts off them, and the rows and steps of these.
 ghost use Rattle.std.specs.Prelude.{◌≡◌, ◌<◌, ◌≤◌, ◌⊎◌, ◌∷◌, [], ℕ, ◌+◌, ◌++◌, IfErr, IfOk, IfSome, IsErrOf, List, Ok, OnErr, OnOk, false, length, true, vec_len};
-ghost use Rattle.csv.specs.Reading.{default_config, error_kind, records, strip_bom};
+ghost use Rattle.csv.specs.Reading.{default_config, error_kind, has_failed, records, strip_bom};
 ghost use Rattle.csv.specs.Records.{fields_of};
 ghost use Rattle.row_core.specs.Streams.{EndsWith, IsEnd, IsReadFailure};
 ghost use Rattle.row_core.specs.Traces as Traces;
@@ -152,6 +152,10 @@ impl<'a> TraceRows<'a> {
         ensures taken { IfOk result (λ next. Traces.TakesNext self.old next self.new) }
         ensures fault { IfErr result (λ fault. (text : List ℕ) (turns : ℕ) (steps : List Step)
             → Traces.HasTaken text self.old turns steps → Traces.IsRowsFault text (Traces.reader_of self.new) fault) }
+
+        // Memory comes only where `csv`'s reader has failed.
+        ensures memory { IfErr result (λ fault. fault.what ≡ TraceFaultKind.Memory → Traces.HasFailed self.new) }
+        ensures number { IfOk result (λ next. Traces.IsCounted self.old next self.new) }
     {
         match next_record(&mut self.records, &mut self.row) {
             Ok(true) => {}
@@ -237,6 +241,7 @@ fn next_record(
     ensures failed { IfErr result (λ fault. fault ≡ TraceFaultKind.Read
         → (text : List ℕ) (before : List (List (List ℕ)))
         → Traces.HasRead text reader.old before → Traces.FailsBehind text before reader.new) }
+    ensures memory { IfErr result (λ fault. fault ≡ TraceFaultKind.Memory → has_failed reader.new ≡ true) }
 {
     match reader.read_byte_record(row) {
         Ok(found) => Ok(found),

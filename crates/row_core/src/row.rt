@@ -63,6 +63,7 @@ pub(crate) fn tells_version(row: &ByteRecord, row_number: u64) -> bool
 pub(crate) fn read_version(row: &ByteRecord) -> Result<Version, TraceFaultKind>
     ensures value { result ≡ version_of (fields_of row.now) }
     ensures fault { IfErr result (λ fault. fault ≢ TraceFaultKind.Read) }
+    ensures memory { IfErr result (λ fault. fault ≢ TraceFaultKind.Memory) }
 {
     if row.len() != 2 {
         return Err(TraceFaultKind::BadFieldCount);
@@ -79,6 +80,7 @@ pub(crate) fn read_version(row: &ByteRecord) -> Result<Version, TraceFaultKind>
 pub(crate) fn read_row(row: &ByteRecord, version: Version) -> Result<Step, TraceFaultKind>
     ensures value { result ≡ row_of version (fields_of row.now) }
     ensures fault { IfErr result (λ fault. fault ≢ TraceFaultKind.Read) }
+    ensures memory { IfErr result (λ fault. fault ≢ TraceFaultKind.Memory) }
 {
     let kind = read_kind(field(row, 0))?;
     if row.len() != kind.field_count() {
@@ -111,6 +113,7 @@ pub(crate) fn field(row: &ByteRecord, place: usize) -> &[u8]
 fn read_kind(name: &[u8]) -> Result<RowKind, TraceFaultKind>
     ensures value { result ≡ kind_of name.now }
     ensures fault { IfErr result (λ fault. fault ≢ TraceFaultKind.Read) }
+    ensures memory { IfErr result (λ fault. fault ≢ TraceFaultKind.Memory) }
 {
     if name == b"enq".as_slice() {
         Ok(RowKind::Enqueue)
@@ -128,6 +131,7 @@ fn read_kind(name: &[u8]) -> Result<RowKind, TraceFaultKind>
 fn read_packet(row: &ByteRecord, version: Version) -> Result<Packet, TraceFaultKind>
     ensures value { result ≡ packet_of version (fields_of row.now) }
     ensures fault { IfErr result (λ fault. fault ≢ TraceFaultKind.Read) }
+    ensures memory { IfErr result (λ fault. fault ≢ TraceFaultKind.Memory) }
 {
     let proto = read_u8(field(row, 2))?;
     let src = read_address(field(row, 3), version)?;
@@ -151,6 +155,7 @@ fn read_packet(row: &ByteRecord, version: Version) -> Result<Packet, TraceFaultK
 fn read_moment(text: &[u8]) -> Result<u64, TraceFaultKind>
     ensures value { result ≡ number_below (2 ^ 60) text.now }
     ensures fault { IfErr result (λ fault. fault ≢ TraceFaultKind.Read) }
+    ensures memory { IfErr result (λ fault. fault ≢ TraceFaultKind.Memory) }
 {
     match read_number(text) {
         Some(moment) if moment < MAX_MOMENT => Ok(moment),
@@ -163,6 +168,7 @@ fn read_moment(text: &[u8]) -> Result<u64, TraceFaultKind>
 fn read_u8(text: &[u8]) -> Result<u8, TraceFaultKind>
     ensures value { result ≡ number_below (2 ^ 8) text.now }
     ensures fault { IfErr result (λ fault. fault ≢ TraceFaultKind.Read) }
+    ensures memory { IfErr result (λ fault. fault ≢ TraceFaultKind.Memory) }
 {
     let value = read_number(text).ok_or(TraceFaultKind::BadNumber)?;
     u8::try_from(value).map_err(|_| TraceFaultKind::BadNumber)
@@ -173,6 +179,7 @@ fn read_u8(text: &[u8]) -> Result<u8, TraceFaultKind>
 fn read_u16(text: &[u8]) -> Result<u16, TraceFaultKind>
     ensures value { result ≡ number_below (2 ^ 16) text.now }
     ensures fault { IfErr result (λ fault. fault ≢ TraceFaultKind.Read) }
+    ensures memory { IfErr result (λ fault. fault ≢ TraceFaultKind.Memory) }
 {
     let value = read_number(text).ok_or(TraceFaultKind::BadNumber)?;
     u16::try_from(value).map_err(|_| TraceFaultKind::BadNumber)
@@ -184,6 +191,7 @@ fn read_length(text: &[u8]) -> Result<u32, TraceFaultKind>
     ensures value { result ≡ length_of text.now }
     ensures range { IfOk result (λ len. IsLengthInRange len) }
     ensures fault { IfErr result (λ fault. fault ≢ TraceFaultKind.Read) }
+    ensures memory { IfErr result (λ fault. fault ≢ TraceFaultKind.Memory) }
 {
     let value = read_number(text).ok_or(TraceFaultKind::BadNumber)?;
     match u32::try_from(value) {
@@ -197,6 +205,7 @@ fn read_length(text: &[u8]) -> Result<u32, TraceFaultKind>
 fn read_ecn(text: &[u8]) -> Result<Ecn, TraceFaultKind>
     ensures value { result ≡ ecn_of text.now }
     ensures fault { IfErr result (λ fault. fault ≢ TraceFaultKind.Read) }
+    ensures memory { IfErr result (λ fault. fault ≢ TraceFaultKind.Memory) }
 {
     if text == b"0".as_slice() {
         Ok(Ecn::NotEct)
@@ -216,6 +225,7 @@ fn read_ecn(text: &[u8]) -> Result<Ecn, TraceFaultKind>
 fn read_destination(text: &[u8], version: Version, src: Ip) -> Result<Ip, TraceFaultKind>
     ensures value { result ≡ destination_of version src text.now }
     ensures fault { IfErr result (λ fault. fault ≢ TraceFaultKind.Read) }
+    ensures memory { IfErr result (λ fault. fault ≢ TraceFaultKind.Memory) }
 {
     let dst = read_address(text, version)?;
     if dst.is_ipv6() == src.is_ipv6() {
@@ -231,6 +241,7 @@ fn read_destination(text: &[u8], version: Version, src: Ip) -> Result<Ip, TraceF
 fn read_address(text: &[u8], version: Version) -> Result<Ip, TraceFaultKind>
     ensures value { result ≡ address_of version text.now }
     ensures fault { IfErr result (λ fault. fault ≢ TraceFaultKind.Read) }
+    ensures memory { IfErr result (λ fault. fault ≢ TraceFaultKind.Memory) }
 {
     let read = match version {
         Version::One => four_octets(text),

@@ -1,4 +1,4 @@
-use Rattle.std.proofs.Common.{◌∙◌, sym, List, get_or, subst, arith}
+use Rattle.std.proofs.Common.{◌∙◌, refl, sym, List, get_or, subst, arith}
 use Rattle.link_core.specs.declared.arrival.Arrival.{Arrival}
 use Rattle.link_core.specs.Lines.{HasFlow, IsOnFifo}
 use Rattle.link_core.proofs.LineLemmas.{fifo_has_run, opening_on_fifo}
@@ -9,7 +9,7 @@ pub loop-i-init : goal.loop-i-init
 loop-i-init g c =
     let new = c.new-line.ensures in
     let chosen = c.in_ok-chooser.ensures {u = tt} in
-    record { on_link = opening_on_fifo c.args.params c.args.seed c.args.link.now c.args.arrivals.now c.new-line.result c.requires.arrivals new; params = new.params; seed = new.seed_kept; told = c.requires.events ∙ sym new.events; chooser = chosen }
+    record { on_link = opening_on_fifo c.args.params c.args.seed c.args.link.now c.args.arrivals.now c.new-line.result c.requires.arrivals new; params = new.params; seed = new.seed_kept; told = c.requires.events ∙ sym new.events; lost = refl; chooser = chosen }
 
 pub meet_next-requires-clause-on_link : goal.meet_next-requires-clause-on_link
 meet_next-requires-clause-on_link g c = rw (rest_of c.args.arrivals.now c.loop-i.i) c.loop-i.invariant.on_link
@@ -23,6 +23,7 @@ loop-i-preserved g c =
       params = done.kept.params ∙ inv.params;
       seed = done.kept.seed ∙ inv.seed;
       told = done.told;
+      lost = done.lost ∙ inv.lost;
       chooser = c.flow_of-flow.ensures.kept ∙ inv.chooser;
     }
 
@@ -39,8 +40,11 @@ pub ask_before-requires-clause-on_link : goal.ask_before-requires-clause-on_link
 ask_before-requires-clause-on_link g c =
     subst (λ (r : List Arrival). IsOnFifo c.args.link.now c.args.arrivals.now c.loop-i.line c.loop-i.busy r) (none_left c.args.arrivals.now c.loop-i.i c.loop-i-test.false) c.loop-i.invariant.on_link
 
-pub returns : goal.returns
-returns g c =
+pub returns-clause-journal : goal.returns-clause-journal
+returns-clause-journal g c =
     let done = c.in_ok-ask_before.ensures {u = tt} in
     let inv = c.loop-i.invariant in
     rw done.told (fifo_has_run c.args.params c.args.seed c.args.link.now c.args.arrivals.now c.ask_before.new.self c.in_ok-ask_before.field-0 done.on_link done.waits (done.kept.params ∙ inv.params) (done.kept.seed ∙ inv.seed))
+
+pub returns-clause-lost : goal.returns-clause-lost
+returns-clause-lost g c = (c.in_ok-ask_before.ensures {u = tt}).lost ∙ c.loop-i.invariant.lost

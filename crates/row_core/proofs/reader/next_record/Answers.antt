@@ -3,7 +3,7 @@ use Rattle.csv.proofs.ReadFacts.{rows-end, rows-more}
 use Rattle.csv.specs.Reading.{default_config, error_kind, strip_bom}
 use Rattle.csv.specs.Records.{fields_of}
 use Rattle.csv.specs.declared.parser.State.TheVariants as st
-use Rattle.row_core.proofs.RecordLemmas.{all_records, io_alone}
+use Rattle.row_core.proofs.RecordLemmas.{all_records, io_alone, memory_stops}
 use Rattle.row_core.specs.Traces.{text_left}
 use Rattle.row_core.proofs.reader.next_record.Goals as goal
 
@@ -23,3 +23,6 @@ returns-in-Err-clause-failed c = λ is_read text before h.
     let why = c.in-Err.ensures.why h.ready in
     let io = io_alone (error_kind c.in-Err.error) c.args.reader.now c.read_byte_record.new.self h.flexible why (sym c.fault_of.ensures ∙ is_read) in
     record { old = c.args.reader.now; stood = h; error = c.in-Err.error; why = why; io = io.0; failed = c.in-Err.ensures.fails ∙ io.1 }
+
+pub returns-in-Err-clause-memory : goal.returns-in-Err-clause-memory
+returns-in-Err-clause-memory c = λ memory. c.in-Err.ensures.fails ∙ memory_stops (error_kind c.in-Err.error) (sym c.fault_of.ensures ∙ memory)
