@@ -75,6 +75,14 @@ module _ (losses : List Handle) (causes : List Cause) (told : List Event) (lost 
     settled = r.settled;
   }
 
+  -- Only packets that were lost before the last acceptance are forgotten.
+  pub losses_kept : length lost ≤ length losses + settled_drops told
+  losses_kept =
+      let few = r.settled in
+      let same = r.as_many in
+      let size : length lost ≡ length r.past_losses + length losses = sym (length-map lost loss_of) ∙ ap length r.losses_are ∙ length-append r.past_losses losses in
+      omega arith
+
 -- What stands at a place from the end of a list stands there in a longer one that ends with it.
 at_end : {X : Type 0} (all past xs : List X) (back : ℕ) (x : X) → all ≡ past ++ xs → back ≤ length xs
     → slice_get xs (length xs - back) ≡ Some x → slice_get all (length all - back) ≡ Some x

@@ -5,6 +5,7 @@ pub mod Lives
 pub mod LivesKept
 pub mod Laws
 pub mod Shapers
+pub mod Ahead
 pub mod Calls
 pub mod ShaperKept
 pub mod Faults

@@ -35,5 +35,7 @@ pub record IsShaped (s : Shaping) : Type 0 where
   pub ids : length s.packets.accepted ≡ s.past.accepted + s.sched.standing.state.next_id
   pub balanced : AreBalanced s
 
-abbrev pub IsKeptShaped : Inside → Type 0
-IsKeptShaped s = IsShaped (shaping_of s)
+-- The shaper counts on no more enqueues than the scheduler has reserved.
+pub record IsKeptShaped (s : Inside) : Type 0 where
+  pub shaped : IsShaped (shaping_of s)
+  pub ahead : s.ahead ≤ s.sched.room

@@ -73,8 +73,10 @@ impl Drops {
         *self.losses.allocator()
     }
 
-    /// How many losses are kept.
-    pub(crate) fn kept(&self) -> u64 {
+    /// How many losses are kept: those since the last acceptance at least.
+    pub(crate) fn kept(&self) -> u64
+        ensures { length self.now.lost ≤ result + settled_drops self.now.events }
+    {
         self.losses.len() as u64
     }
 

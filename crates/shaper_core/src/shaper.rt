@@ -1,6 +1,6 @@
 //! The scheduler of an embedder.
 
-ghost use Rattle.std.specs.Prelude.{◌≡◌, ◌≢◌, ◌+◌, ◌<◌, ◌≤◌, ◌^◌, ◌↔◌, ◌⊎◌, ◌++◌, IfErr, IfOk, IfSome, IsNone, IsTrue, OnErr, OnOk, None, Some, Err, drop, length, min, option_map, take};
+ghost use Rattle.std.specs.Prelude.{◌≡◌, ◌≢◌, ◌+◌, ◌<◌, ◌≤◌, ◌^◌, ◌↔◌, ◌⊎◌, ◌++◌, IfErr, IfOk, IfSome, IsNone, IsTrue, OnErr, OnOk, None, Some, Err, drop, length, max, min, option_map, take};
 ghost use Rattle.journal_core.specs.Calls.{close_refusal};
 ghost use Rattle.journal_core.specs.Losses.{lost_packets};
 ghost use Rattle.journal_core.specs.State.{IsRefusal, refusal_of};
@@ -10,6 +10,7 @@ ghost use Rattle.journal_core.specs.declared.step.Step.TheVariants.{Close, Deque
 ghost use Rattle.fair_core.specs.Shown.{flow_shown};
 ghost use Rattle.flow_core.specs.FlowLists.{waiting_in};
 ghost use Rattle.sched_core.specs.Schedulers.{IsServed, flows_of};
+ghost use Rattle.shaper_core.specs.Ahead.{free_enqueues};
 ghost use Rattle.shaper_core.specs.Drops.{causes_of};
 ghost use Rattle.shaper_core.specs.Laws.{IsLawful};
 ghost use Rattle.shaper_core.specs.Shapers.{open_scheduler, renumbered, sent_handle, sent_handles};
@@ -51,7 +52,8 @@ pub struct Shaper {
     past: ShaperTotals,
     renew_after: u64,
     packets: Life,
-    // How many enqueues the scheduler has memory for, as far as is known. So it is asked for more once in many enqueues.
+    // How many enqueues the scheduler has reserved, as far as is known: it has no fewer. So it is asked for more once in
+    // many enqueues.
     ahead: u64,
 }
 
@@ -110,8 +112,12 @@ fn open_sched(alloc: Global, params: Params, seed: Seed) -> Result<Sched<Drops>,
 /// An enqueue was made, before which the scheduler had memory for so many. It says for how many there is memory now.
 #[inline(always)]
 fn keep_ahead(sched: &mut Sched<Drops>, ahead: u64) -> u64
+    requires { ahead ≤ sched.old.room + 1 }
     ensures rest { sched.new ≡ record sched.old { room = sched.new.room } }
     ensures room { sched.old.room ≤ sched.new.room }
+    ensures ahead { result ≤ sched.new.room }
+    ensures none { result ≡ 0 → sched.old.room < free_enqueues sched.old }
+    ensures most { sched.new.room ≤ max sched.old.room (free_enqueues sched.old) }
 {
     if ahead > 1 {
         return ahead - 1;
@@ -126,6 +132,9 @@ fn keep_ahead(sched: &mut Sched<Drops>, ahead: u64) -> u64
 fn take_ahead(sched: &mut Sched<Drops>) -> u64
     ensures rest { sched.new ≡ record sched.old { room = sched.new.room } }
     ensures room { sched.old.room ≤ sched.new.room }
+    ensures ahead { result ≤ sched.new.room }
+    ensures none { result ≡ 0 → sched.old.room < free_enqueues sched.old }
+    ensures most { sched.new.room ≤ max sched.old.room (free_enqueues sched.old) }
 {
     let most = u64::from(sched.params().limit()) + 1;
     let used = sched.queued().saturating_add(sched.keeper().kept());
@@ -255,6 +264,8 @@ impl Shaper {
         ensures due { IsTrue result → IsDue self.now }
         ensures moment { IsTrue result → moment < MAX_MOMENT }
         ensures later { IsTrue result → self.now.sched.standing.state.last ≤ moment }
+        ensures always { IsDue self.now → moment < MAX_MOMENT → self.now.sched.standing.state.last ≤ moment
+            → IsTrue result }
     {
         let accepted = MAX_ACCEPTED - self.sched.ids_left();
         accepted >= self.renew_after

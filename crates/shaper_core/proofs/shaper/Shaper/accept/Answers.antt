@@ -21,7 +21,7 @@ pub overflow_add-id : goal.overflow_add-id
 overflow_add-id c =
     let old : Scheduler = c.self.inside.sched in
     let few : old.standing.state.next_id < 2 ^ 40 = (enqueue_open old.standing.state c.args.moment 0 c.args.packet c.in_ok-admitted.ensures.made.advances.fits).1 in
-    omega (arith, few, c.self.invariant.few, ap (λ (a : Admitted). a.id) c.in_ok-admitted.ensures.admitted)
+    omega (arith, few, c.self.invariant.shaped.few, ap (λ (a : Admitted). a.id) c.in_ok-admitted.ensures.admitted)
 
 abbrev new_of : goal.After-accept → Shaping
 new_of c = record {
@@ -67,7 +67,10 @@ made_of c read =
 pub invariant_of-self-2 : goal.invariant_of-self-2
 invariant_of-self-2 c =
     let read : c.self.inside.unread ≡ 0 = subst (λ (t : Shaping). t.unread ≡ 0) (sym c.self.view_is) c.requires in
-    accept_shaped (shaping_of c.self.inside) (new_of c) c.args.moment c.args.packet (said_of c) c.has_laws.ensures.laws c.has_laws-2.ensures.laws c.self.invariant (made_of c read)
+    record {
+      shaped = accept_shaped (shaping_of c.self.inside) (new_of c) c.args.moment c.args.packet (said_of c) c.has_laws.ensures.laws c.has_laws-2.ensures.laws c.self.invariant.shaped (made_of c read);
+      ahead = c.keep_ahead-self-inside.ensures.ahead;
+    }
 
 pub returns-clause-made : goal.returns-clause-made
 returns-clause-made c =
@@ -77,4 +80,4 @@ returns-clause-made c =
 pub returns-clause-id : goal.returns-clause-id
 returns-clause-id c =
     let id = ap (λ (a : Admitted). a.id) c.in_ok-admitted.ensures.admitted in
-    omega (arith, id, c.self.invariant.ids, ap (λ (t : Shaping). length t.packets.accepted) c.self.view_is)
+    omega (arith, id, c.self.invariant.shaped.ids, ap (λ (t : Shaping). length t.packets.accepted) c.self.view_is)

@@ -18,7 +18,7 @@ pub give-requires : goal.give-requires
 give-requires c =
     let old : Scheduler = c.self.inside.sched in
     let accepted = sent_accepted old c.dequeue.new.self c.args.moment c.in_ok-sent.sent c.has_laws.ensures.laws c.in_ok-sent.ensures.made in
-    sent_fits c.self.inside.past.accepted old c.in_ok-sent.sent c.has_laws.ensures.laws accepted c.self.invariant.counted c.has_laws.ensures.ids c.self.invariant.few
+    sent_fits c.self.inside.past.accepted old c.in_ok-sent.sent c.has_laws.ensures.laws accepted c.self.invariant.shaped.counted c.has_laws.ensures.ids c.self.invariant.shaped.few
 
 abbrev new_of : goal.After-give → Shaping
 new_of c = record {
@@ -54,7 +54,10 @@ made_of c =
 
 pub invariant_of-self-2 : goal.invariant_of-self-2
 invariant_of-self-2 c =
-    dequeue_shaped (shaping_of c.self.inside) (new_of c) c.args.moment (said_of c) c.has_laws.ensures.laws c.has_laws-2.ensures.laws c.self.invariant (made_of c)
+    record {
+      shaped = dequeue_shaped (shaping_of c.self.inside) (new_of c) c.args.moment (said_of c) c.has_laws.ensures.laws c.has_laws-2.ensures.laws c.self.invariant.shaped (made_of c);
+      ahead = omega (arith, c.self.invariant.ahead, c.in_ok-sent.ensures.made.room);
+    }
 
 pub returns-clause-made : goal.returns-clause-made
 returns-clause-made c = subst (λ (t : Shaping). IsDequeued t c.args.moment (said_of c) (new_of c)) c.self.view_is (made_of c)

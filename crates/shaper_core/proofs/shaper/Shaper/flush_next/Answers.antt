@@ -27,7 +27,7 @@ pub take_out-requires : goal.take_out-requires
 take_out-requires c =
     let old : Scheduler = c.self.inside.sched in
     let accepted = sent_accepted old c.dequeue_at_last-sent.new.sched old.standing.state.last c.dequeue_at_last-sent.result c.has_laws.ensures.laws c.dequeue_at_last-sent.ensures in
-    sent_fits c.self.inside.past.accepted old c.dequeue_at_last-sent.result c.has_laws.ensures.laws accepted c.self.invariant.counted c.has_laws.ensures.ids c.self.invariant.few
+    sent_fits c.self.inside.past.accepted old c.dequeue_at_last-sent.result c.has_laws.ensures.laws accepted c.self.invariant.shaped.counted c.has_laws.ensures.ids c.self.invariant.shaped.few
 
 abbrev new_of : goal.After-take_out → Shaping
 new_of c = record {
@@ -55,13 +55,16 @@ one_of c =
     (λ i. record (new_of c) { packets = c.take_out.ensures.packets i }))
 
 pub invariant_of-self : goal.invariant_of-self
-invariant_of-self c = one_shaped (shaping_of c.self.inside) (new_of c) c.take_out.result c.has_laws.ensures.laws c.has_laws-2.ensures.laws c.self.invariant (one_of c)
+invariant_of-self c = record {
+  shaped = one_shaped (shaping_of c.self.inside) (new_of c) c.take_out.result c.has_laws.ensures.laws c.has_laws-2.ensures.laws c.self.invariant.shaped (one_of c);
+  ahead = omega (arith, c.self.invariant.ahead, c.dequeue_at_last-sent.ensures.room);
+}
 
 pub returns-clause-one : goal.returns-clause-one
 returns-clause-one c = subst (λ (t : Shaping). FlushesOne t c.take_out.result (new_of c)) c.self.view_is (one_of c)
 
 pub returns-clause-totals : goal.returns-clause-totals
 returns-clause-totals c =
-    let kept = kept_sent (shaping_of c.self.inside) (new_of c) c.dequeue_at_last-sent.result c.has_laws.ensures.laws c.self.invariant c.dequeue_at_last-sent.ensures (aside_of c) refl in
+    let kept = kept_sent (shaping_of c.self.inside) (new_of c) c.dequeue_at_last-sent.result c.has_laws.ensures.laws c.self.invariant.shaped c.dequeue_at_last-sent.ensures (aside_of c) refl in
     subst (λ (t : Shaping). KeepsSent (totals_of t) (flushed_by c.take_out.result) (totals_of (new_of c))) c.self.view_is
     (subst (λ (o : Option Handle). KeepsSent (totals_of (shaping_of c.self.inside)) (flushed_by o) (totals_of (new_of c))) (sym c.take_out.ensures.told) kept)

@@ -18,7 +18,7 @@ overflow_add-dropped c =
     let drop : IsDropAt events (lost_packets events) n c.dropped-dropped.result =
     subst (λ (es : List Event). IsDropAt es (lost_packets events) n c.dropped-dropped.result) c.keeper.ensures.told
     (subst (λ (ws : List Waiting). IsDropAt c.keeper.result.now.events ws (length ws - s.unread) c.dropped-dropped.result) c.keeper.ensures.lost c.dropped-dropped.ensures) in
-    omega (arith, drop_below events n c.dropped-dropped.result c.has_laws.ensures.laws.laws.ids_in_order drop, c.self.invariant.counted, c.has_laws.ensures.ids, c.self.invariant.few)
+    omega (arith, drop_below events n c.dropped-dropped.result c.has_laws.ensures.laws.laws.ids_in_order drop, c.self.invariant.shaped.counted, c.has_laws.ensures.ids, c.self.invariant.shaped.few)
 
 abbrev new_of : goal.After-read → Shaping
 new_of c = record (shaping_of c.self.inside) { unread = c.self.inside.unread - 1; packets = c.read.new.self }
@@ -42,7 +42,10 @@ made_of c =
     }
 
 pub invariant_of-self : goal.invariant_of-self
-invariant_of-self c = read_shaped (shaping_of c.self.inside) (new_of c) (said_of c) c.has_laws.ensures.laws c.self.invariant (made_of c)
+invariant_of-self c = record {
+  shaped = read_shaped (shaping_of c.self.inside) (new_of c) (said_of c) c.has_laws.ensures.laws c.self.invariant.shaped (made_of c);
+  ahead = c.self.invariant.ahead;
+}
 
 pub returns : goal.returns
 returns c = subst (λ (t : Shaping). IsRead t (said_of c) (new_of c)) c.self.view_is (made_of c)

@@ -1,4 +1,5 @@
-use Rattle.std.proofs.Common.{◌≡◌, ◌+◌, inr, ap, subst, sym, ◌∙◌}
+use Rattle.std.proofs.Common.{◌≡◌, ◌+◌, inr, ap, subst, sym, ◌∙◌, arith}
+use Rattle.sched_core.specs.Schedulers.{Scheduler}
 use Rattle.shaper_core.specs.declared.totals.ShaperTotals.{ShaperTotals}
 use Rattle.shaper_core.specs.ShaperKept.{IsShaped, shaping_of}
 use Rattle.shaper_core.specs.Shapers.{IsDue, open_scheduler, renewed, totals_of}
@@ -12,8 +13,11 @@ invariant_of-self c =
     let total : c.totals-totals.result ≡ totals_of old = c.totals-totals.ensures.value ∙ ap totals_of (sym c.self.view_is) in
     let balance = subst (λ (t : ShaperTotals). t.accepted ≡ t.sent + t.dropped_codel + t.dropped_overflow + t.flushed + t.queued) total c.totals-totals.ensures.balance in
     let sched : c.in-Ok.sched ≡ open_scheduler old.sched.params old.sched.seed = c.in-Ok.ensures ∙ (λ i. open_scheduler (c.params.ensures i) (c.seed.ensures i)) in
-    subst IsShaped (λ i. record old { sched = sym sched i; aside = sym c.none-self-inside.ensures i; past = sym total i })
-    (renewed_shaped old due c.self.invariant balance (c.has_laws.ensures.queued ∙ due.idle))
+    record {
+      shaped = subst IsShaped (λ i. record old { sched = sym sched i; aside = sym c.none-self-inside.ensures i; past = sym total i })
+          (renewed_shaped old due c.self.invariant.shaped balance (c.has_laws.ensures.queued ∙ due.idle));
+      ahead = omega (arith, ap (λ (s : Scheduler). s.room) c.in-Ok.ensures, c.limit.ensures.value, c.from.ensures);
+    }
 
 pub returns : goal.returns
 returns c =
