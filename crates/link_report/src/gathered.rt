@@ -1,9 +1,9 @@
 //! A keeper that makes the packets of the events that it is told.
 
-ghost use Rattle.std.specs.Prelude.{◌≡◌, [], IfSome, length};
+ghost use Rattle.std.specs.Prelude.{◌≡◌, ◌<◌, ◌≤◌, ◌⊎◌, [], IfNone, IfOk, IfSome, false, length, true};
 ghost use Rattle.link_report.specs.Packets.{known_of};
 
-use crate::packets::{PLACES, Packets};
+use crate::packets::Packets;
 use journal_core::{Event, GhostList, Keeps, Memory};
 use packet_core::Waiting;
 use std::alloc::{AllocError, Global};
@@ -14,27 +14,24 @@ use std::marker::Model;
 #[derive(Drop)]
 pub struct Gathered {
     packets: Packets,
-    /// As `Packets::add` has it.
-    latest: [usize; PLACES],
     /// It makes packets of at most so many events.
     most: u64,
     /// How many events it was told.
     count: u64,
     /// For how many more there is memory.
     room: u64,
-    /// Whether each event is in the packets.
-    is_whole: bool,
+    /// Whether an event found no memory, and isn't in the packets.
+    is_short: bool,
     told: GhostList<Event>,
     lost: GhostList<Waiting>,
 }
 
 impl Model for Gathered {
-    ghost use Rattle.journal_core.specs.Notes.{Tale};
-    ghost use Rattle.link_report.specs.Gatherings.{IsGathered, tale_of};
+    ghost use Rattle.link_report.specs.Gatherings.{Gathering, IsGathered, gathering_of};
 
-    ghost Value = { Tale };
+    ghost Value = { Gathering };
 
-    ghost view = { tale_of };
+    ghost view = { gathering_of };
 
     ghost invariant = { IsGathered };
 }
@@ -44,27 +41,30 @@ impl Gathered {
     pub fn new(alloc: Global, most: u64) -> Gathered
         ensures events { result.events ≡ [] }
         ensures lost { result.lost ≡ [] }
+        ensures most { result.most ≡ most }
+        ensures short { result.is_short ≡ false }
     {
         Gathered {
             packets: Packets::new(alloc),
-            latest: [0; PLACES],
             most,
             count: 0,
             room: 0,
-            is_whole: true,
+            is_short: false,
             told: GhostList::new(),
             lost: GhostList::new(),
         }
     }
 
-    /// The packets of the events that it was told, or none where these are more than `most`.
+    /// The packets of the events that it was told, or none where these are more than `most`, or one found no memory.
     pub fn packets(&self) -> Option<&Packets>
-        ensures { IfSome result (λ packets. packets.now ≡ known_of self.now.events) }
+        ensures packets { IfSome result (λ packets. packets.now ≡ known_of self.now.events) }
+        ensures few { IfSome result (λ _. length self.now.events ≤ self.now.most) }
+        ensures none { IfNone result ((self.now.most < length self.now.events) ⊎ (self.now.is_short ≡ true)) }
     {
-        if self.is_whole {
-            Some(&self.packets)
-        } else {
+        if self.is_short || self.count > self.most {
             None
+        } else {
+            Some(&self.packets)
         }
     }
 
@@ -76,6 +76,18 @@ impl Gathered {
     }
 }
 
+/// Takes memory for the packets of so many events more, where they are made, and answers for how many there is room then.
+fn take_room(packets: &mut Packets, is_made: bool, more: usize) -> Result<usize, Memory>
+    ensures same { packets.new ≡ packets.old }
+    ensures room { IfOk result (λ room. more ≤ room) }
+{
+    if is_made {
+        packets.reserve(more)
+    } else {
+        Ok(more)
+    }
+}
+
 impl Keeps<Event> for Gathered {
     ghost told = { λ gathered. gathered.events };
 
@@ -84,10 +96,9 @@ impl Keeps<Event> for Gathered {
     ghost room = { λ gathered. gathered.room };
 
     fn tell(&mut self, event: Event) {
-        if self.is_whole {
-            // Memory is reserved, so an event is in the packets. That isn't proved, so it is looked at.
-            let is_added = self.packets.add(&event, &mut self.latest).is_ok();
-            self.is_whole = is_added && self.count < self.most;
+        if !self.is_short && self.count < self.most {
+            // Memory is reserved, so none is missing. That isn't proved, so it is looked at.
+            self.is_short = self.packets.add(&event).is_err();
         }
         self.count += 1;
         self.room -= 1;
@@ -105,14 +116,14 @@ impl Keeps<Event> for Gathered {
             return Ok(());
         }
         // A list of more than can be counted is want of memory, too.
-        if more_events > u64::MAX - self.count {
+        let countable = u64::MAX - self.count;
+        if more_events > countable {
             return Err(AllocError);
         }
-        if self.is_whole {
-            self.packets.reserve(more)?;
-        }
-        self.room = more_events;
-        self.told = self.told.with_room(more);
+        let is_made = !self.is_short && self.count < self.most;
+        let room = take_room(&mut self.packets, is_made, more)?;
+        self.room = countable.min(room as u64);
+        self.told = self.told.with_room(self.room as usize);
         Ok(())
     }
 }

@@ -1,20 +1,20 @@
 //! The packets of a journal, and what became of each.
 
-ghost use Rattle.std.specs.Prelude.{◌≡◌, ◌<◌, ◌≤◌, ◌+◌, IfOk, OnOk, length, true};
+ghost use Rattle.std.specs.Prelude.{◌≡◌, ◌<◌, ◌≤◌, ◌+◌, ◌-◌, IfOk, OnOk, length, true, vec_capacity, vec_len};
+ghost use Rattle.indexmap.specs.IndexSet.{spare};
 ghost use Rattle.packet_core.specs.Packets.{same_tuple};
 ghost use Rattle.journal_core.specs.TupleRows.{with_new};
 ghost use Rattle.link_report.specs.Packets as Spec;
 ghost use Rattle.link_report.specs.Packets.{delay_sent, is_codel_drop, is_marked, is_overflow_drop, is_sent, known_of, last_moment, sent_len, with_event, with_fate};
 
 use indexmap::IndexSet;
-use journal_core::{Cause, Event, Mark, Memory};
+use journal_core::{Cause, Event, LatestPlaces, Mark, Memory};
 use packet_core::{Ecn, FiveTuple, Packet};
 use std::alloc::Global;
 use std::marker::Model;
 
-/// How many places remember the number of the five-tuple that was seen last. A flow has the place of its number, modulo
-/// this.
-pub(crate) const PLACES: usize = 1_024;
+/// From so many packets on it pays to store the numbers of the flows' latest five-tuples. `LatestPlaces` takes memory then.
+const MANY: usize = 64;
 
 /// What became of a packet. Moments are in microseconds.
 #[derive(Clone, Copy, Debug, PartialEq, Eq)]
@@ -154,6 +154,8 @@ pub struct Packets {
     records: Vec<PacketRecord>,
     /// How many were sent.
     sent: u64,
+    /// For each flow the number of the five-tuple that it had last: a guess at the next one's.
+    latest: LatestPlaces,
 }
 
 impl Model for Packets {
@@ -175,6 +177,7 @@ impl Packets {
             tuples: IndexSet::new(alloc),
             records: Vec::new(alloc),
             sent: 0,
+            latest: LatestPlaces::new(alloc),
         }
     }
 
@@ -183,23 +186,36 @@ impl Packets {
         ensures { IfOk result (λ packets. packets ≡ known_of events.now) }
     {
         let mut packets = Packets::new(alloc);
-        let mut latest = [0; PLACES];
+        packets.prepare(events.len());
         for event in events {
-            packets.add(event, &mut latest)?;
+            packets.add(event)?;
         }
         Ok(packets)
     }
 
-    /// Takes memory for the packets of so many events more, whatever five-tuples they have. The packets stay the same.
-    pub(crate) fn reserve(&mut self, more: usize) -> Result<(), Memory>
-        ensures { self.new ≡ self.old }
+    /// Takes memory for the packets of so many events more, whatever five-tuples they have, and answers for how many
+    /// there is memory then. The packets stay the same. What numbers are kept in is no part of it: it may be refused.
+    pub(crate) fn reserve(&mut self, more: usize) -> Result<usize, Memory>
+        ensures same { self.new ≡ self.old }
+        ensures room { IfOk result (λ room. more ≤ room) }
     {
-        self.tuples.reserve(more)?;
-        self.records.reserve(more)
+        let room = take_room(&mut self.tuples, &mut self.records, more)?;
+        self.prepare(more);
+        Ok(room)
     }
 
-    /// Adds what an event says. `latest` has, at each place, the number of the five-tuple that was seen last there.
-    pub(crate) fn add(&mut self, event: &Event, latest: &mut [usize; PLACES]) -> Result<(), Memory>
+    /// Before so many events more it takes memory for the numbers of the flows' latest five-tuples, where there are many
+    /// packets with those to come. The memory may be refused: each five-tuple is hashed then.
+    fn prepare(&mut self, more: usize)
+        ensures { self.new ≡ self.old }
+    {
+        // A packet comes and goes: that is two events.
+        let packets = self.records.len().saturating_add(more / 2);
+        self.latest.prepare(packets.min(MANY));
+    }
+
+    /// Adds what an event says.
+    pub(crate) fn add(&mut self, event: &Event) -> Result<(), Memory>
         requires { self.old.sent < u64.MAX }
         ensures { OnOk result (self.new ≡ with_event self.old event.now) }
     {
@@ -210,10 +226,7 @@ impl Packets {
                 flow,
                 packet,
                 ..
-            } => {
-                let number = &mut latest[flow as usize % PLACES];
-                self.arrive(id, moment, flow, &packet, number)?;
-            }
+            } => self.arrive(id, moment, flow, &packet)?,
             Event::Sent {
                 id,
                 moment,
@@ -238,19 +251,13 @@ impl Packets {
         Ok(())
     }
 
-    /// Adds a packet that arrived. `number` is a number that its five-tuple may have, and is then that which it has.
-    fn arrive(
-        &mut self,
-        id: u64,
-        moment: u64,
-        flow: u32,
-        packet: &Packet,
-        number: &mut usize,
-    ) -> Result<(), Memory>
+    /// Adds a packet that arrived.
+    fn arrive(&mut self, id: u64, moment: u64, flow: u32, packet: &Packet) -> Result<(), Memory>
         ensures { OnOk result (self.new ≡ arrived self.old id moment flow packet.now) }
     {
-        let tuple = number_of(&mut self.tuples, packet.tuple(), *number)?;
-        *number = tuple;
+        let guess = self.latest.at(flow);
+        let tuple = number_of(&mut self.tuples, packet.tuple(), guess)?;
+        self.latest.set(flow, tuple);
         self.records.push(PacketRecord {
             id,
             tuple: tuple as u64,
@@ -276,6 +283,25 @@ impl Packets {
     {
         &self.records
     }
+}
+
+/// Takes memory for so many five-tuples and packets more, and answers for how many there is memory then.
+fn take_room(
+    tuples: &mut IndexSet<FiveTuple>,
+    records: &mut Vec<PacketRecord>,
+    more: usize,
+) -> Result<usize, Memory>
+    ensures tuples { tuples.new.keys ≡ tuples.old.keys }
+    ensures records { records.new.items ≡ records.old.items }
+    ensures more { IfOk result (λ room. more ≤ room) }
+    ensures tuple_room { IfOk result (λ room. room ≤ spare tuples.new) }
+    ensures record_room { IfOk result (λ room. room ≤ vec_capacity records.new - vec_len records.new) }
+{
+    tuples.reserve(more)?;
+    records.reserve(more)?;
+    let tuple_room = tuples.capacity() - tuples.len();
+    let record_room = records.capacity() - records.len();
+    Ok(tuple_room.min(record_room))
 }
 
 /// The number of a five-tuple, which is then among those. Where it has the number `guess` it isn't hashed.

@@ -1,4 +1,4 @@
-use Rattle.std.proofs.Common.{◌<◌, arith}
+use Rattle.std.proofs.Common.{◌<◌, ◌≤◌, arith}
 use Rattle.link_report.proofs.PacketLemmas.{few_sent}
 use Rattle.link_report.proofs.gathered.GatheredKeepsEvent.tell.Goals as goal
 
@@ -8,4 +8,5 @@ add-requires c =
     let counted = inv.counted in
     let few = inv.few in
     let room : 0 < c.self.inside.told.room = rw (← c.self.view_is) at c.requires in
-    rw (inv.packets c.if-self.true) (omega (arith, few_sent c.self.inside.told.items))
+    let low : c.self.inside.count ≤ c.self.inside.most = omega (arith, c.if-self.true) in
+    rw (inv.packets c.if-not-self.true low) (omega (arith, few_sent c.self.inside.told.items))
