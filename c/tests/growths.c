@@ -138,6 +138,7 @@ static const char *const others[] = {
 	"limit 1 classify dport",
 	"limit 2 drop_batch 1 classify dport",
 	"limit 3 flows 2 drop_batch 2 classify dport",
+	"limit 4 memory_limit 1514 classify dport",
 	"limit 100 memory_limit 20000 drop_batch 1 classify dport",
 	"limit 500 memory_limit 4000 classify dport",
 	"limit 1000 flows 16 classify dport",
