@@ -6,42 +6,51 @@ use crate::calls::Calls;
 use crate::values::Values;
 use journal_core::{Event, Keeps, Mark};
 use link_report::Gathered;
-use packet_core::Ecn;
+use packet_core::{Ecn, Packet};
+use test_support::tuple;
 
-/// So many packets come, and then go.
-const PACKETS: u64 = 12;
+/// So many packets come, each of another five-tuple, and then go. For so many a keeper stores the flows' latest ones.
+const PACKETS: u64 = 80;
 
-/// Before each event memory for one is reserved, and to tell it takes none. So at the end each packet is there.
+/// Memory is reserved for several events, where there is some for fewer, and to tell them takes none. So at the end each
+/// packet is there. Where no memory is given for the flows' latest five-tuples, no call is refused.
 pub(crate) fn gathered(values: &Values, calls: &mut Calls<'_>) {
     let mut gathered = Gathered::new(values.alloc, u64::MAX);
-    for id in 0..PACKETS {
-        let came = Event::Accepted {
-            lane: 0,
-            id,
-            moment: 1,
-            flow: 0,
-            packet: values.packet,
-        };
-        tell(&mut gathered, came, calls);
-    }
-    for id in 0..PACKETS {
-        let went = Event::Sent {
-            id,
-            moment: 2,
-            ecn: Ecn::NotEct,
-            mark: Mark::NoMark,
-        };
-        tell(&mut gathered, went, calls);
+    for (fewer, count) in [(0, 1), (2, 20), (3, 90), (1, 49)] {
+        take(&mut gathered, fewer, calls);
+        tell(&mut gathered, count, values, calls);
     }
     calls.wanted(has_all(&gathered), "Gathered::packets");
 }
 
-/// Tells it an event, for which memory is reserved.
-fn tell(gathered: &mut Gathered, event: Event, calls: &mut Calls<'_>) {
-    let count = gathered.event_count();
-    if take(gathered, 1, calls) {
-        calls.wanted(gathered.event_count() == count, "Keeps::reserve");
-        gathered.tell(event);
+/// Tells it so many events, for which memory is reserved at once.
+fn tell(gathered: &mut Gathered, count: usize, values: &Values, calls: &mut Calls<'_>) {
+    let told = gathered.event_count();
+    if take(gathered, count, calls) {
+        calls.wanted(gathered.event_count() == told, "Keeps::reserve");
+        for _event in 0..count {
+            gathered.tell(event(gathered.event_count(), values.packet));
+        }
+    }
+}
+
+/// The event of that number: each packet comes, and then each goes.
+fn event(number: u64, packet: Packet) -> Event {
+    if number < PACKETS {
+        let port = (number % PACKETS) as u16;
+        return Event::Accepted {
+            lane: 0,
+            id: number,
+            moment: 1,
+            flow: u32::from(port),
+            packet: Packet::try_new(tuple(port), 1_000, Ecn::NotEct).unwrap_or(packet),
+        };
+    }
+    Event::Sent {
+        id: number - PACKETS,
+        moment: 2,
+        ecn: Ecn::NotEct,
+        mark: Mark::NoMark,
     }
 }
 
@@ -61,12 +70,14 @@ pub(crate) fn take<T, K: Keeps<T>>(keeper: &mut K, more: usize, calls: &mut Call
     is_there
 }
 
-/// Whether each packet is among its packets, and was sent.
+/// Whether each packet is among its packets, with a five-tuple of its own, and was sent.
 fn has_all(gathered: &Gathered) -> bool {
     match gathered.packets() {
         Some(packets) => {
-            let records = packets.records();
-            records.len() as u64 == PACKETS && records.iter().all(|record| record.is_sent())
+            let (tuples, records) = (packets.tuples(), packets.records());
+            records.len() as u64 == PACKETS
+                && tuples.len() == records.len()
+                && records.iter().all(|record| record.is_sent())
         }
         None => false,
     }
