@@ -9,6 +9,10 @@ mod faults;
 #[cfg(test)]
 mod journals;
 #[cfg(test)]
+mod rows;
+#[cfg(test)]
 mod runs;
 #[cfg(test)]
 mod tables;
+#[cfg(test)]
+mod texts;
