@@ -14,7 +14,7 @@ ghost use Rattle.run_core.specs.SendersFaults.{IsLanesRunFault};
 ghost use Rattle.run_core.specs.declared.senders_fault.SendersFault.TheVariants as senders_fault;
 
 use crate::monitors::read_all;
-use crate::room::{BURST, Expected};
+use crate::room::{BURST, stores};
 use crate::senders_fault::SendersFault;
 use packet_core::{Packet, Params, Seed};
 use port_core::{
@@ -22,7 +22,7 @@ use port_core::{
     Opened, PublishFault, Screen, Seen, Shown, Stop, lanes_with_keepers,
 };
 use sched_core::{Engine, Refusal, Step};
-use sender_core::{MAX_SENDERS, device_moment, lists_of, packets_of, start_lanes};
+use sender_core::{Expected, MAX_SENDERS, device_moment, lists_of, packets_of, start_lanes};
 use std::alloc::{AllocError, Global};
 use std::marker::{Brand, Send, Sync};
 use std::sync::Wait;
@@ -104,7 +104,7 @@ fn run_in_book<J: BookName + Send + Sync, H: Threads + Wait + Sync>(
     ensures seen { IfOk result (λ r. (length r.2.items ≡ layout.monitors) × All IsSeen r.2.items) }
     ensures fault { IfErr result (IsLanesRunFault (length lists.now)) }
 {
-    let (events, made) = Expected::of(steps).stores(alloc);
+    let (events, made) = stores(alloc, Expected::of(steps));
     let opened = lanes_with_keepers::<J, _, _, _>(
         rt, alloc, blank, params, seed, layout, events, made,
     )?;

@@ -8,12 +8,12 @@ ghost use Rattle.run_core.specs.Journals.{AreLockedJournal, row_of};
 ghost use Rattle.run_core.specs.SendersFaults.{IsLockedRunFault};
 ghost use Rattle.run_core.specs.declared.senders_fault.SendersFault.TheVariants as senders_fault;
 
-use crate::room::Expected;
+use crate::room::stores;
 use crate::senders_fault::SendersFault;
 use packet_core::{Packet, Params, Seed};
 use port_core::{LockedDone, LockedPort, Open, PortSeat, Stop};
 use sched_core::{Engine, Refusal, Step};
-use sender_core::{MAX_SENDERS, is_whole, lists_of, start_locked};
+use sender_core::{Expected, MAX_SENDERS, is_whole, lists_of, start_locked};
 use std::alloc::Global;
 use std::marker::Brand;
 use std::sync::Wait;
@@ -66,14 +66,14 @@ fn run_lists<A: Ledger + Send + Sync, S: Ledger + Send + Sync, H: Threads + Wait
 {
     let count = lists.len() as u32 + 1;
     let expected = Expected::of(steps);
-    let (events, made) = expected.stores(alloc);
+    let (events, made) = stores(alloc, expected);
     let (port, mut seats) = LockedPort::<A, S>::start_with_keepers(
         alloc, params, seed, count, accepted, sent, events, made,
     )?;
     let Some(seat) = seats.pop() else {
         unreachable!()
     };
-    let seats = with_room(seats, lists, expected.packets);
+    let seats = with_room(seats, lists, expected);
     let gates = vec![in alloc; Open; lists.len()]?;
     let shared = &port;
     let part = move || -> Result<PortSeat<A, S>, Refusal>
@@ -95,18 +95,18 @@ fn run_lists<A: Ledger + Send + Sync, S: Ledger + Send + Sync, H: Threads + Wait
     }
 }
 
-/// The seats with memory for what each will be told of the packets of its list, of which at most so many are expected.
-/// Where it is refused a seat takes some as it is told.
+/// The seats with memory for the acceptances that are expected of the packets of each list. Where it is refused a seat
+/// takes some as it is told.
 fn with_room<A: Ledger, S: Ledger>(
     seats: Vec<PortSeat<A, S>>,
     lists: &[Vec<(u64, Packet)>],
-    most: usize,
+    expected: Expected,
 ) -> Vec<PortSeat<A, S>>
     ensures { result.items ≡ seats.items }
 {
     let mut seats = seats;
     for sender in 0..seats.len().min(lists.len()) {
-        let _ = seats[sender].reserve(lists[sender].len().min(most));
+        let _ = seats[sender].reserve(expected.acceptances(lists[sender].len()));
     }
     seats
 }

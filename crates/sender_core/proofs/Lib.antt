@@ -1,2 +1,3 @@
 pub mod InterleavingLemmas
+pub mod RoomLemmas
 pub mod SenderLemmas

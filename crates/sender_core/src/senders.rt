@@ -1,6 +1,7 @@
 //! The senders of a trace: the packets of each, and their threads.
 ghost use Rattle.std.specs.Prelude.{◌≡◌, ◌<◌, ℕ, IfOk, length, map, slice_index_or};
 ghost use denote.Param.Send.{IsSend, IsSync};
+ghost use Rattle.sender_core.specs.Rooms.{enqueue_count};
 ghost use Rattle.sender_core.specs.Senders.{AreCalls, IsDone, LetsThrough};
 
 use packet_core::{Packet, Params, Seed};
@@ -39,7 +40,9 @@ pub fn lists_of(
 }
 
 /// How many of the steps are enqueues.
-fn enqueues_in(steps: &[Step]) -> u64 {
+fn enqueues_in(steps: &[Step]) -> u64
+    ensures { result ≡ enqueue_count steps.now }
+{
     steps
         .iter()
         .filter(|step| matches!(step, Step::Enqueue { .. }))
