@@ -3,7 +3,7 @@ ghost use Rattle.std.specs.Prelude.{◌≡◌, ◌++◌, [], ℕ, List, IfOk, On
 ghost use Rattle.std.specs.List.{flat_map};
 ghost use Rattle.journal_core.specs.Happened.{acceptances};
 ghost use Rattle.journal_core.specs.Statistics.{statistics};
-ghost use Rattle.journal_core.specs.Tallies.{IsTallied};
+ghost use Rattle.journal_core.specs.Tallies.{HasSeen};
 ghost use Rattle.journal_core.specs.TupleRows.{tuple_rows};
 ghost use Rattle.trace_core.specs.Report as Report;
 
@@ -41,7 +41,7 @@ impl Rows {
     /// The text of the whole report: the rows so far, which are those of all steps, then the row of the totals, and a
     /// row for each five-tuple, by the tally of all packets that were accepted. It fails for want of memory alone.
     pub(crate) fn finish(mut self, sched: &Sched<Noted>, tally: Tally) -> Result<Vec<u8>, Memory>
-        requires { IsTallied tally (acceptances sched.now.standing.events) [] }
+        requires { HasSeen tally (acceptances sched.now.standing.events) }
         ensures { IfOk result (λ text. (written : List ℕ) → Report.HasText self written → text.items
             ≡ (written ++ Report.line_of (Report.totals_row (statistics sched.now.standing.events)))
             ++ flat_map Report.tuple_line (tuple_rows sched.now.standing.events)) }
@@ -52,14 +52,14 @@ impl Rows {
 
     /// The row of a scheduler's totals, and a row for each of its five-tuples.
     fn statistics(&mut self, sched: &Sched<Noted>, tally: Tally) -> Result<(), Memory>
-        requires { IsTallied tally (acceptances sched.now.standing.events) [] }
+        requires { HasSeen tally (acceptances sched.now.standing.events) }
         ensures { OnOk result ((written : List ℕ) → Report.HasText self.old written → Report.HasText self.new
             ((written ++ Report.line_of (Report.totals_row (statistics sched.now.standing.events)))
             ++ flat_map Report.tuple_line (tuple_rows sched.now.standing.events))) }
     {
         self.totals(&sched.totals())?;
         sched.journal_laws();
-        self.tuples(&tally.rows(sched.keeper()))
+        self.tuples(&tally.rows(sched.keeper())?)
     }
 
     /// The text of an engine's journal: the rows so far, of which there are none, a row for each event, the row of the

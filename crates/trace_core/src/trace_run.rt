@@ -6,7 +6,7 @@ ghost use Rattle.packet_core.specs.declared.flow.Seed.{Seed};
 ghost use Rattle.packet_core.specs.declared.params.ParamFields.{ParamFields};
 ghost use Rattle.journal_core.specs.Happened.{Acceptance, acceptances};
 ghost use Rattle.journal_core.specs.Notes.{note_of};
-ghost use Rattle.journal_core.specs.Tallies.{IsTallied};
+ghost use Rattle.journal_core.specs.Tallies.{HasSeen};
 ghost use Rattle.journal_core.specs.declared.event.Event.{Event};
 ghost use Rattle.sched_core.specs.Schedulers.{new_scheduler};
 ghost use Rattle.trace_core.specs.Report.{AcceptsBy, IsReportOf, RunsStep, RunsText, accepted_flow};
@@ -164,10 +164,10 @@ fn run_rows(
     report: &mut Rows,
     tally: &mut Tally,
 ) -> Result<(), RunFault>
-    requires { IsTallied tally.old (acceptances sched.old.standing.events) [] }
+    requires { HasSeen tally.old (acceptances sched.old.standing.events) }
     ensures run { OnOk result ((text : List ℕ) → HasTaken text rows.old 0 []
         → RunsText text sched.old sched.new report.old report.new) }
-    ensures tallied { OnOk result (IsTallied tally.new (acceptances sched.new.standing.events) []) }
+    ensures seen { OnOk result (HasSeen tally.new (acceptances sched.new.standing.events)) }
     ensures trace { IfErr result (λ fault. (why : TraceFault) → fault ≡ RunFault.Trace why
         → (text : List ℕ) → HasTaken text rows.old 0 [] → IsRowsFault text (reader_of rows.new) why) }
     ensures write { IfErr result (λ fault. fault ≢ RunFault.Write) }
@@ -193,9 +193,9 @@ fn run_step(
     report: &mut Rows,
     tally: &mut Tally,
 ) -> Result<(), Memory>
-    requires { IsTallied tally.old (acceptances sched.old.standing.events) [] }
+    requires { HasSeen tally.old (acceptances sched.old.standing.events) }
     ensures made { OnOk result (RunsStep step.now sched.old sched.new report.old report.new) }
-    ensures tallied { OnOk result (IsTallied tally.new (acceptances sched.new.standing.events) []) }
+    ensures seen { OnOk result (HasSeen tally.new (acceptances sched.new.standing.events)) }
 {
     let first = sched.keeper().notes().len();
     let answer = sched.make(step)?;
@@ -208,7 +208,7 @@ fn run_step(
 fn tally_step(tally: &mut Tally, step: &Step, own_notes: &[Note]) -> Result<(), Memory>
     ensures { OnOk result ((accepted : List Acceptance) → (made : List Event)
         → own_notes.now ≡ map note_of made → AcceptsBy step.now made
-        → IsTallied tally.old accepted [] → IsTallied tally.new (accepted ++ acceptances made) []) }
+        → HasSeen tally.old accepted → HasSeen tally.new (accepted ++ acceptances made)) }
 {
     if let Step::Enqueue { packet, .. } = step {
         if let Some(flow) = accepted_flow(own_notes) {

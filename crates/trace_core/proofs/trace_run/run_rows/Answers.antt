@@ -6,7 +6,7 @@ use Rattle.trace_core.proofs.trace_run.run_rows.Goals as goal
 use Rattle.trace_core.proofs.trace_run.run_rows.Goals.{in-NoStep, in-Row+in_ok-run_step-in-Row}
 
 pub loop-turn-init : goal.loop-turn-init
-loop-turn-init c = record { runs = λ text start. ([], start, runs_none c.args.sched.now c.args.report.now); tallied = c.requires }
+loop-turn-init c = record { runs = λ text start. ([], start, runs_none c.args.sched.now c.args.report.now); seen = c.requires }
 
 pub returns-in_err-next-clause-trace : goal.returns-in_err-next-clause-trace
 returns-in_err-next-clause-trace c =
@@ -27,7 +27,7 @@ loop-turn-preserved c = elim c.match-branch-2.branch [
         runs = λ text start.
             let run = c.loop-turn.invariant.runs text start in
             (run.0, (rw w.in-NoStep.is at c.in_ok-next.ensures.taken) text _ _ run.1, run.2);
-        tallied = c.loop-turn.invariant.tallied;
+        seen = c.loop-turn.invariant.seen;
       })
   | in-Row+in_ok-run_step-in-Row w ↦
       rw (w.sched-is, w.report-is, w.tally-is) (record {
@@ -35,7 +35,7 @@ loop-turn-preserved c = elim c.match-branch-2.branch [
             let run = c.loop-turn.invariant.runs text start in
             let more = runs_more run.0 w.in-Row.step c.args.sched.now c.loop-turn.sched w.run_step.new.sched c.args.report.now c.loop-turn.report w.run_step.new.report run.2 w.in_ok-run_step-in-Row.ensures.made in
             (_, (rw w.in-Row.is at c.in_ok-next.ensures.taken) text _ _ run.1, more);
-        tallied = w.in_ok-run_step-in-Row.ensures.tallied;
+        seen = w.in_ok-run_step-in-Row.ensures.seen;
       })
 ]
 

@@ -20,10 +20,10 @@ returns-clause-made c =
     let answered = c.in_ok-answer.ensures {u = tt} in
     step_told c.step.result c.args.step.now c.in_ok-answer.answer c.args.sched.now c.make.new.self c.args.report.now c.step.new.self _ answered.made answered.params answered.seed (are_own (goal.at.returns-clause-made c).After-notes) c.step.ensures
 
-pub returns-clause-tallied : goal.returns-clause-tallied
-returns-clause-tallied c =
+pub returns-clause-seen : goal.returns-clause-seen
+returns-clause-seen c =
     let takes = (c.in_ok-answer.ensures {u = tt}).made in
     let old = c.args.sched.now.standing.events in
     let all : acceptances c.make.new.self.standing.events ≡ acceptances old ++ acceptances takes.made = ap acceptances takes.journal ∙ filter_map-append acceptance_of old takes.made in
-    let tallied = c.in_ok-tally_step.ensures {u = tt} (acceptances old) takes.made (are_own (goal.at.returns-clause-tallied c).After-notes) (step_accepts (discipline_of c.args.sched.now) c.args.sched.now.standing.state c.args.step.now c.in_ok-answer.answer takes.made c.make.new.self.standing.state takes.steps) c.requires in
-    on_ok_weaker c.step.result (λ _. rw all tallied) c.step.ensures
+    let seen = c.in_ok-tally_step.ensures {u = tt} (acceptances old) takes.made (are_own (goal.at.returns-clause-seen c).After-notes) (step_accepts (discipline_of c.args.sched.now) c.args.sched.now.standing.state c.args.step.now c.in_ok-answer.answer takes.made c.make.new.self.standing.state takes.steps) c.requires in
+    on_ok_weaker c.step.result (λ _. rw all seen) c.step.ensures
