@@ -5,6 +5,9 @@ use journal_core::{Cause, Event, Mark};
 use packet_core::{Ecn, FiveTuple, Ip, Packet};
 use std::process::Abort;
 
+/// A moment of the year 2023, counted from 1970.
+const LATE: u64 = 1_700_000_000_000_000;
+
 /// TCP to port 443, flow 443.
 fn web() -> FiveTuple {
     FiveTuple {
@@ -68,5 +71,15 @@ pub(crate) fn journal<R: Abort>(rt: &R) -> [Event; 12] {
         sent(4, 4_000, Ecn::Ce, Mark::Threshold),
         accepted(rt, 5, 4_999, web(), 50, Ecn::NotEct),
         sent(5, 5_000, Ecn::NotEct, Mark::NoMark),
+    ]
+}
+
+/// A packet that comes and goes at once, and another one long after.
+pub(crate) fn late_journal<R: Abort>(rt: &R) -> [Event; 4] {
+    [
+        accepted(rt, 0, 0, web(), 1_000, Ecn::Ect0),
+        sent(0, 0, Ecn::Ect0, Mark::NoMark),
+        accepted(rt, 1, LATE, web(), 500, Ecn::Ect0),
+        sent(1, LATE + 1, Ecn::Ect0, Mark::NoMark),
     ]
 }

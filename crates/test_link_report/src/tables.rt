@@ -1,6 +1,6 @@
 //! The tables of a journal.
 
-use crate::journals::journal;
+use crate::journals::{journal, late_journal};
 use journal_core::{Event, Keeps, Step};
 use link_report::{
     Gathered, MAX_EVENTS, Packets, flows_text, flows_text_of, packets_text, packets_text_of,
@@ -90,6 +90,34 @@ fq_codel,4000,0,1,50,0,0,0,0,,,1,50\n\
 fq_codel,4000,1,0,0,1,300,0,1,1500,1500,0,0\n\
 fq_codel,5000,0,0,0,1,50,0,0,1,1,0,0\n\
 fifo,0,0,2,2000,1,1000,0,0,0,0,1,1000\n",
+    );
+}
+
+/// Where bins have no width, all is in one.
+#[test]
+fn series_of_one_bin(rt: HostRuntime) {
+    let events = journal(&rt);
+    let text = series_text(rt.alloc(), 0, &events, None).expect(&rt, "memory");
+    are(
+        &rt,
+        &text,
+        "queue,from,tuple,packets,bytes,sent,sent_bytes,dropped,marked,delay_mean,delay_max,waiting,waiting_bytes\n\
+fq_codel,0,0,4,2150,2,1050,2,0,0,1,0,0\n\
+fq_codel,0,1,2,500,2,500,0,2,1000,1500,0,0\n",
+    );
+}
+
+/// Bins without a row are passed at once: here are more of them than a program can go through one by one.
+#[test]
+fn series_with_a_long_gap(rt: HostRuntime) {
+    let events = late_journal(&rt);
+    let text = series_text(rt.alloc(), 1_000, &events, None).expect(&rt, "memory");
+    are(
+        &rt,
+        &text,
+        "queue,from,tuple,packets,bytes,sent,sent_bytes,dropped,marked,delay_mean,delay_max,waiting,waiting_bytes\n\
+fq_codel,0,0,1,1000,1,1000,0,0,0,0,0,0\n\
+fq_codel,1700000000000000,0,1,500,1,500,0,0,1,1,0,0\n",
     );
 }
 
