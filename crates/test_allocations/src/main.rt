@@ -15,6 +15,7 @@ mod pictures;
 mod ports;
 mod programs;
 mod quiet;
+mod runs;
 mod schedulers;
 mod steps;
 mod traces;
@@ -37,7 +38,7 @@ const REFUSED: u32 = 1_000;
 const ALL: &str = "all";
 
 /// The names of the sequences.
-const SEQUENCES: [&str; 19] = [
+const SEQUENCES: [&str; 22] = [
     "flows",
     "sched",
     "engine",
@@ -53,6 +54,9 @@ const SEQUENCES: [&str; 19] = [
     "trace",
     "journal",
     "gathered",
+    "lists",
+    "run_closed",
+    "run_dequeues",
     "program_locked",
     "program_idle",
     "program_lanes",
@@ -163,6 +167,9 @@ fn make<H: Print + Threads + Wait + Sync>(
         "trace" => traces::trace(values, calls),
         "journal" => traces::journal(values, calls),
         "gathered" => keepers::gathered(values, calls),
+        "lists" => runs::lists(values, calls),
+        "run_closed" => runs::closed(rt, values, calls),
+        "run_dequeues" => runs::dequeues(rt, values, calls),
         "program_locked" => programs::locked(rt, values.alloc, calls),
         "program_idle" => programs::idle(rt, values.alloc, calls),
         "program_lanes" => programs::lanes(rt, values.alloc, calls),

@@ -105,7 +105,7 @@ static DEVICE: [Row<'static, DeviceCall>; 11] = [
 ];
 
 /// Allocates once, and notes where that was refused.
-fn allocate(alloc: Global, calls: &mut Calls<'_>) {
+pub(crate) fn allocate(alloc: Global, calls: &mut Calls<'_>) {
     let mut one: Vec<u8> = Vec::new(alloc);
     if one.push(0).is_err() {
         calls.note();
