@@ -22,20 +22,23 @@ const PACKETS: usize = 6;
 /// More dequeues than twice the packets that are taken ahead.
 const DEQUEUES: usize = 200;
 
+/// For so many packets of one flow a table of flows is made.
+const FOR_A_TABLE: usize = 16;
+
 /// The first moment that is too large.
 const TOO_LARGE: u64 = 1 << 60;
 
-/// The packets of one flow by the hash, each in the sender's list: three of them, for which no table of flows is made
-/// however many other steps there are, and four, for which one is.
+/// The packets of one flow by the hash, each in the sender's list: too few of them for a table of flows, beside other
+/// steps, and then just enough.
 pub(crate) fn lists(values: &Values, calls: &mut Calls<'_>) {
-    let many = [enqueue(values.packet); 4];
-    let mut few = [enqueue(values.packet); 5];
-    few[3] = Step::Dequeue { moment: 0 };
-    few[4] = Step::Close { moment: 0 };
+    let many = [enqueue(values.packet); FOR_A_TABLE];
+    let mut few = [enqueue(values.packet); FOR_A_TABLE + 1];
+    few[0] = Step::Dequeue { moment: 0 };
+    few[FOR_A_TABLE] = Step::Close { moment: 0 };
     match by_hash() {
         Some(params) => {
-            has_list(values, &params, &few, 3, calls);
-            has_list(values, &params, &many, 4, calls);
+            has_list(values, &params, &few, FOR_A_TABLE - 1, calls);
+            has_list(values, &params, &many, FOR_A_TABLE, calls);
         }
         None => calls.wanted(false, "Params::try_new"),
     }
