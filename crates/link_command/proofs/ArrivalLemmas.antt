@@ -6,14 +6,19 @@ use Rattle.std.proofs.lemmas.List.Elements.{All-push}
 use Rattle.std.proofs.lemmas.List.Sorted.{IsNonDecreasingBy-push}
 use Rattle.journal_core.specs.declared.step.Step.{Step}
 use Rattle.journal_core.specs.declared.step.Step.TheVariants.{Enqueue, Dequeue, Close}
-use Rattle.row_core.specs.Traces.{trace_of}
+use Rattle.row_core.specs.Traces.{HasTaken, trace_of}
+use Rattle.row_core.specs.declared.reader.TraceRows.{TraceRows}
+use Rattle.row_core.specs.declared.faults.TraceFaultKind.TheVariants as kind
 use Rattle.row_core.specs.declared.faults.TraceFaultKind.{TraceFaultKind}
 use Rattle.link_core.specs.Arrivals.{AreArrivals, arrival_moment}
 use Rattle.link_core.specs.declared.arrival.Arrival.{Arrival}
 use Rattle.link_core.specs.declared.arrival.TheConstants.{MAX_ARRIVALS, MAX_ARRIVAL_MOMENT}
-use Rattle.link_command.specs.ArrivalTexts.{HasItsRow, IsPlaceFault, IsRowOfStep, IsStepFault, arrival_step, last_moment, step_fault, without_lane}
+use Rattle.link_command.specs.ArrivalTexts.{HasItsRow, IsItsRow, IsOwnFault, IsOwnRow, IsPlaceFault, IsRowOfStep, IsStepFault, IsTextFault, arrival_step, last_moment, step_fault, without_lane}
+use Rattle.link_command.specs.declared.arrivals.NoArrivals.{NoArrivals}
+use Rattle.link_command.specs.declared.arrivals.NoArrivals.TheVariants as no_arrivals
 use Rattle.link_command.specs.declared.faults.RowFault.{RowFault}
 use Rattle.link_command.specs.declared.faults.RowFault.TheVariants.{Trace, NotAnArrival, TooLate, Backwards}
+use Rattle.link_command.proofs.InputLemmas.{row_of_place}
 
 -- one that comes at the last moment or later
 pub arrivals_push : (arrivals : List Arrival) (a : Arrival) (last : ℕ) → AreArrivals arrivals → All (λ (b : Arrival). b.moment ≤ last) arrivals → last ≤ a.moment → a.moment < MAX_ARRIVAL_MOMENT → length arrivals < MAX_ARRIVALS
@@ -109,8 +114,49 @@ fault_stays steps step place TooLate h = step_fault_stays steps step place TooLa
 fault_stays steps step place Backwards h = step_fault_stays steps step place Backwards h
 
 -- and has its row
-pub has_its_row : (text : List ℕ) (row place : ℕ) (steps : List Step) (what : RowFault) → trace_of text ≡ Ok steps → IsPlaceFault steps place what → IsRowOfStep text row place → HasItsRow text row what
-has_its_row text row place steps (Trace what) read fault row_is = tt
-has_its_row text row place steps NotAnArrival read fault row_is = record { steps = steps; read = read; place = place; fault = fault; row_is = row_is }
-has_its_row text row place steps TooLate read fault row_is = record { steps = steps; read = read; place = place; fault = fault; row_is = row_is }
-has_its_row text row place steps Backwards read fault row_is = record { steps = steps; read = read; place = place; fault = fault; row_is = row_is }
+its_row : (text : List ℕ) (row place : ℕ) (steps : List Step) (what : RowFault) → trace_of text ≡ Ok steps → IsPlaceFault steps place what → IsRowOfStep text row place → IsItsRow text row what
+its_row text row place steps (Trace what) read fault row_is = tt
+its_row text row place steps NotAnArrival read fault row_is = record { steps = steps; read = read; place = place; fault = fault; row_is = row_is }
+its_row text row place steps TooLate read fault row_is = record { steps = steps; read = read; place = place; fault = fault; row_is = row_is }
+its_row text row place steps Backwards read fault row_is = record { steps = steps; read = read; place = place; fault = fault; row_is = row_is }
+
+pub has_its_row : (text : List ℕ) (place : ℕ) (steps : List Step) (own : NoArrivals) → trace_of text ≡ Ok steps → IsOwnFault steps place own → IsOwnRow text place own → HasItsRow text own
+has_its_row text place steps (no_arrivals.Row row what) read fault row_is = its_row text row place steps what read fault row_is
+has_its_row text place steps no_arrivals.Memory read fault row_is = tt
+
+-- the fault of a row, or no row's, stays the first one too
+pub own_stays : (steps : List Step) (step : Step) (place : ℕ) (own : NoArrivals) → IsOwnFault steps place own → IsOwnFault (steps ++ step ∷ []) place own
+own_stays steps step place (no_arrivals.Row row what) h = fault_stays steps step place what h
+own_stays steps step place no_arrivals.Memory h = tt
+
+-- and is the text's
+pub text_fault : (text : List ℕ) (steps : List Step) (place : ℕ) (own : NoArrivals) → trace_of text ≡ Ok steps → IsOwnFault steps place own → IsTextFault text own
+text_fault text steps place (no_arrivals.Row row what) read fault = row_of_place text row what steps place read fault
+text_fault text steps place no_arrivals.Memory read fault = tt
+
+-- a step that is no arrival is no want of memory
+pub no_memory : (last : ℕ) (step : Step) (what : RowFault) → step_fault last step ≡ Some what → what ≡ Trace kind.Memory → ⊥
+no_memory last step what fault memory = no_trace last step kind.Memory (fault ∙ ap Some memory)
+
+-- a fault of traces is that one
+pub of_trace : (what : TraceFaultKind) → Trace what ≡ Trace kind.Memory → what ≡ kind.Memory
+of_trace what e = cc e
+
+-- What rows have told so far: steps that are arrivals, of which the last has that moment.
+pub record AreSoFar (text : List ℕ) (rows : TraceRows) (turns : ℕ) (steps : List Step) (arrivals : List Arrival) (last : ℕ) : Type 0 where
+  pub taken : HasTaken text rows turns steps
+  pub are : AreArrivals arrivals
+  pub count : length arrivals ≤ turns
+  pub before : All (λ (a : Arrival). a.moment ≤ last) arrivals
+  pub same : map without_lane steps ≡ map arrival_step arrivals
+  pub last_is : last ≡ last_moment arrivals
+
+pub none_so_far : (text : List ℕ) (rows : TraceRows) → HasTaken text rows 0 [] → AreSoFar text rows 0 [] [] 0
+none_so_far text rows taken = record {
+  taken = taken;
+  are = record { few = omega arith; soon = λ i d low. absurd (omega arith); rise = λ i j d before low. absurd (omega arith) };
+  count = omega arith;
+  before = λ i d low. absurd (omega arith);
+  same = refl;
+  last_is = refl;
+}

@@ -4,8 +4,10 @@ use Rattle.std.specs.Prelude.{IfSome}
 use Rattle.journal_core.specs.declared.step.Step.{Step}
 use Rattle.row_core.specs.Traces.{trace_of}
 use Rattle.link_core.specs.declared.arrival.Arrival.{Arrival}
-use Rattle.link_command.specs.ArrivalTexts.{IsArrivalText, IsPlaceFault, IsRowFault}
-use Rattle.link_command.specs.InputFaults.{IsInputFault, IsToldAt}
+use Rattle.link_command.specs.ArrivalTexts.{IsArrivalText, IsPlaceFault, IsRowFault, IsTextFault}
+use Rattle.link_command.specs.InputFaults.{IsInputFault, IsToldAs, IsToldAt}
+use Rattle.link_command.specs.declared.arrivals.NoArrivals.{NoArrivals}
+use Rattle.link_command.specs.declared.arrivals.NoArrivals.TheVariants as no_arrivals
 use Rattle.link_command.specs.declared.faults.ProgramFault.{ProgramFault}
 use Rattle.link_command.specs.declared.faults.ProgramFault.TheVariants.{CommandLine, NotUtf8, Value, Seed, Params, Row, Memory, Write}
 use Rattle.link_command.specs.declared.faults.RowFault.{RowFault}
@@ -22,6 +24,11 @@ told_at known row what (Value name why found) h g = h
 told_at known row what (Seed found) h g = h
 told_at known row what (Params why found) h g = h
 told_at known row what Write h g = h
+
+-- the fault of a text that has no arrivals
+pub told_as : (text : List ℕ) (none : NoArrivals) (f : ProgramFault) → IsToldAs none f → IsTextFault text none → IsInputFault (Some text) f
+told_as text (no_arrivals.Row row what) f h g = told_at (Some text) row what f h g
+told_as text no_arrivals.Memory f h g = rw h tt
 
 -- a step that is no arrival, by its row
 pub row_of_place : (bytes : List ℕ) (row : ℕ) (what : RowFault) (steps : List Step) (place : ℕ) → trace_of bytes ≡ Ok steps → IsPlaceFault steps place what

@@ -1,5 +1,5 @@
 -- The arrivals that a trace has, and what is wrong with one that has others.
-use Rattle.std.specs.Prelude.{◌≡◌, ◌⊎◌, ℕ, ◌-◌, ◌<◌, List, Option, Some, None, Ok, get_or, length, map, nat_le, nat_lt, take, if◌then◌else◌}
+use Rattle.std.specs.Prelude.{◌≡◌, ◌⊎◌, ℕ, ◌+◌, ◌-◌, ◌<◌, List, [], ◌∷◌, ◌++◌, Option, Some, None, Ok, get_or, length, map, nat_le, nat_lt, take, if◌then◌else◌}
 use Rattle.journal_core.specs.declared.step.Step.{Step}
 use Rattle.journal_core.specs.declared.step.Step.TheVariants.{Enqueue, Dequeue, Close}
 use Rattle.row_core.specs.Traces.{HasTaken, IsFaultOf, next_number, trace_of}
@@ -8,6 +8,8 @@ use Rattle.row_core.specs.declared.faults.TraceFaultKind.TheVariants as kind
 use Rattle.link_core.specs.Arrivals.{AreArrivals, moment_at}
 use Rattle.link_core.specs.declared.arrival.Arrival.{Arrival}
 use Rattle.link_core.specs.declared.arrival.TheConstants.{MAX_ARRIVALS, MAX_ARRIVAL_MOMENT}
+use Rattle.link_command.specs.declared.arrivals.NoArrivals.{NoArrivals}
+use Rattle.link_command.specs.declared.arrivals.NoArrivals.TheVariants as no_arrivals
 use Rattle.link_command.specs.declared.faults.RowFault.{RowFault}
 use Rattle.link_command.specs.declared.faults.RowFault.TheVariants.{Trace, NotAnArrival, TooLate, Backwards}
 
@@ -71,7 +73,8 @@ IsRowFault bytes row NotAnArrival = HasPlaceFault bytes NotAnArrival
 IsRowFault bytes row TooLate = HasPlaceFault bytes TooLate
 IsRowFault bytes row Backwards = HasPlaceFault bytes Backwards
 
--- The rows before this one ask for as many steps as stand before the place: so the row asks for the step at the place.
+-- The rows before this one ask for as many steps as stand before the place, and this row for one more, which is the step
+-- at the place.
 pub record IsRowOfStep (text : List ℕ) (row place : ℕ) : Type 0 where
   pub rows : TraceRows
   pub turns : ℕ
@@ -79,6 +82,10 @@ pub record IsRowOfStep (text : List ℕ) (row place : ℕ) : Type 0 where
   pub taken : HasTaken text rows turns steps
   pub number : row ≡ next_number rows
   pub before : length steps ≡ place
+  pub step : Step
+  pub after : TraceRows
+  pub asked : HasTaken text after (turns + 1) (steps ++ step ∷ [])
+  pub counted : next_number after ≡ row + 1
 
 -- The text is a trace, of whose steps the one that this row asks for is the first that is no arrival.
 pub record IsNoArrivalAt (text : List ℕ) (row : ℕ) (what : RowFault) : Type 0 where
@@ -88,9 +95,33 @@ pub record IsNoArrivalAt (text : List ℕ) (row : ℕ) (what : RowFault) : Type 
   pub fault : IsStepFault steps place what
   pub row_is : IsRowOfStep text row place
 
+-- The fault is the first one of the text, or no row's.
+abbrev pub IsTextFault : List ℕ → NoArrivals → Type 0
+IsTextFault text (no_arrivals.Row row what) = IsRowFault text row what
+IsTextFault text no_arrivals.Memory = Unit {0}
+
 -- The number of a row that is no arrival. That of a fault of traces is told by `IsRowFault`.
-abbrev pub HasItsRow : List ℕ → ℕ → RowFault → Type 0
-HasItsRow text row (Trace what) = Unit {0}
-HasItsRow text row NotAnArrival = IsNoArrivalAt text row NotAnArrival
-HasItsRow text row TooLate = IsNoArrivalAt text row TooLate
-HasItsRow text row Backwards = IsNoArrivalAt text row Backwards
+abbrev pub IsItsRow : List ℕ → ℕ → RowFault → Type 0
+IsItsRow text row (Trace what) = Unit {0}
+IsItsRow text row NotAnArrival = IsNoArrivalAt text row NotAnArrival
+IsItsRow text row TooLate = IsNoArrivalAt text row TooLate
+IsItsRow text row Backwards = IsNoArrivalAt text row Backwards
+
+abbrev pub HasItsRow : List ℕ → NoArrivals → Type 0
+HasItsRow text (no_arrivals.Row row what) = IsItsRow text row what
+HasItsRow text no_arrivals.Memory = Unit {0}
+
+-- Memory was wanting at a row.
+abbrev pub IsMemoryOfRow : NoArrivals → Type 0
+IsMemoryOfRow (no_arrivals.Row row what) = what ≡ Trace kind.Memory
+IsMemoryOfRow no_arrivals.Memory = ⊥
+
+-- The row's own fault is that of the step at this place, if it is a row's.
+abbrev pub IsOwnFault : List Step → ℕ → NoArrivals → Type 0
+IsOwnFault steps place (no_arrivals.Row row what) = IsPlaceFault steps place what
+IsOwnFault steps place no_arrivals.Memory = Unit {0}
+
+-- Its row is the one that asks for that step.
+abbrev pub IsOwnRow : List ℕ → ℕ → NoArrivals → Type 0
+IsOwnRow text place (no_arrivals.Row row what) = IsRowOfStep text row place
+IsOwnRow text place no_arrivals.Memory = Unit {0}

@@ -1,6 +1,8 @@
 -- The faults of an input.
 use Rattle.std.specs.Prelude.{◌≡◌, ℕ, List, Option, IfSome}
 use Rattle.link_command.specs.ArrivalTexts.{IsRowFault}
+use Rattle.link_command.specs.declared.arrivals.NoArrivals.{NoArrivals}
+use Rattle.link_command.specs.declared.arrivals.NoArrivals.TheVariants as no_arrivals
 use Rattle.link_command.specs.declared.faults.ProgramFault.{ProgramFault}
 use Rattle.link_command.specs.declared.faults.ProgramFault.TheVariants as fault
 use Rattle.link_command.specs.declared.faults.RowFault.{RowFault}
@@ -15,6 +17,11 @@ IsToldAt row what (fault.Value name why found) = ⊥
 IsToldAt row what (fault.Seed found) = ⊥
 IsToldAt row what (fault.Params why found) = ⊥
 IsToldAt row what fault.Write = ⊥
+
+-- The fault is that of the row, or want of memory where no row is wrong.
+abbrev pub IsToldAs : NoArrivals → ProgramFault → Type 0
+IsToldAs (no_arrivals.Row row what) told = IsToldAt row what told
+IsToldAs no_arrivals.Memory told = told ≡ fault.Memory
 
 -- The fault is one of arrivals with these bytes, where they are known. That memory was wanting can't be said.
 abbrev pub IsInputFault : Option (List ℕ) → ProgramFault → Type 0

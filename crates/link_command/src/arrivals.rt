@@ -1,10 +1,10 @@
 //! The arrivals that a trace has.
 
-ghost use Rattle.std.specs.Prelude.{◌≡◌, ◌<◌, ◌≤◌, ℕ, List, IfErr, IfOk, IfSome, Some, length};
-ghost use Rattle.row_core.specs.Traces.{HasTaken};
+ghost use Rattle.std.specs.Prelude.{◌≡◌, ◌<◌, ◌≤◌, [], ℕ, List, IfErr, IfOk, IfSome, Some, length};
+ghost use Rattle.row_core.specs.Traces.{HasFailed, HasTaken};
 ghost use Rattle.link_core.specs.Arrivals.{AreArrivals};
-ghost use Rattle.link_command.specs.ArrivalTexts.{HasItsRow, IsArrivalText, IsPlaceFault, IsRowFault, IsRowOfStep, arrival_step, step_fault, without_lane};
-ghost use Rattle.link_command.specs.InputFaults.{IsInputFault, IsToldAt};
+ghost use Rattle.link_command.specs.ArrivalTexts.{HasItsRow, IsArrivalText, IsMemoryOfRow, IsOwnFault, IsOwnRow, IsTextFault, arrival_step, step_fault, without_lane};
+ghost use Rattle.link_command.specs.InputFaults.{IsInputFault, IsToldAs, IsToldAt};
 
 use crate::faults::{Found, ProgramFault, RowFault};
 use crate::fields::faulty_field;
@@ -38,9 +38,20 @@ fn text_arrivals(alloc: Global, text: &[u8]) -> Result<Vec<Arrival>, ProgramFaul
     ensures text { IfOk result (λ arrivals. IsArrivalText text.now arrivals.items) }
     ensures fault { IfErr result (IsInputFault (Some text.now)) }
 {
-    match arrivals_of(alloc, text) {
+    let mut rows = TraceRows::new(alloc, text);
+    match arrivals_of(alloc, &mut rows) {
         Ok(arrivals) => Ok(arrivals),
-        Err(fault) => Err(row_fault(alloc, text, fault.row, fault.what)),
+        Err(why) => Err(text_fault(alloc, text, why)),
+    }
+}
+
+/// The fault of a text that has no arrivals, with no row where no row is wrong.
+fn text_fault(alloc: Global, text: &[u8], why: NoArrivals) -> ProgramFault
+    ensures { IsToldAs why result }
+{
+    match why {
+        NoArrivals::Row(row, what) => row_fault(alloc, text, row, what),
+        NoArrivals::Memory => ProgramFault::Memory,
     }
 }
 
@@ -91,22 +102,27 @@ fn is_empty_line(line: &[u8]) -> bool {
     matches!(line, b"" | b"\r" | b"\"\"")
 }
 
-/// What is wrong with a row, which is counted from 1.
+/// Why a text has no arrivals.
 #[derive(Clone, Copy)]
-struct FaultyRow {
-    row: u64,
-    what: RowFault,
+enum NoArrivals {
+    /// What is wrong with the row of that number, from 1.
+    Row(u64, RowFault),
+    /// The list of arrivals can't grow.
+    Memory,
 }
 
-/// The arrivals of a text. Its steps stand in proofs alone.
-fn arrivals_of(alloc: Global, text: &[u8]) -> Result<Vec<Arrival>, FaultyRow>
-    requires { length text.now ≤ MAX_BYTES }
-    ensures arrivals { IfOk result (λ arrivals. AreArrivals arrivals.items) }
-    ensures text { IfOk result (λ arrivals. IsArrivalText text.now arrivals.items) }
-    ensures fault { IfErr result (λ fault. IsRowFault text.now fault.row fault.what) }
-    ensures row { IfErr result (λ fault. HasItsRow text.now fault.row fault.what) }
+/// The arrivals that rows ask for, from the start of their text on. Their steps stand in proofs alone.
+fn arrivals_of(alloc: Global, rows: &mut TraceRows<'_>) -> Result<Vec<Arrival>, NoArrivals>
+    ensures arrivals { IfOk result (λ arrivals. (text : List ℕ)
+        → HasTaken text rows.old 0 [] → AreArrivals arrivals.items) }
+    ensures text { IfOk result (λ arrivals. (text : List ℕ)
+        → HasTaken text rows.old 0 [] → IsArrivalText text arrivals.items) }
+    ensures fault { IfErr result (λ why. (text : List ℕ) → HasTaken text rows.old 0 [] → IsTextFault text why) }
+    ensures row { IfErr result (λ why. (text : List ℕ) → HasTaken text rows.old 0 [] → HasItsRow text why) }
+
+    // Want of memory is that of a row only where the reader of rows has failed.
+    ensures memory { IfErr result (λ why. IsMemoryOfRow why → HasFailed rows.new) }
 {
-    let mut rows = TraceRows::new(alloc, text);
     let mut steps = GhostList::new();
     let mut arrivals = Vec::new(alloc);
     let mut last = 0;
@@ -115,7 +131,7 @@ fn arrivals_of(alloc: Global, text: &[u8]) -> Result<Vec<Arrival>, FaultyRow>
         let row = rows.row_number();
         let next = match rows.next() {
             Ok(next) => next,
-            Err(fault) => return Err(row_of_trace(&fault)),
+            Err(fault) => return Err(fault_at(fault.row, fault.what)),
         };
         match next {
             Next::End => return Ok(arrivals),
@@ -124,11 +140,11 @@ fn arrivals_of(alloc: Global, text: &[u8]) -> Result<Vec<Arrival>, FaultyRow>
                 steps = steps.and(&step);
                 let arrival = match arrival_of(&step, last) {
                     Ok(arrival) => arrival,
-                    Err(what) => return Err(first_fault(&mut rows, steps, FaultyRow { row, what })),
+                    Err(what) => return Err(first_fault(rows, steps, NoArrivals::Row(row, what))),
                 };
                 last = arrival.moment;
                 if arrivals.push(arrival).is_err() {
-                    return Err(fault_at(row, TraceFaultKind::Memory));
+                    return Err(first_fault(rows, steps, NoArrivals::Memory));
                 }
             }
         }
@@ -136,23 +152,24 @@ fn arrivals_of(alloc: Global, text: &[u8]) -> Result<Vec<Arrival>, FaultyRow>
     Err(fault_at(rows.row_number(), TraceFaultKind::TooLarge))
 }
 
-/// The first fault of a text of which a row is no arrival, and the rows up to that one ask for these steps: one of the
-/// grammar of a row behind it, and else that row's own.
-fn first_fault(rows: &mut TraceRows<'_>, mut steps: GhostList<Step>, fault: FaultyRow) -> FaultyRow
+/// The first fault of a text of which a row is no arrival, or its arrival can't be stored, and the rows up to that one ask
+/// for these steps: one of the grammar of a row after it, and else that row's own.
+fn first_fault(rows: &mut TraceRows<'_>, mut steps: GhostList<Step>, own: NoArrivals) -> NoArrivals
+    requires { IsMemoryOfRow own → ⊥ }
     ensures fault { (text : List ℕ) (turns place : ℕ) → HasTaken text rows.old turns steps.items
-        → IsPlaceFault steps.items place fault.what → IsRowFault text result.row result.what }
+        → IsOwnFault steps.items place own → IsTextFault text result }
     ensures row { (text : List ℕ) (turns place : ℕ) → HasTaken text rows.old turns steps.items
-        → IsPlaceFault steps.items place fault.what → IsRowOfStep text fault.row place
-        → HasItsRow text result.row result.what }
+        → IsOwnFault steps.items place own → IsOwnRow text place own → HasItsRow text result }
+    ensures memory { IsMemoryOfRow result → HasFailed rows.new }
 {
     // A record takes a byte or more, so the text ends before the turns do.
     for _turn in 0..u64::MAX {
         let next = match rows.next() {
             Ok(next) => next,
-            Err(fault) => return row_of_trace(&fault),
+            Err(fault) => return fault_at(fault.row, fault.what),
         };
         match next {
-            Next::End => return fault,
+            Next::End => return own,
             Next::NoStep => {}
             Next::Row(step) => steps = steps.and(&step),
         }
@@ -160,21 +177,11 @@ fn first_fault(rows: &mut TraceRows<'_>, mut steps: GhostList<Step>, fault: Faul
     fault_at(rows.row_number(), TraceFaultKind::TooLarge)
 }
 
-/// The faulty row of a trace.
-fn row_of_trace(fault: &TraceFault) -> FaultyRow
-    ensures { result ≡ record { row = fault.now.row; what = RowFault.Trace fault.now.what } }
-{
-    fault_at(fault.row, fault.what)
-}
-
 /// A row with a fault of traces.
-fn fault_at(row: u64, what: TraceFaultKind) -> FaultyRow
-    ensures { result ≡ record { row = row; what = RowFault.Trace what } }
+fn fault_at(row: u64, what: TraceFaultKind) -> NoArrivals
+    ensures { result ≡ NoArrivals.Row row (RowFault.Trace what) }
 {
-    FaultyRow {
-        row,
-        what: RowFault::Trace(what),
-    }
+    NoArrivals::Row(row, RowFault::Trace(what))
 }
 
 /// The arrival that a step is, where the one before it came at that moment.

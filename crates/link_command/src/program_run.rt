@@ -179,12 +179,19 @@ fn keeper_for(alloc: Global, table: TableName) -> Gathered
     ensures events { result.events ≡ [] }
     ensures lost { result.lost ≡ [] }
 {
+    Gathered::new(alloc, most_for(table))
+}
+
+/// Of how many events that table shows the packets.
+fn most_for(table: TableName) -> u64
+    ensures packets { table ≡ TableName.Packets → result ≡ u64.MAX }
+    ensures others { MAX_EVENTS ≤ result }
+{
     // The other tables refuse more events than these.
-    let most = match table {
+    match table {
         TableName::Packets => u64::MAX,
         _ => MAX_EVENTS as u64,
-    };
-    Gathered::new(alloc, most)
+    }
 }
 
 /// The steps of a run of these arrivals, as a trace.

@@ -2,8 +2,7 @@ use Rattle.std.proofs.Common.{◌≡◌, ◌+◌, ◌++◌, ◌∷◌, [], ℕ, 
 use Rattle.std.proofs.lemmas.Bool.{le-ltb}
 use Rattle.row_core.proofs.RecordLemmas.{few_turns, rows_fault}
 use Rattle.row_core.specs.Traces.{HasTaken, reader_of}
-use Rattle.link_command.proofs.ArrivalLemmas.{fault_stays, has_its_row}
-use Rattle.link_command.proofs.InputLemmas.{row_of_place}
+use Rattle.link_command.proofs.ArrivalLemmas.{has_its_row, of_trace, own_stays, text_fault}
 use Rattle.link_command.proofs.arrivals.first_fault.Goals as goal
 use Rattle.link_command.proofs.arrivals.first_fault.Goals.{in-NoStep, in-Row}
 
@@ -11,19 +10,25 @@ pub returns-in-Err-clause-fault : goal.returns-in-Err-clause-fault
 returns-in-Err-clause-fault c = λ text turns place taken fault.
     let now = c.loop-turn.invariant text turns place taken fault in
     let stops = c.in-Err.ensures.fault text _ _ now.0 in
-    rw c.row_of_trace.ensures (inl (rows_fault (Some text) text (reader_of c.next.new.self) c.in-Err.fault refl stops taken.small))
+    rw c.fault_at.ensures (inl (rows_fault (Some text) text (reader_of c.next.new.self) c.in-Err.fault refl stops taken.small))
+
+pub returns-in-Err-clause-memory : goal.returns-in-Err-clause-memory
+returns-in-Err-clause-memory c = λ memory. c.in-Err.ensures.memory (of_trace c.in-Err.fault.what (rw c.fault_at.ensures at memory))
+
+pub returns-in-End-clause-memory : goal.returns-in-End-clause-memory
+returns-in-End-clause-memory c = λ memory. absurd (c.requires memory)
 
 pub returns-in-End-clause-fault : goal.returns-in-End-clause-fault
 returns-in-End-clause-fault c = λ text turns place taken fault.
     let now = c.loop-turn.invariant text turns place taken fault in
     let read = (rw c.in-End.is at c.in-Ok.ensures.taken) text _ _ now.0 in
-    row_of_place text c.args.fault.row c.args.fault.what c.loop-turn.steps.items place (rw (le-ltb 134217728 (length text) taken.small) read) now.1
+    text_fault text c.loop-turn.steps.items place c.args.own (rw (le-ltb 134217728 (length text) taken.small) read) now.1
 
 pub returns-in-End-clause-row : goal.returns-in-End-clause-row
 returns-in-End-clause-row c = λ text turns place taken fault row_is.
     let now = c.loop-turn.invariant text turns place taken fault in
     let read = (rw c.in-End.is at c.in-Ok.ensures.taken) text _ _ now.0 in
-    has_its_row text c.args.fault.row place c.loop-turn.steps.items c.args.fault.what (rw (le-ltb 134217728 (length text) taken.small) read) now.1 row_is
+    has_its_row text place c.loop-turn.steps.items c.args.own (rw (le-ltb 134217728 (length text) taken.small) read) now.1 row_is
 
 pub loop-turn-preserved : goal.loop-turn-preserved
 loop-turn-preserved c = λ text turns place taken fault.
@@ -35,7 +40,7 @@ loop-turn-preserved c = λ text turns place taken fault.
       | in-Row w ↦
           let more = (rw w.in-Row.is at c.in-Ok.ensures.taken) text _ _ now.0 in
           rw (w.steps-is, w.and-steps.ensures.items)
-          (subst (λ (n : ℕ). HasTaken text c.next.new.self n (c.loop-turn.steps.items ++ w.in-Row.step ∷ [])) turn more, fault_stays c.loop-turn.steps.items w.in-Row.step place c.args.fault.what now.1)
+          (subst (λ (n : ℕ). HasTaken text c.next.new.self n (c.loop-turn.steps.items ++ w.in-Row.step ∷ [])) turn more, own_stays c.loop-turn.steps.items w.in-Row.step place c.args.own now.1)
     ]
 
 pub returns-clause-fault : goal.returns-clause-fault

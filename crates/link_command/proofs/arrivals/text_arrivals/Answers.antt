@@ -1,6 +1,12 @@
-use Rattle.std.proofs.Common.{Some}
-use Rattle.link_command.proofs.InputLemmas.{told_at}
+use Rattle.link_command.proofs.InputLemmas.{told_as}
 use Rattle.link_command.proofs.arrivals.text_arrivals.Goals as goal
 
-pub returns-in-Err-clause-fault : goal.returns-in-Err-clause-fault
-returns-in-Err-clause-fault c = told_at (Some c.args.text.now) c.in-Err.fault.row c.in-Err.fault.what c.row_fault.result c.row_fault.ensures c.in-Err.ensures.fault
+pub returns-clause-fault : goal.returns-clause-fault
+returns-clause-fault c =
+    told_as c.args.text.now c.in-Err.why c.text_fault.result c.text_fault.ensures (c.in-Err.ensures.fault c.args.text.now c.new-rows.ensures)
+
+pub returns-in-Ok-clause-arrivals : goal.returns-in-Ok-clause-arrivals
+returns-in-Ok-clause-arrivals c = c.in-Ok.ensures.arrivals c.args.text.now c.new-rows.ensures
+
+pub returns-in-Ok-clause-text : goal.returns-in-Ok-clause-text
+returns-in-Ok-clause-text c = c.in-Ok.ensures.text c.args.text.now c.new-rows.ensures
