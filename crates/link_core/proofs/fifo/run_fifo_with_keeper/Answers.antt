@@ -8,7 +8,7 @@ use Rattle.link_core.proofs.fifo.run_fifo_with_keeper.Goals as goal
 pub loop-i-init : goal.loop-i-init
 loop-i-init g c =
     let new = c.new-line.ensures in
-    let chosen = c.in_ok-chooser.ensures {u = tt} in
+    let chosen = (c.in_ok-chooser.ensures {u = tt}).made in
     record { on_link = opening_on_fifo c.args.params c.args.seed c.args.link.now c.args.arrivals.now c.new-line.result c.requires.arrivals new; params = new.params; seed = new.seed_kept; told = c.requires.events ∙ sym new.events; lost = refl; chooser = chosen }
 
 pub meet_next-requires-clause-on_link : goal.meet_next-requires-clause-on_link

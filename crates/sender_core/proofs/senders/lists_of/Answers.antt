@@ -12,7 +12,7 @@ loop-step-init c = record {
     number = omega (arith, c.loop-sender.invariant.0, c.loop-sender.auto._sender-end, c.loop-sender-test.false);
     each = λ i d less. c.loop-sender.invariant.1 i d (omega (arith, less, c.loop-sender-test.false));
   };
-  chooser = c.in_ok-chooser.ensures {u = tt};
+  chooser = (c.in_ok-chooser.ensures {u = tt}).made;
 }
 
 pub loop-step-preserved : goal.loop-step-preserved
