@@ -132,7 +132,7 @@ own_stays steps step place no_arrivals.Memory h = tt
 -- and is the text's
 pub text_fault : (text : List ℕ) (steps : List Step) (place : ℕ) (own : NoArrivals) → trace_of text ≡ Ok steps → IsOwnFault steps place own → IsTextFault text own
 text_fault text steps place (no_arrivals.Row row what) read fault = row_of_place text row what steps place read fault
-text_fault text steps place no_arrivals.Memory read fault = tt
+text_fault text steps place no_arrivals.Memory read fault = (steps, read)
 
 -- a step that is no arrival is no want of memory
 pub no_memory : (last : ℕ) (step : Step) (what : RowFault) → step_fault last step ≡ Some what → what ≡ Trace kind.Memory → ⊥

@@ -95,12 +95,16 @@ pub record IsNoArrivalAt (text : List ℕ) (row : ℕ) (what : RowFault) : Type 
   pub fault : IsStepFault steps place what
   pub row_is : IsRowOfStep text row place
 
--- The fault is the first one of the text, or no row's.
+-- The text is a trace.
+abbrev pub IsTrace : List ℕ → Type 0
+IsTrace text = (steps : List Step) × (trace_of text ≡ Ok steps)
+
+-- The fault is the first one of the text, or no row's. It is no row's only where each row is one of a trace.
 abbrev pub IsTextFault : List ℕ → NoArrivals → Type 0
 IsTextFault text (no_arrivals.Row row what) = IsRowFault text row what
-IsTextFault text no_arrivals.Memory = Unit {0}
+IsTextFault text no_arrivals.Memory = IsTrace text
 
--- The number of a row that is no arrival. That of a fault of traces is told by `IsRowFault`.
+-- The number of a row that is no arrival. `IsRowFault` says that of a fault of traces.
 abbrev pub IsItsRow : List ℕ → ℕ → RowFault → Type 0
 IsItsRow text row (Trace what) = Unit {0}
 IsItsRow text row NotAnArrival = IsNoArrivalAt text row NotAnArrival

@@ -152,8 +152,8 @@ fn arrivals_of(alloc: Global, rows: &mut TraceRows<'_>) -> Result<Vec<Arrival>, 
     Err(fault_at(rows.row_number(), TraceFaultKind::TooLarge))
 }
 
-/// The first fault of a text of which a row is no arrival, or its arrival can't be stored, and the rows up to that one ask
-/// for these steps: one of the grammar of a row after it, and else that row's own.
+/// The first fault of a text of which a row is no arrival, or an arrival that can't be stored. It is one of the grammar of
+/// a row after that one, or else that row's own. The rows up to that one ask for these steps.
 fn first_fault(rows: &mut TraceRows<'_>, mut steps: GhostList<Step>, own: NoArrivals) -> NoArrivals
     requires { IsMemoryOfRow own → ⊥ }
     ensures fault { (text : List ℕ) (turns place : ℕ) → HasTaken text rows.old turns steps.items

@@ -178,6 +178,8 @@ fn run_told<K: Keeps<Event>, S: Keeps<Step>>(
 fn keeper_for(alloc: Global, table: TableName) -> Gathered
     ensures events { result.events ≡ [] }
     ensures lost { result.lost ≡ [] }
+    ensures packets { table ≡ TableName.Packets → result.most ≡ u64.MAX }
+    ensures most { MAX_EVENTS ≤ result.most }
 {
     Gathered::new(alloc, most_for(table))
 }

@@ -2,7 +2,8 @@
 
 use crate::calls::called;
 
-/// The row that tells the version is counted, where no arrival was read yet, and a fault of a later row comes before it.
+/// The row of the version is counted and empty lines aren't, where no arrival was read yet. A fault in the grammar of a
+/// later row comes first.
 #[test]
 fn rows_after_the_version(rt: HostRuntime) {
     let table = [
@@ -13,6 +14,11 @@ fn rows_after_the_version(rt: HostRuntime) {
         (
             "\n\"\"\nversion,2\n\ndeq,9\nenq,7,6,10.0.0.1,10.0.0.9,5000,443,1514,2\n",
             "maltlink: row 2: NotAnArrival\n  row 2, field 1 (KIND): \"deq\" is no arrival; wanted is enq\n",
+        ),
+        (
+            "version,2\ndeq,9\nclose\n",
+            "maltlink: row 3: BadFieldCount\n  row 3: \"close\" has another number of fields; wanted is \
+enq,MOMENT,PROTO,SRC,DST,SPORT,DPORT,LEN,ECN\n",
         ),
         (
             "\ndeq,9\n",

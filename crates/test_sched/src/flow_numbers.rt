@@ -4,8 +4,9 @@
 
 use crate::schedulers::{come, packet_of, params_of, seeded};
 use packet_core::{Classify, Ecn, FiveTuple, Ip, ParamFields, Params, Seed, flow_of};
-use sched_core::{Event, Sched};
+use sched_core::{Event, FlowChooser, Sched};
 use std::process::Abort;
+use std::test::Fail;
 
 /// How many five-tuples come.
 const TUPLES: u16 = 200;
@@ -102,4 +103,33 @@ fn numbers_behind_zeros(rt: HostRuntime) {
 #[test]
 fn numbers_of_ports(rt: HostRuntime) {
     expect_numbers(&rt, 5, Classify::Dport, SEED);
+}
+
+/// What is shown of the factors by which five-tuples have their places in a table.
+fn factors_in(shown: &str) -> Option<&str> {
+    let (_, rest) = shown.split_once("factors: ")?;
+    let (factors, _) = rest.split_once(")")?;
+    Some(factors)
+}
+
+/// No look-up of a chooser depends on the seed, and those of a scheduler do.
+#[test]
+fn places_of_a_chooser_need_no_seed(rt: HostRuntime) -> Result<(), Fail> {
+    let mut fields = ParamFields::standard();
+    fields.flows = 1;
+    fields.classify = Classify::Hash;
+    let params = params_of(&rt, fields);
+    let mut choosers = Vec::new(rt.alloc());
+    let mut scheds = Vec::new(rt.alloc());
+    for seed in [SEED, Seed([7; 16])] {
+        let chooser = FlowChooser::try_new(rt.alloc(), params, seed).expect(&rt, "a chooser");
+        choosers.push(format!(in rt.alloc(); "{chooser:?}")?)?;
+        let sched = seeded(&rt, params, seed);
+        scheds.push(format!(in rt.alloc(); "{sched:?}")?)?;
+    }
+    assert!(&rt; factors_in(&choosers[0]).is_some());
+    assert!(&rt; factors_in(&choosers[0]) == factors_in(&choosers[1]));
+    assert!(&rt; factors_in(&scheds[0]).is_some());
+    assert!(&rt; factors_in(&scheds[0]) != factors_in(&scheds[1]));
+    Ok(())
 }

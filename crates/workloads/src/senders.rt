@@ -1,5 +1,5 @@
 //! Senders in threads: `fqsim locked` and `fqsim lanes`. No packet is dropped. So the rows of five-tuples and of senders
-//! are the same in every run, in some order, and so are all totals but the marks, and the number of rows of each kind.
+//! are the same in every run, in some order. All totals but the marks are, too, and the number of rows of each kind.
 
 use crate::Fault;
 use crate::digest::Digest;
