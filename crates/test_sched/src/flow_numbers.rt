@@ -119,17 +119,18 @@ fn places_of_a_chooser_need_no_seed(rt: HostRuntime) -> Result<(), Fail> {
     fields.flows = 1;
     fields.classify = Classify::Hash;
     let params = params_of(&rt, fields);
-    let mut choosers = Vec::new(rt.alloc());
-    let mut scheds = Vec::new(rt.alloc());
-    for seed in [SEED, Seed([7; 16])] {
-        let chooser = FlowChooser::try_new(rt.alloc(), params, seed).expect(&rt, "a chooser");
-        choosers.push(format!(in rt.alloc(); "{chooser:?}")?)?;
-        let sched = seeded(&rt, params, seed);
-        scheds.push(format!(in rt.alloc(); "{sched:?}")?)?;
-    }
-    assert!(&rt; factors_in(&choosers[0]).is_some());
-    assert!(&rt; factors_in(&choosers[0]) == factors_in(&choosers[1]));
-    assert!(&rt; factors_in(&scheds[0]).is_some());
-    assert!(&rt; factors_in(&scheds[0]) != factors_in(&scheds[1]));
+    let other_seed = Seed([7; 16]);
+    let one = FlowChooser::try_new(rt.alloc(), params, SEED).expect(&rt, "a chooser");
+    let other = FlowChooser::try_new(rt.alloc(), params, other_seed).expect(&rt, "a chooser");
+    let one = format!(in rt.alloc(); "{one:?}")?;
+    let other = format!(in rt.alloc(); "{other:?}")?;
+    assert!(&rt; factors_in(&one).is_some());
+    assert!(&rt; factors_in(&one) == factors_in(&other));
+    let one = seeded(&rt, params, SEED);
+    let other = seeded(&rt, params, other_seed);
+    let one = format!(in rt.alloc(); "{one:?}")?;
+    let other = format!(in rt.alloc(); "{other:?}")?;
+    assert!(&rt; factors_in(&one).is_some());
+    assert!(&rt; factors_in(&one) != factors_in(&other));
     Ok(())
 }
