@@ -48,12 +48,16 @@ pub(crate) fn words_of(tuple: &FiveTuple) -> (u64, u64) {
 fn word_of(address: Ip) -> u64 {
     match address {
         Ip::V4(octets) => u64::from(u32::from_le_bytes(octets)),
-        Ip::V6([a, b, c, d, e, f, g, h, i, j, k, l, m, n, o, p]) => {
-            let front = u64::from_le_bytes([a, b, c, d, e, f, g, h]);
-            let back = u64::from_le_bytes([i, j, k, l, m, n, o, p]);
-            front.wrapping_mul(0x9e37_79b9_7f4a_7c15) ^ back
-        }
+        Ip::V6(octets) => long_word(octets),
     }
+}
+
+/// Sixteen bytes as a word.
+fn long_word(octets: [u8; 16]) -> u64 {
+    let [a, b, c, d, e, f, g, h, i, j, k, l, m, n, o, p] = octets;
+    let front = u64::from_le_bytes([a, b, c, d, e, f, g, h]);
+    let back = u64::from_le_bytes([i, j, k, l, m, n, o, p]);
+    front.wrapping_mul(0x9e37_79b9_7f4a_7c15) ^ back
 }
 
 /// A packet of a five-tuple, with a length and an ECN field by some bits.
