@@ -8,8 +8,8 @@ use std::marker::Model;
 /// For how many flows a place is stored. It is the standard number of flows (tc-fq_codel(8)).
 const FLOWS: usize = 1024;
 
-/// After how many packets memory is asked for: for fewer, places save less than the memory costs.
-const PACKETS: usize = 64;
+/// After how many packets `LatestPlaces` asks for memory: for fewer, places save less than the memory costs.
+pub const PACKETS_FOR_PLACES: usize = 64;
 
 /// For each flow, modulo 1,024, the place that was stored for it last. Most packets have the five-tuple that their flow's
 /// last one had, so the place of that one is a guess. Until memory is taken, no place is stored.
@@ -35,14 +35,14 @@ impl LatestPlaces {
     }
 
     /// Takes memory for the places with the 64th packet, if so many came. From then on places are stored. If the memory is
-    /// refused, all stays as it was, and it isn't asked for again: callers do without guesses.
+    /// refused, all stays as it was: callers do without guesses. It is asked for again where `packets` is 64 once more.
     #[inline(always)]
     pub fn prepare(&mut self, packets: usize)
         ensures same { (flow : ℕ) → slice_index self.new flow ≡ slice_index self.old flow }
         ensures stored { (self.new ≡ self.old) ⊎ (length self.new ≡ 1024) }
         ensures once { packets ≢ 64 → self.new ≡ self.old }
     {
-        if packets == PACKETS && self.places.is_empty() {
+        if packets == PACKETS_FOR_PLACES && self.places.is_empty() {
             // Refused, it leaves the list as it was.
             let _stored = self.places.resize(FLOWS, 0);
         }

@@ -23,7 +23,7 @@ pub use fates::Fates;
 pub use ghost_list::GhostList;
 pub use journal::{Counts, Journal, MAX_EVENTS};
 pub use keeper::{Keeps, Stored, Unstored};
-pub use latest::LatestPlaces;
+pub use latest::{LatestPlaces, PACKETS_FOR_PLACES};
 pub use note::Note;
 pub use noted::Noted;
 pub use outcome::{Answer, Outcome};

@@ -97,8 +97,8 @@ impl Tally {
         ensures place { IfOk result (λ place. slice_get (tuples_of self.new.seen.items) place ≡ Some tuple) }
         ensures seen { OnOk result ((self.new.seen.items ≡ self.old.seen.items) ⊎ (self.new.seen.items
             ≡ self.old.seen.items ++ record { tuple = tuple; flow = flow } ∷ [])) }
-        ensures guessed { slice_get (tuples_of self.old.seen.items) (slice_index self.old.latest (flow % 1024)) ≡ Some tuple
-            → self.new.seen.items ≡ self.old.seen.items }
+        ensures guessed { slice_get (tuples_of self.old.seen.items) (slice_index self.old.latest (flow % 1024))
+            ≡ Some tuple → self.new.seen.items ≡ self.old.seen.items }
         ensures latest { IfOk result (λ place. self.new.latest ≡ slice_set self.old.latest (flow % 1024) place) }
         ensures places { self.new.places ≡ self.old.places }
         ensures unchanged { OnErr result (self.new.seen.items ≡ self.old.seen.items) }

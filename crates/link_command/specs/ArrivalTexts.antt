@@ -64,8 +64,8 @@ pub record HasPlaceFault (bytes : List ℕ) (what : RowFault) : Type 0 where
   pub place : ℕ
   pub fault : IsPlaceFault steps place what
 
--- The fault of a row, which is counted from 1: the first one of the grammar of traces, or that of the first step that is
--- no arrival.
+-- The fault of a row, which is counted from 1. It is the first fault of the grammar of traces, or that of the first step
+-- that is no arrival.
 abbrev pub IsRowFault : List ℕ → ℕ → RowFault → Type 0
 IsRowFault bytes row (Trace what) =
     IsFaultOf bytes (record { row = row; what = what }) ⊎ HasPlaceFault bytes (Trace what)
@@ -73,8 +73,8 @@ IsRowFault bytes row NotAnArrival = HasPlaceFault bytes NotAnArrival
 IsRowFault bytes row TooLate = HasPlaceFault bytes TooLate
 IsRowFault bytes row Backwards = HasPlaceFault bytes Backwards
 
--- The rows before this one ask for as many steps as stand before the place, and this row for one more, which is the step
--- at the place.
+-- The rows before this one ask for as many steps as stand before the place. This row asks for one more: the step at the
+-- place.
 pub record IsRowOfStep (text : List ℕ) (row place : ℕ) : Type 0 where
   pub rows : TraceRows
   pub turns : ℕ

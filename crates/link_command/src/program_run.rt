@@ -197,6 +197,8 @@ fn most_for(table: TableName) -> u64
 }
 
 /// The steps of a run of these arrivals, as a trace.
+// Each table is kept out of the functions above it. Merged into them, all tables' values would lie in one frame.
+#[inline(never)]
 fn trace_text<F: Write>(
     alloc: Global,
     run: &Run,
@@ -217,6 +219,7 @@ fn trace_text<F: Write>(
 
 /// The table of bins of a run of these arrivals, beside those of a FIFO where that is asked for. It reads the events in
 /// their order.
+#[inline(never)]
 fn bins_text<F: Write>(
     alloc: Global,
     request: &RunRequest<'_>,
@@ -243,6 +246,7 @@ fn bins_text<F: Write>(
 }
 
 /// The table of a run's packets, beside that of a FIFO's where one is asked for.
+#[inline(never)]
 fn compared_text<F: Write>(
     alloc: Global,
     request: &RunRequest<'_>,
@@ -270,6 +274,7 @@ fn compared_text<F: Write>(
 }
 
 /// The table of the packets of journals, or their picture.
+#[inline(never)]
 fn packets_table(
     alloc: Global,
     table: TableName,

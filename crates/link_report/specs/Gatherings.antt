@@ -5,8 +5,8 @@ use Rattle.journal_core.specs.declared.event.Event.{Event}
 use Rattle.link_report.specs.declared.gathered.Gathered.TheInside.{Inside}
 use Rattle.link_report.specs.Packets.{known_of}
 
--- The events and the packets lost that it was told, how many events more it can be told, of how many it makes packets at
--- most, and whether one of these found no memory.
+-- The events and the packets lost that it was told, and how many events more it can be told. Then of how many events it
+-- makes packets at most, and whether one of these found no memory.
 pub record Gathering : Type 0 where
   pub events : List Event
   pub lost : List Waiting

@@ -8,13 +8,10 @@ ghost use Rattle.link_report.specs.Packets as Spec;
 ghost use Rattle.link_report.specs.Packets.{delay_sent, is_codel_drop, is_marked, is_overflow_drop, is_sent, known_of, last_moment, sent_len, with_event, with_fate};
 
 use indexmap::IndexSet;
-use journal_core::{Cause, Event, LatestPlaces, Mark, Memory};
+use journal_core::{Cause, Event, LatestPlaces, Mark, Memory, PACKETS_FOR_PLACES};
 use packet_core::{Ecn, FiveTuple, Packet};
 use std::alloc::Global;
 use std::marker::Model;
-
-/// From so many packets on it pays to store the numbers of the flows' latest five-tuples. `LatestPlaces` takes memory then.
-const MANY: usize = 64;
 
 /// What became of a packet. Moments are in microseconds.
 #[derive(Clone, Copy, Debug, PartialEq, Eq)]
@@ -194,7 +191,8 @@ impl Packets {
     }
 
     /// Takes memory for the packets of so many events more, whatever five-tuples they have, and answers for how many
-    /// there is memory then. The packets stay the same. What numbers are kept in is no part of it: it may be refused.
+    /// there is memory then. The packets stay the same. The memory for the flows' latest numbers isn't promised: where it
+    /// is refused, each five-tuple is hashed.
     pub(crate) fn reserve(&mut self, more: usize) -> Result<usize, Memory>
         ensures same { self.new ≡ self.old }
         ensures room { IfOk result (λ room. more ≤ room) }
@@ -211,7 +209,7 @@ impl Packets {
     {
         // A packet comes and goes: that is two events.
         let packets = self.records.len().saturating_add(more / 2);
-        self.latest.prepare(packets.min(MANY));
+        self.latest.prepare(packets.min(PACKETS_FOR_PLACES));
     }
 
     /// Adds what an event says.

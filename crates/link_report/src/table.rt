@@ -40,6 +40,8 @@ pub(crate) struct Table {
 
 impl Table {
     /// No row yet.
+    // Kept out of its callers: the builder's copies of the writer, of some 3 KiB each, would stay in their frames.
+    #[inline(never)]
     pub(crate) fn new(alloc: Global) -> Table
         ensures { Tables.HasText result [] }
     {
@@ -59,6 +61,8 @@ impl Table {
     }
 
     /// The text of all rows.
+    // Kept out of its callers for the copies of the writer, too.
+    #[inline(never)]
     pub(crate) fn into_text(self) -> Result<Vec<u8>, Memory>
         ensures { IfOk result (λ text. (written : List ℕ)
             → Tables.HasText self written → text.items ≡ written) }

@@ -3,7 +3,7 @@
 ghost use Rattle.std.specs.Prelude.{◌≡◌, ◌%◌, ◌/◌, ◌<◌, ◌≤◌, IfOk, OnErr};
 ghost use Rattle.packet_core.specs.FlowNumber.{flow_number};
 ghost use Rattle.packet_core.specs.declared.params.Classify.TheVariants.{Hash};
-ghost use Rattle.sched_core.specs.declared.classifier.TheConstants.{PACKETS_PER_FLOW};
+ghost use Rattle.sched_core.specs.declared.classifier.TheConstants.{FEWEST_PACKETS};
 
 use crate::flow_numbers::{FlowNumbers, KNOWN_FACTORS, factors_of};
 use journal_core::Memory;
@@ -71,15 +71,17 @@ impl Classifier {
         ensures { IfOk result
             (λ classifier. classifier ≡ classifier_by params.now.classify params.now.flows seed) }
     {
-        Classifier::try_with_factors(alloc, params, seed, factors_of(&seed))
+        Classifier::try_with_places(alloc, params, seed, factors_of(&seed), usize::MAX)
     }
 
-    /// The same, where five-tuples have their places in the table by those factors.
-    fn try_with_factors(
+    /// The same, where five-tuples have their places in the table by those factors. Of so many wanted places there are
+    /// as many as `FlowNumbers::try_new` says.
+    fn try_with_places(
         alloc: Global,
         params: &Params,
         seed: Seed,
         factors: (u64, u64),
+        wanted: usize,
     ) -> Result<Classifier, Memory>
         ensures made { IfOk result
             (λ classifier. classifier ≡ classifier_by params.now.classify params.now.flows seed) }
@@ -88,7 +90,8 @@ impl Classifier {
         Ok(match params.classify() {
             Classify::Dport => Classifier::Port(PortFlows::new(params.flows())),
             Classify::Hash => {
-                Classifier::Hash(FlowNumbers::try_new(alloc, *params, seed, factors)?)
+                let numbers = FlowNumbers::try_new(alloc, *params, seed, factors, wanted)?;
+                Classifier::Hash(numbers)
             }
         })
     }
@@ -107,9 +110,12 @@ impl Classifier {
     }
 }
 
-/// A table of five-tuples is taken where at least as many packets as this come for each flow. For fewer of them their
-/// digests take less time than it.
-const PACKETS_PER_FLOW: u64 = 16;
+/// A table for packets whose number is known has a place for so many of them, or up to twice as many places. So it takes
+/// 12 to 24 bytes a packet, and little time beside the digests of packets that all have five-tuples of their own.
+const PACKETS_PER_PLACE: u64 = 8;
+
+/// For fewer packets than these no table is taken.
+const FEWEST_PACKETS: u64 = 16;
 
 /// The choice of packets' flows by parameters and a seed, as a scheduler with the same parameters and seed makes it. By
 /// the hash it remembers five-tuples that came before: only one that isn't remembered takes a digest. All memory is taken
@@ -140,17 +146,12 @@ impl FlowChooser {
         ensures made { IfOk result (λ chooser. chooser ≡ record { params = params; seed = seed }) }
         ensures memory { OnErr result (params.classify ≡ Hash) }
     {
-        let classifier = Classifier::try_with_factors(alloc, &params, seed, KNOWN_FACTORS)?;
-        Ok(FlowChooser {
-            params,
-            seed,
-            classifier: Some(classifier),
-        })
+        FlowChooser::try_with_places(alloc, params, seed, usize::MAX)
     }
 
-    /// The same choice for about so many packets. By the hash it remembers five-tuples only where there are at least
-    /// sixteen packets for each flow: for fewer of them their digests take less time than what it would remember them
-    /// in, and it takes no memory. So it doesn't fail for them.
+    /// The same choice for about so many packets. By the hash it remembers the fewer five-tuples, the fewer packets there
+    /// are: its memory is at most 24 bytes for each of them, and no more than that of `try_new`. For fewer than sixteen
+    /// packets it takes no memory and doesn't fail.
     pub fn try_new_for(
         alloc: Global,
         params: Params,
@@ -159,17 +160,34 @@ impl FlowChooser {
     ) -> Result<FlowChooser, Memory>
         ensures made { IfOk result (λ chooser. chooser ≡ record { params = params; seed = seed }) }
         ensures memory { OnErr result (params.classify ≡ Hash) }
-        ensures many { OnErr result (params.flows ≤ packets / PACKETS_PER_FLOW) }
+        ensures many { OnErr result (FEWEST_PACKETS ≤ packets) }
     {
-        let few = packets / PACKETS_PER_FLOW < u64::from(params.flows());
-        if few && params.classify() == Classify::Hash {
+        if packets < FEWEST_PACKETS && params.classify() == Classify::Hash {
             return Ok(FlowChooser {
                 params,
                 seed,
                 classifier: None,
             });
         }
-        FlowChooser::try_new(alloc, params, seed)
+        FlowChooser::try_with_places(alloc, params, seed, (packets / PACKETS_PER_PLACE) as usize)
+    }
+
+    /// The choice with a table of so many places, as `FlowNumbers::try_new` takes them.
+    fn try_with_places(
+        alloc: Global,
+        params: Params,
+        seed: Seed,
+        wanted: usize,
+    ) -> Result<FlowChooser, Memory>
+        ensures made { IfOk result (λ chooser. chooser ≡ record { params = params; seed = seed }) }
+        ensures memory { OnErr result (params.classify ≡ Hash) }
+    {
+        let classifier = Classifier::try_with_places(alloc, &params, seed, KNOWN_FACTORS, wanted)?;
+        Ok(FlowChooser {
+            params,
+            seed,
+            classifier: Some(classifier),
+        })
     }
 
     /// The number of a packet's flow, below the number of flows (RFC 8290, section 4.1).

@@ -10,7 +10,8 @@ use packet_core::{FiveTuple, Ip, Params, Seed, TupleWords, flow_of};
 use std::alloc::Global;
 use std::marker::Model;
 
-/// At least as many places as this for each flow: where a few conversations share each flow, few of them share a place.
+/// At least as many places as this for each flow, where places aren't bounded: where a few conversations share each flow,
+/// few of them share a place.
 const PLACES_PER_FLOW: usize = 4;
 
 /// Factors that are no secret: 2^64 over the golden ratio, and another odd number. Who knows them can choose five-tuples
@@ -76,17 +77,20 @@ impl Model for FlowNumbers {
 }
 
 impl FlowNumbers {
-    /// No five-tuple yet. Each will have its place by those factors.
+    /// No five-tuple yet. Each will have its place by those factors. There are four places or more for each flow, or
+    /// `wanted` ones where these are fewer, made up to a power of two.
     pub(crate) fn try_new(
         alloc: Global,
         params: Params,
         seed: Seed,
         factors: (u64, u64),
+        wanted: usize,
     ) -> Result<FlowNumbers, Memory>
         requires { params.classify ≡ Hash }
         ensures { IfOk result (λ numbers. numbers ≡ record { flows = params.flows; seed = seed }) }
     {
-        let places = (PLACES_PER_FLOW * params.flows() as usize).next_power_of_two();
+        let enough = PLACES_PER_FLOW * params.flows() as usize;
+        let places = enough.min(wanted).next_power_of_two();
         let first_known = Numbered::new(&params, &seed, TupleWords::new(&FIRST_TUPLE));
         let place = Place {
             later: first_known,

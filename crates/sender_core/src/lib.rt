@@ -1,5 +1,5 @@
-//! The senders of a run: the packets of a trace for each of them, their threads, what is known of their run before it
-//! starts, and whether the steps of a run are made by their calls. It knows nothing of streams, rows and faults.
+//! The senders of a run: the packets of a trace for each of them, and their threads. It says what is known of their run
+//! before it starts, and whether the steps of a run are made by their calls. It knows nothing of streams, rows and faults.
 #![tactic(auto)]
 
 mod interleaving;

@@ -134,3 +134,42 @@ fn places_of_a_chooser_need_no_seed(rt: HostRuntime) -> Result<(), Fail> {
     assert!(&rt; factors_in(&one) != factors_in(&other));
     Ok(())
 }
+
+/// How many places a table has, as it is shown.
+fn places_in(shown: &str) -> usize {
+    shown.split("later: ").skip(1).count()
+}
+
+/// How many places there are in the table of a chooser for so many packets of 64 flows.
+fn places_for(rt: &(impl Abort + AllocGlobal), packets: u64) -> Result<usize, Fail> {
+    let mut fields = ParamFields::standard();
+    fields.flows = 64;
+    fields.classify = Classify::Hash;
+    let params = params_of(rt, fields);
+    let chooser = FlowChooser::try_new_for(rt.alloc(), params, SEED, packets).expect(
+        rt,
+        "a chooser",
+    );
+    let shown = format!(in rt.alloc(); "{chooser:?}")?;
+    Ok(places_in(&shown))
+}
+
+/// The table of a chooser is the smaller, the fewer packets come: there are an eighth as many places, or up to twice as
+/// many as that, and no more than four for each flow.
+#[test]
+fn places_of_a_chooser_follow_the_packets(rt: HostRuntime) -> Result<(), Fail> {
+    for (packets, places) in [
+        (0, 0),
+        (15, 0),
+        (16, 2),
+        (23, 2),
+        (24, 4),
+        (136, 32),
+        (1024, 128),
+        (2048, 256),
+        (1_000_000, 256),
+    ] {
+        assert!(&rt; places_for(&rt, packets)? == places);
+    }
+    Ok(())
+}
