@@ -78,7 +78,7 @@ impl Model for FlowNumbers {
 
 impl FlowNumbers {
     /// No five-tuple yet. Each will have its place by those factors. There are four places or more for each flow, or
-    /// `wanted` ones where these are fewer, made up to a power of two.
+    /// `wanted` ones where these are fewer: one at least, and made up to a power of two.
     pub(crate) fn try_new(
         alloc: Global,
         params: Params,
@@ -90,7 +90,7 @@ impl FlowNumbers {
         ensures { IfOk result (λ numbers. numbers ≡ record { flows = params.flows; seed = seed }) }
     {
         let enough = PLACES_PER_FLOW * params.flows() as usize;
-        let places = enough.min(wanted).next_power_of_two();
+        let places = wanted.clamp(1, enough).next_power_of_two();
         let first_known = Numbered::new(&params, &seed, TupleWords::new(&FIRST_TUPLE));
         let place = Place {
             later: first_known,
