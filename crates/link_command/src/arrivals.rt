@@ -7,14 +7,15 @@ ghost use Rattle.link_command.specs.ArrivalTexts.{HasItsRow, IsArrivalText, IsMe
 ghost use Rattle.link_command.specs.InputFaults.{IsInputFault, IsToldAs, IsToldAt};
 
 use crate::faults::{Found, ProgramFault, RowFault};
-use crate::fields::faulty_field;
+use crate::fields::{FieldName, faulty_field};
+use csv::{ByteRecord, ErrorKind, ReaderBuilder};
 use journal_core::{GhostList, Step};
 use link_core::{Arrival, MAX_ARRIVAL_MOMENT};
 use row_core::{MAX_BYTES, Next, TraceFault, TraceFaultKind, TraceRows, read_text};
 use std::alloc::{AllocError, Global};
 use std::io::Read;
 
-/// The most bytes of a row that a fault shows.
+/// The most bytes of a row, or of a field, that a fault shows.
 const MAX_SHOWN: usize = 200;
 
 /// The arrivals that a reader gives: a trace whose rows are all `enq`, in the order of their moments. The grammar of all
@@ -74,32 +75,59 @@ fn row_fault(alloc: Global, text: &[u8], row: u64, what: RowFault) -> ProgramFau
 
 /// What was found at a faulty row.
 fn found_at(alloc: Global, text: &[u8], row: u64, what: RowFault) -> Result<Found, AllocError> {
-    let first = row_text(alloc, text, 1)?;
-    let found = row_text(alloc, text, row)?;
+    let first = row_at(alloc, text, 1)?;
+    let found = row_at(alloc, text, row)?;
     match faulty_field(alloc, what, &found, &first)? {
-        Some(name) => Ok(Found::Field(name, String::from_str(alloc, name.text_in(&found))?)),
-        None => Ok(Found::Row(found)),
+        Some(name) => Ok(Found::Field(name, shown(alloc, name.in_row(&found))?)),
+        None => Ok(Found::Row(joined(alloc, &found)?)),
     }
 }
 
-/// The text of a row, without what follows its 200th byte. Rows are counted from 1, without empty lines.
-fn row_text(alloc: Global, text: &[u8], row: u64) -> Result<String, AllocError> {
+/// The record that is the row of that number, as `csv` cuts it off the text, and none of fields where there is no such
+/// row. Rows are counted from 1. A record with one empty field isn't counted.
+fn row_at(alloc: Global, text: &[u8], row: u64) -> Result<ByteRecord, AllocError> {
+    let mut records = ReaderBuilder::new()
+        .has_headers(false)
+        .flexible(true)
+        .from_reader(alloc, text);
+    let mut record = ByteRecord::new(alloc);
     let mut number = 0u64;
-    for line in text.split(|byte| *byte == b'\n') {
-        if !is_empty_line(line) {
-            number = number.saturating_add(1);
-            if number == row {
-                let line = line.strip_suffix(b"\r".as_slice()).unwrap_or(line);
-                return String::from_utf8_lossy(alloc, &line[..line.len().min(MAX_SHOWN)]);
-            }
+    // Each record takes a byte or more.
+    for _turn in 0..text.len() {
+        match records.read_byte_record(&mut record) {
+            Ok(true) => {}
+            Ok(false) => break,
+            Err(error) => match error.kind() {
+                ErrorKind::OutOfMemory => return Err(AllocError),
+                _ => break,
+            },
+        }
+        if record.len() == 1 && FieldName::Kind.in_row(&record).is_empty() {
+            continue;
+        }
+        number = number.saturating_add(1);
+        if number == row {
+            return Ok(record);
         }
     }
-    Ok(String::new(alloc))
+    Ok(ByteRecord::new(alloc))
 }
 
-/// Whether a line is none that is counted.
-fn is_empty_line(line: &[u8]) -> bool {
-    matches!(line, b"" | b"\r" | b"\"\"")
+/// The fields of a row with a comma between each two, without what comes after the 200th byte.
+fn joined(alloc: Global, row: &ByteRecord) -> Result<String, AllocError> {
+    let mut text = Vec::new(alloc);
+    for place in 0..row.len() {
+        if place > 0 {
+            text.push(b',')?;
+        }
+        text.extend_from_slice(row.get(place).unwrap_or(b"".as_slice()))?;
+    }
+    shown(alloc, &text)
+}
+
+/// The text of these bytes, without what comes after the 200th of them.
+fn shown(alloc: Global, bytes: &[u8]) -> Result<String, AllocError> {
+    String::from_utf8_lossy(alloc, &bytes[..bytes.len().min(MAX_SHOWN)])
 }
 
 /// Why a text has no arrivals.

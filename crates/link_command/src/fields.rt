@@ -1,6 +1,7 @@
 //! The fields of a row, and the one that a fault stands in.
 
 use crate::faults::RowFault;
+use csv::ByteRecord;
 use packet_core::read_numeral;
 use row_core::{TraceFaultKind, TraceRows};
 use std::alloc::{AllocError, Global};
@@ -76,23 +77,20 @@ impl FieldName {
         }
     }
 
-    /// Its text in a row, and an empty one where the row ends before it.
-    pub(crate) fn text_in(self, row: &str) -> &str {
-        let mut fields = row.split(',');
-        match fields.nth(self.number().saturating_sub(1)) {
-            Some(field) => field,
-            None => "",
-        }
+    /// Its bytes in a row, and none where the row ends before it.
+    pub(crate) fn in_row(self, row: &ByteRecord) -> &[u8] {
+        let place = self.number().saturating_sub(1);
+        row.get(place).unwrap_or(b"".as_slice())
     }
 }
 
 /// The field that a row's fault stands in, where it stands in one. `first` is the trace's first row, which may tell its
-/// version. The fields of the row are read again for it.
+/// version.
 pub(crate) fn faulty_field(
     alloc: Global,
     what: RowFault,
-    row: &str,
-    first: &str,
+    row: &ByteRecord,
+    first: &ByteRecord,
 ) -> Result<Option<FieldName>, AllocError> {
     Ok(match what {
         RowFault::NotAnArrival | RowFault::Trace(TraceFaultKind::BadKind) => Some(FieldName::Kind),
@@ -111,14 +109,14 @@ pub(crate) fn faulty_field(
 }
 
 /// The field of a row that has no number, or one that it may not have, where it is to have one.
-fn faulty_number(row: &str) -> FieldName {
-    match FieldName::Kind.text_in(row) {
-        "enq" => {}
-        "version" => return FieldName::Version,
+fn faulty_number(row: &ByteRecord) -> FieldName {
+    match FieldName::Kind.in_row(row) {
+        b"enq" => {}
+        b"version" => return FieldName::Version,
         _ => return FieldName::Moment,
     }
     for name in NUMBERS {
-        match read_numeral(name.text_in(row).as_bytes()) {
+        match read_numeral(name.in_row(row)) {
             Some(number) if number <= name.greatest() => {}
             _ => return name,
         }
@@ -126,15 +124,24 @@ fn faulty_number(row: &str) -> FieldName {
     FieldName::Len
 }
 
-/// The field of a row with an address that isn't one, or isn't of the source's kind.
-fn faulty_address(alloc: Global, row: &str, first: &str) -> Result<FieldName, AllocError> {
-    let version = match FieldName::Kind.text_in(first) {
-        "version" => first,
-        _ => "",
-    };
-    let address = FieldName::Src.text_in(row);
-    let trace = format!(in alloc; "{version}\nenq,0,0,{address},{address},0,0,1,0\n")?;
-    if reads(alloc, trace.as_bytes()) {
+/// The field of a row with an address that isn't one, or isn't of the source's kind. It is DST where a row with the
+/// address of SRC at both ends is one of a trace.
+fn faulty_address(
+    alloc: Global,
+    row: &ByteRecord,
+    first: &ByteRecord,
+) -> Result<FieldName, AllocError> {
+    let address = FieldName::Src.in_row(row);
+    let mut trace = Vec::new(alloc);
+    if FieldName::Kind.in_row(first) == b"version".as_slice() {
+        trace.extend_from_slice(b"version,2\n")?;
+    }
+    trace.extend_from_slice(b"enq,0,0,")?;
+    trace.extend_from_slice(address)?;
+    trace.push(b',')?;
+    trace.extend_from_slice(address)?;
+    trace.extend_from_slice(b",0,0,1,0\n")?;
+    if reads(alloc, &trace) {
         Ok(FieldName::Dst)
     } else {
         Ok(FieldName::Src)

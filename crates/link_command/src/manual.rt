@@ -1,7 +1,7 @@
 //! What the help of the program says, as a page of a manual in lines of at most 80 columns.
 
 /// The version, and the toolchain that the program is proved with.
-pub const VERSION: &str = "1\nproved with rattle-kit-13f logic dac8208d650f15bf";
+pub const VERSION: &str = "0.1.0\nproved with rattle-kit-13f logic dac8208d650f15bf";
 
 /// What the program is, in a line.
 pub const SUMMARY: &str = "Run packets through a bottleneck link with FQ-CoDel before it";

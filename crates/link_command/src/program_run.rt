@@ -24,6 +24,7 @@ use row_core::TraceFaultKind;
 use sched_core::{Engine, Event, Keeps, Memory, Step, Stored, Unstored};
 use std::alloc::{AllocError, Global};
 use std::io::{Read, Write};
+use trace_core::write_text;
 
 /// The status of a run that went well, and that of help.
 const SUCCESS: u8 = 0;
@@ -53,32 +54,12 @@ pub fn program<R: Read, W: Write, F: Write>(
     ensures range { result ≤ 2 }
 {
     match text_asked(alloc, words, reader, faults, terminals) {
-        Ok(text) => match show(writer, &text) {
+        Ok(text) => match write_text(writer, &text) {
             Ok(()) => SUCCESS,
-            Err(()) => tell(faults, &ProgramFault::Write),
+            Err(_) => tell(faults, &ProgramFault::Write),
         },
         Err(fault) => tell(faults, &fault),
     }
-}
-
-/// Writes a text. Where a write fails or takes nothing, a front of it is written.
-fn show<W: Write>(writer: &mut W, bytes: &[u8]) -> Result<(), ()>
-    ensures whole { OnOk result (Appends (W.contents writer.old) (W.contents writer.new) bytes.now) }
-    ensures front { OnErr result ((count : ℕ)
-        × Appends (W.contents writer.old) (W.contents writer.new) (take count bytes.now)) }
-{
-    let mut done = 0;
-    // Each turn takes a byte or more.
-    for _turn in 0..bytes.len() {
-        if done == bytes.len() {
-            return Ok(());
-        }
-        match writer.write(&bytes[done..]) {
-            Ok(0) | Err(_) => return Err(()),
-            Ok(count) => done += count,
-        }
-    }
-    Ok(())
 }
 
 /// The text that the words ask for: a table, or help.

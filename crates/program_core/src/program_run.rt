@@ -20,7 +20,7 @@ use std::io::{self, ErrorKind, Read, Write};
 use std::sync::Wait;
 use std::thread::Threads;
 use thiserror::Error;
-use trace_core::{RunFault, TraceFault, TraceFaultKind, run};
+use trace_core::{RunFault, TraceFault, TraceFaultKind, run, write_text};
 
 /// The status of a run that went well, and that of help.
 const SUCCESS: u8 = 0;
@@ -232,26 +232,18 @@ fn answer<H: Threads + Wait + Sync, R: Read, W: Write, F: Write>(
     }
 }
 
-/// Writes a text. Where a write fails or takes nothing, a front of it is written.
+/// Writes a text. Where a write fails or takes nothing, a front of it is written. It tries again where the writer is
+/// interrupted.
 pub(crate) fn show<W: Write>(writer: &mut W, text: &str) -> Result<(), ProgramFault>
     ensures whole { OnOk result (Appends (W.contents writer.old) (W.contents writer.new) text.now) }
     ensures front { OnErr result ((count : ℕ)
         × Appends (W.contents writer.old) (W.contents writer.new) (take count text.now)) }
     ensures fault { IsOkUnless result program_fault.Write }
 {
-    let bytes = text.as_bytes();
-    let mut done = 0;
-    // Each turn takes a byte or more.
-    for _turn in 0..bytes.len() {
-        if done == bytes.len() {
-            return Ok(());
-        }
-        match writer.write(&bytes[done..]) {
-            Ok(0) | Err(_) => return Err(ProgramFault::Write),
-            Ok(count) => done += count,
-        }
+    match write_text(writer, text.as_bytes()) {
+        Ok(()) => Ok(()),
+        Err(_) => Err(ProgramFault::Write),
     }
-    Ok(())
 }
 
 /// Reads a trace, makes its run with the seed of that text and the parameters of those words, and writes the report.

@@ -3,9 +3,9 @@
 //! lost; and by a flush. It takes the memory for `limit` packets and one more where it is opened, and goes on after the
 //! end of a scheduler's ids.
 //!
-//! That no call after `Shaper::open` takes memory is promised for the first `limit` + 1 enqueues alone: each enqueue takes
-//! one of the enqueues that are reserved, and no clause of the scheduler says that one comes back with each packet that
-//! leaves. A renewal takes memory for a scheduler as new, or doesn't happen.
+//! An enqueue isn't refused for want of memory while one is reserved. `Shaper::open` reserves `limit` + 1 of them, and each
+//! enqueue takes one. That no later call takes memory but a renewal is tested, and not proved: no clause of the scheduler
+//! says that one comes back with each packet that leaves. A renewal takes memory for a scheduler as new, or doesn't happen.
 #![tactic(auto)]
 
 mod answers;

@@ -59,6 +59,38 @@ enq,MOMENT,PROTO,SRC,DST,SPORT,DPORT,LEN,ECN\n",
     }
 }
 
+/// Lines end in CR LF, one of them has an empty field in quotes, fields are in quotes, and a byte order mark comes first:
+/// the fields are those that the reader of rows had.
+#[test]
+fn fields_of_rows_in_other_forms(rt: HostRuntime) {
+    let table = [
+        (
+            "enq,0,6,10.0.0.1,10.0.0.9,5000,443,1514,2\r\n\"\"\r\nenq,1,6,10.0.0.1,10.0.0.9,5000,443,1514,2\r\n\
+enq,2,17,10.0.0.300,10.0.0.2,5000,53,1000,2\r\n",
+            "maltlink: row 3: BadAddress\n  row 3, field 4 (SRC): \"10.0.0.300\" is no address; wanted is \
+four numbers joined by dots, or after a row version,2 also 32 hexadecimal digits\n",
+        ),
+        (
+            "enq,0,6,10.0.0.1,\"10.0.0.300\",5000,443,1514,2\n",
+            "maltlink: row 1: BadAddress\n  row 1, field 5 (DST): \"10.0.0.300\" is no \
+address of the kind of SRC; wanted is four numbers joined by dots, or after a row version,2 also 32 hexadecimal digits\n",
+        ),
+        (
+            "\u{feff}version,2\nenq,0,6,20010db8000000000000000000000001,10.0.0.1,5000,443,1514,2\n",
+            "maltlink: row 2: BadAddress\n  row 2, field 5 (DST): \"10.0.0.1\" is no \
+address of the kind of SRC; wanted is four numbers joined by dots, or after a row version,2 also 32 hexadecimal digits\n",
+        ),
+        (
+            "\"version\",\"2\"\nenq,0,6,20010db8000000000000000000000001,10.0.0.1,5000,443,1514,2\n",
+            "maltlink: row 2: BadAddress\n  row 2, field 5 (DST): \"10.0.0.1\" is no \
+address of the kind of SRC; wanted is four numbers joined by dots, or after a row version,2 also 32 hexadecimal digits\n",
+        ),
+    ];
+    for (input, wanted) in table {
+        faults(&rt, &["--rate", "10mbit"], input, 2, wanted);
+    }
+}
+
 /// A row that is no arrival has its number, empty lines aside, whatever comes behind it. A fault of the grammar in a row
 /// behind it comes before it.
 #[test]

@@ -1,6 +1,7 @@
 //! What the program writes where no run is asked for.
 
-use crate::calls::called;
+use crate::calls::{called, called_interrupted};
+use std::process::Abort;
 
 /// The version is its number and the toolchain, and help is the page of the manual.
 #[test]
@@ -10,7 +11,7 @@ fn version_and_help(rt: HostRuntime) {
         assert_eq!(rt; status, 0);
         assert_eq!(rt; told.len(), 0);
         let text = str::from_utf8(&output).unwrap_or("");
-        assert!(rt; text.starts_with("maltlink 1\nproved with "), "{text}");
+        assert!(rt; text.starts_with("maltlink 0.1.0\nproved with "), "{text}");
         assert_eq!(rt; text.lines().count(), 2);
     }
     for word in ["--help", "-h"] {
@@ -25,5 +26,32 @@ fn version_and_help(rt: HostRuntime) {
             "{text}"
         );
         assert!(rt; text.contains("\n    --rate RATE\n"));
+    }
+}
+
+/// The words write that text, and the same where its writer is interrupted, up to 1,000 times.
+fn written_again<R: Abort + AllocGlobal>(rt: &R, words: &[&str]) {
+    let input = "enq,0,17,10.0.0.1,10.0.0.2,5000,53,1000,2\n";
+    let (_, whole, _) = called(rt, words, input);
+    assert!(rt; !whole.is_empty());
+    for interruptions in [1, 1_000] {
+        let (status, output, told) = called_interrupted(rt, words, input, interruptions);
+        assert_eq!(rt; status, 0, "{words:?}");
+        assert!(rt; output == whole, "{words:?}");
+        assert_eq!(rt; told.len(), 0);
+    }
+    let (status, output, told) = called_interrupted(rt, words, input, 1_001);
+    assert_eq!(rt; status, 1);
+    assert_eq!(rt; output.len(), 0);
+    assert_eq!(rt; str::from_utf8(&told).ok(), Some("maltlink: write\n"));
+}
+
+/// Help, the version and tables are written where their writer is interrupted.
+#[test]
+fn interruptions_are_tried_again(rt: HostRuntime) {
+    written_again(&rt, &["--help"]);
+    written_again(&rt, &["--version"]);
+    for table in ["flows", "packets", "series", "steps", "svg"] {
+        written_again(&rt, &["--rate", "10mbit", "--write", table]);
     }
 }

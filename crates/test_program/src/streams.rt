@@ -303,6 +303,26 @@ fn slow_writers_of_help_are_written(rt: HostRuntime) {
     }
 }
 
+/// Help is written whole where its writer is interrupted, but not more often than a report is.
+#[test]
+fn interruptions_of_help_are_tried_again(rt: HostRuntime) {
+    let mut whole = Vec::new(rt.alloc());
+    let words = ["--help"];
+    ends(&rt, &words, &mut "".as_bytes(), &mut whole, 0, "");
+    for (interruptions, status, faults) in [
+        (1, 0, ""),
+        (1_000, 0, ""),
+        (1_001, 1, "fqsim: write\n"),
+    ] {
+        let mut writer = Interrupted {
+            stream: Vec::new(rt.alloc()),
+            left: interruptions,
+        };
+        ends(&rt, &words, &mut "".as_bytes(), &mut writer, status, faults);
+        assert_eq!(rt; writer.stream == whole, status == 0);
+    }
+}
+
 #[test]
 fn failed_writes_refused(rt: HostRuntime) {
     let faults = "fqsim: write\n";

@@ -18,4 +18,4 @@ pub use row_core::{
     read_trace_from,
 };
 pub use streams::Sink;
-pub use trace_run::{RunFault, run, run_between};
+pub use trace_run::{RunFault, run, run_between, write_text};

@@ -228,9 +228,9 @@ fn accepted_flow(notes: &[Note]) -> Option<u32>
     }
 }
 
-/// Writes the whole of a text. Where the sink is given up, the front of the text is written. It tries again where the
-/// sink is interrupted.
-pub(crate) fn write_text<S: Sink>(sink: &mut S, text: &[u8]) -> Result<(), RunFault>
+/// Writes the whole of a text. Where the sink is given up, the front of the text is written, and the fault is `Write`. It
+/// tries again where the sink is interrupted.
+pub fn write_text<S: Sink>(sink: &mut S, text: &[u8]) -> Result<(), RunFault>
     ensures whole { OnOk result (S.Wrote sink.old text.now sink.new) }
     ensures front { OnErr result ((count : ℕ) × S.Wrote sink.old (take count text.now) sink.new) }
     ensures gave_up { OnErr result (EndsWith S.Answered IsWriteFailure sink.old sink.new) }
