@@ -1,7 +1,7 @@
 //! The arrivals that a trace has.
 
-ghost use Rattle.std.specs.Prelude.{◌≡◌, ◌<◌, ◌≤◌, [], ℕ, List, IfErr, IfOk, IfSome, Some, length};
-ghost use Rattle.row_core.specs.Traces.{HasFailed, HasTaken};
+ghost use Rattle.std.specs.Prelude.{◌≡◌, ◌<◌, ◌≤◌, [], ℕ, List, IfErr, IfOk, IfSome, Some, length, vec_len};
+ghost use Rattle.row_core.specs.Traces.{HasFailed, HasTaken, IsFaultOf};
 ghost use Rattle.link_core.specs.Arrivals.{AreArrivals};
 ghost use Rattle.link_command.specs.ArrivalTexts.{HasItsRow, IsArrivalText, IsMemoryOfRow, IsOwnFault, IsOwnRow, IsTextFault, arrival_step, step_fault, without_lane};
 ghost use Rattle.link_command.specs.InputFaults.{IsInputFault, IsToldAs, IsToldAt};
@@ -26,13 +26,27 @@ pub fn read_arrivals<R: Read>(alloc: Global, reader: &mut R) -> Result<Vec<Arriv
         IfSome (R.remaining reader.old) (λ bytes. IsArrivalText bytes arrivals.items)) }
     ensures fault { IfErr result (IsInputFault (R.remaining reader.old)) }
 {
-    match read_text(alloc, reader) {
+    match whole_text(alloc, reader) {
         Ok(text) => text_arrivals(alloc, &text),
         Err(fault) => Err(trace_fault(alloc, &[], &fault)),
     }
 }
 
+/// All bytes that a reader gives.
+// Kept out of its callers: the reading has 64 KiB on the stack.
+#[inline(never)]
+fn whole_text<R: Read>(alloc: Global, reader: &mut R) -> Result<Vec<u8>, TraceFault>
+    ensures whole { IfOk result (λ text. IfSome (R.remaining reader.old) (λ bytes. text.items ≡ bytes)) }
+    ensures bound { IfOk result (λ text. vec_len text ≤ MAX_BYTES) }
+    ensures fault { IfErr result (λ fault. IfSome (R.remaining reader.old) (λ bytes. IsFaultOf bytes fault)) }
+    ensures row { IfErr result (λ fault. fault.row ≡ 0) }
+{
+    read_text(alloc, reader)
+}
+
 /// The arrivals of a text.
+// Kept out of its callers, as tables are made after it returns.
+#[inline(never)]
 fn text_arrivals(alloc: Global, text: &[u8]) -> Result<Vec<Arrival>, ProgramFault>
     requires { length text.now ≤ MAX_BYTES }
     ensures arrivals { IfOk result (λ arrivals. AreArrivals arrivals.items) }
