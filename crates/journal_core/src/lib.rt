@@ -30,4 +30,4 @@ pub use outcome::{Answer, Outcome};
 pub use step::{Admitted, CloseFault, MAX_MOMENT, Memory, MomentFault, Refusal, Sent, Step};
 pub use tally::Tally;
 pub use totals::Totals;
-pub use tuple_rows::{TupleRow, gather_rows};
+pub use tuple_rows::{TupleRow, gather_rows, gather_rows_with_seed};

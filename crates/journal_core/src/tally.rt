@@ -10,7 +10,7 @@ use crate::latest::LatestPlaces;
 use crate::noted::Noted;
 use crate::step::Memory;
 use crate::tuple_rows::{RowsByTuple, TupleRow};
-use packet_core::FiveTuple;
+use packet_core::{FiveTuple, Seed};
 use std::alloc::Global;
 
 /// The five-tuple of a packet, and the flow that it was accepted into.
@@ -61,9 +61,9 @@ impl Tally {
         Ok(())
     }
 
-    /// The rows of the events that a keeper noted, where all packets that they accept have come here. It fails for want
-    /// of memory alone.
-    pub fn rows(self, noted: &Noted) -> Result<Vec<TupleRow>, Memory>
+    /// The rows of the events that a keeper noted, where all packets that they accept have come here. Five-tuples are
+    /// found by a hash of that seed, and the rows are the same under every seed. It fails for want of memory alone.
+    pub fn rows(self, seed: &Seed, noted: &Noted) -> Result<Vec<TupleRow>, Memory>
         requires ids { IdsInOrder noted.now.events }
         requires follow { FatesFollow noted.now.events }
         requires once { AreDistinct (fate_ids noted.now.events) }
@@ -71,20 +71,20 @@ impl Tally {
         ensures rows { IfOk result (λ rows. rows.items ≡ tuple_rows noted.now.events) }
         ensures balance { IfOk result (λ rows. All IsBalanced rows.items) }
     {
-        let mut rows = self.open()?;
+        let mut rows = self.open(seed)?;
         rows.count_noted(noted);
         rows.settle();
         Ok(rows.into_rows())
     }
 
     /// A row for each five-tuple, with nothing counted.
-    fn open(self) -> Result<RowsByTuple, Memory>
+    fn open(self, seed: &Seed) -> Result<RowsByTuple, Memory>
         requires { (accepted : List Acceptance) × HasSeen self accepted }
         ensures { IfOk result (λ rows. (accepted : List Acceptance) → HasSeen self accepted
             → IsTallied rows accepted []) }
     {
         let Tally { seen, places, .. } = self;
-        let mut rows = RowsByTuple::new(*places.allocator());
+        let mut rows = RowsByTuple::new(*places.allocator(), seed);
         for one in &seen {
             rows.accept(one.tuple, one.flow)?;
         }

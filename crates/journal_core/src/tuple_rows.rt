@@ -15,7 +15,7 @@ use crate::note::Note;
 use crate::noted::Noted;
 use crate::step::Memory;
 use indexmap::IndexSet;
-use packet_core::FiveTuple;
+use packet_core::{FiveTuple, Seed, SeededHash};
 use std::alloc::{AllocError, Global};
 
 /// What became of the packets of one five-tuple.
@@ -63,8 +63,8 @@ impl TupleRow {
 /// The rows of the packets that were accepted so far, with the place of each packet's row among them.
 #[derive(Drop)]
 pub(crate) struct RowsByTuple {
-    /// The five-tuples, in the order of their rows.
-    tuples: IndexSet<FiveTuple>,
+    /// The five-tuples, in the order of their rows. Senders choose them, so their hash is by a seed.
+    tuples: IndexSet<FiveTuple, SeededHash>,
     rows: Vec<TupleRow>,
     /// For each packet, by its id, the place of its five-tuple's row.
     places: Vec<usize>,
@@ -76,11 +76,11 @@ impl RowsByTuple {
     ghost use Rattle.journal_core.specs.Happened.{Acceptance};
 
     /// No packet yet.
-    pub(crate) fn new(alloc: Global) -> RowsByTuple
+    pub(crate) fn new(alloc: Global, seed: &Seed) -> RowsByTuple
         ensures { IsTallied result [] [] }
     {
         RowsByTuple {
-            tuples: IndexSet::new(alloc),
+            tuples: IndexSet::with_hasher(alloc, SeededHash::new(seed)),
             rows: Vec::new(alloc),
             places: Vec::new(alloc),
             latest: LatestPlaces::new(alloc),
@@ -121,10 +121,10 @@ impl RowsByTuple {
     }
 
     /// A row for each five-tuple of an accepted packet, with nothing counted.
-    fn open(alloc: Global, events: &[Event]) -> Result<RowsByTuple, Memory>
+    fn open(alloc: Global, seed: &Seed, events: &[Event]) -> Result<RowsByTuple, Memory>
         ensures { IfOk result (λ rows. IsTallied rows (acceptances events.now) []) }
     {
-        let mut rows = RowsByTuple::new(alloc);
+        let mut rows = RowsByTuple::new(alloc, seed);
         for place in 0..events.len() {
             rows.add(events, place)?;
         }
@@ -262,7 +262,8 @@ fn listed(events: &[Event]) -> GhostList<Event>
     list
 }
 
-/// The rows of a journal.
+/// The rows of a journal. Its five-tuples are found by a hash that everybody knows, so senders can choose some that share
+/// their places: then this takes time with the square of their number. `gather_rows_with_seed` is for these.
 pub fn gather_rows(alloc: Global, events: &[Event]) -> Result<Vec<TupleRow>, Memory>
     requires ids { IdsInOrder events.now }
     requires follow { FatesFollow events.now }
@@ -270,7 +271,23 @@ pub fn gather_rows(alloc: Global, events: &[Event]) -> Result<Vec<TupleRow>, Mem
     ensures rows { IfOk result (λ rows. rows.items ≡ tuple_rows events.now) }
     ensures balance { IfOk result (λ rows. All IsBalanced rows.items) }
 {
-    let mut rows = RowsByTuple::open(alloc, events)?;
+    gather_rows_with_seed(alloc, &Seed([0; 16]), events)
+}
+
+/// The rows of a journal, whose five-tuples are found by a hash of that seed. The rows are the same under every seed. It
+/// fails for want of memory alone.
+pub fn gather_rows_with_seed(
+    alloc: Global,
+    seed: &Seed,
+    events: &[Event],
+) -> Result<Vec<TupleRow>, Memory>
+    requires ids { IdsInOrder events.now }
+    requires follow { FatesFollow events.now }
+    requires once { AreDistinct (fate_ids events.now) }
+    ensures rows { IfOk result (λ rows. rows.items ≡ tuple_rows events.now) }
+    ensures balance { IfOk result (λ rows. All IsBalanced rows.items) }
+{
+    let mut rows = RowsByTuple::open(alloc, seed, events)?;
     rows.count_all(events);
     rows.settle();
     Ok(rows.into_rows())

@@ -5,3 +5,4 @@ pub mod PackedTuples
 pub mod Packets
 pub mod Params
 pub mod Words
+pub mod TupleHash

@@ -7,6 +7,7 @@ mod numerals;
 mod packed;
 mod packet;
 mod params;
+mod seeded_hash;
 mod tuple_words;
 mod words;
 
@@ -14,5 +15,6 @@ pub use flow::{Seed, flow_of};
 pub use numerals::read_numeral;
 pub use packet::{Ecn, FiveTuple, Ip, LengthOutOfRange, MAX_LENGTH, Packet, Waiting};
 pub use params::{Classify, EcnUse, ParamFields, ParamName, Params};
+pub use seeded_hash::SeededHash;
 pub use tuple_words::TupleWords;
 pub use words::{ParamFault, read_params};

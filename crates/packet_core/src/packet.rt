@@ -46,7 +46,7 @@ impl Ip {
 }
 
 /// What tells the packets of one conversation from those of another (RFC 8290, section 4.1).
-#[derive(Clone, Copy, Debug, PartialEq, Eq, Hash)]
+#[derive(Clone, Copy, Debug, PartialEq, Eq)]
 pub struct FiveTuple {
     /// The protocol's number, as 6 for TCP and 17 for UDP.
     pub proto: u8,

@@ -6,6 +6,7 @@ ghost use Rattle.packet_core.specs.PackedPackets.{IsPacked, parts_of};
 use crate::packed::{address_words, fields_word, tuple_in};
 use crate::packet::{Ecn, FiveTuple};
 use std::fmt::{self, Debug, Formatter, Write};
+use std::hash::{Hash, Hasher};
 use std::marker::Model;
 
 /// A five-tuple in whole words, to be compared with others and to be found in a table. A packet gives it in fewer steps
@@ -113,6 +114,24 @@ impl TupleWords {
             src.rotate_left(16) ^ dst ^ kinds
         };
         (mixed(ends, first) ^ self.fields).wrapping_mul(second)
+    }
+}
+
+/// It hashes the five words, which takes fewer steps than the parts one by one.
+impl Hash for FiveTuple {
+    ghost use Rattle.packet_core.specs.TupleHash.{inputs_agree, tuple_input};
+
+    ghost hash_input = { tuple_input };
+
+    ghost respects_eq = { inputs_agree };
+
+    fn hash<H: Hasher>(&self, state: &mut H) {
+        let words = TupleWords::new(self);
+        state.write_u64(words.src.0);
+        state.write_u64(words.src.1);
+        state.write_u64(words.dst.0);
+        state.write_u64(words.dst.1);
+        state.write_u64(words.fields);
     }
 }
 

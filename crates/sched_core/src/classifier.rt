@@ -111,7 +111,7 @@ impl Classifier {
 }
 
 /// A table for packets whose number is known has a place for so many of them, or up to twice as many places. So it takes
-/// 12 to 24 bytes a packet, and little time beside the digests of packets that all have five-tuples of their own.
+/// 24 bytes a packet at most, and little time beside the digests of packets that all have five-tuples of their own.
 const PACKETS_PER_PLACE: u64 = 8;
 
 /// For fewer packets than these no table is taken.

@@ -11,7 +11,7 @@ use codel_core::Served;
 use fair_core::{Backlog, FlowView};
 use journal_core::{
     Admitted, Answer, CloseFault, Event, Journal, Keeps, MAX_MOMENT, Memory, MomentFault, Refusal,
-    Sent, Step, Stored, Totals, TupleRow, gather_rows,
+    Sent, Step, Stored, Totals, TupleRow, gather_rows_with_seed,
 };
 use packet_core::{Packet, Params, Seed, Waiting};
 use std::alloc::Global;
@@ -506,12 +506,12 @@ impl Sched<Stored> {
     }
 
     /// What became of the packets of each five-tuple, in order of first acceptance. It goes twice through the journal,
-    /// and fails for want of memory alone.
+    /// finds five-tuples by a hash of the scheduler's seed, and fails for want of memory alone.
     pub fn tuple_rows(&self) -> Result<Vec<TupleRow>, Memory>
         ensures rows { IfOk result (λ rows. rows.items ≡ tuple_rows self.now.standing.events) }
         ensures balance { IfOk result
             (λ rows. All (λ row. row.accepted ≡ row.sent + row.dropped + row.queued) rows.items) }
     {
-        gather_rows(self.journal.allocator(), self.events())
+        gather_rows_with_seed(self.journal.allocator(), &self.seed, self.events())
     }
 }

@@ -6,4 +6,4 @@ use Rattle.journal_core.proofs.tuple_rows.RowsByTuple.new.Goals as goal
 pub returns : goal.returns
 unfolding IsDistinct
 returns c =
-    rw (c.new.ensures.empty, c.new-2.ensures.items, c.new-3.ensures.items) (record { tuples_are = refl; apart = tt; rows_are = refl; places_are = tt })
+    rw (c.with_hasher.ensures.empty, c.new-2.ensures.items, c.new-3.ensures.items) (record { tuples_are = refl; apart = tt; rows_are = refl; places_are = tt })

@@ -1,6 +1,6 @@
 use Rattle.std.proofs.Common.{◌∙◌}
 use Rattle.journal_core.proofs.TallyLemmas.{rows_are_balanced, rows_are_settled, rows_settle}
-use Rattle.journal_core.proofs.tuple_rows.gather_rows.Goals as goal
+use Rattle.journal_core.proofs.tuple_rows.gather_rows_with_seed.Goals as goal
 
 pub settle-requires : goal.settle-requires
 settle-requires c = rows_settle c.args.events.now c.requires.ids c.requires.once _ _ _ c.count_all.ensures
