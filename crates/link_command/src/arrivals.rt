@@ -89,8 +89,12 @@ fn row_fault(alloc: Global, text: &[u8], row: u64, what: RowFault) -> ProgramFau
 
 /// What was found at a faulty row.
 fn found_at(alloc: Global, text: &[u8], row: u64, what: RowFault) -> Result<Found, AllocError> {
-    let first = row_at(alloc, text, 1)?;
     let found = row_at(alloc, text, row)?;
+    // Which addresses a trace may have its version says, and that stands in the first row.
+    let first = match what {
+        RowFault::Trace(TraceFaultKind::BadAddress) => row_at(alloc, text, 1)?,
+        _ => ByteRecord::new(alloc),
+    };
     match faulty_field(alloc, what, &found, &first)? {
         Some(name) => Ok(Found::Field(name, shown(alloc, name.in_row(&found))?)),
         None => Ok(Found::Row(joined(alloc, &found)?)),

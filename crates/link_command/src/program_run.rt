@@ -18,8 +18,10 @@ use crate::values::{Run, run_of};
 use link_core::{Arrival, run_fifo, run_fifo_with_keeper, run_link_with_keepers};
 use link_picture::picture_text_of;
 use link_report::{
-    Gathered, MAX_EVENTS, Packets, flows_text_of, packets_text_of, series_text, steps_text,
+    Gathered, MAX_EVENTS, Packets, flows_text_of, packets_text_of, series_text_with_seed,
+    steps_text,
 };
+use packet_core::Seed;
 use row_core::TraceFaultKind;
 use sched_core::{Engine, Event, Keeps, Memory, Step, Stored, Unstored};
 use std::alloc::{AllocError, Global};
@@ -122,7 +124,7 @@ fn table_text<F: Write>(
     if request.table == TableName::Series {
         return bins_text(alloc, request, run, arrivals, notes, terminals);
     }
-    let events = keeper_for(alloc, request.table);
+    let events = keeper_for(alloc, &run.seed, request.table);
     let engine = run_told(alloc, run, arrivals, events, Unstored::new())?;
     note_stage(notes, terminals, Stage::Run, arrivals.len());
     compared_text(
@@ -155,14 +157,14 @@ fn run_told<K: Keeps<Event>, S: Keeps<Step>>(
     )
 }
 
-/// A keeper of what that table shows of events.
-fn keeper_for(alloc: Global, table: TableName) -> Gathered
+/// A keeper of what that table shows of a run's events.
+fn keeper_for(alloc: Global, seed: &Seed, table: TableName) -> Gathered
     ensures events { result.events ≡ [] }
     ensures lost { result.lost ≡ [] }
     ensures packets { table ≡ TableName.Packets → result.most ≡ u64.MAX }
     ensures most { MAX_EVENTS ≤ result.most }
 {
-    Gathered::new(alloc, most_for(table))
+    Gathered::new(alloc, seed, most_for(table))
 }
 
 /// Of how many events that table shows the packets.
@@ -219,11 +221,11 @@ fn bins_text<F: Write>(
     let engine = run_told(alloc, run, arrivals, events, Unstored::new())?;
     note_stage(notes, terminals, Stage::Run, arrivals.len());
     if !request.has_fifo {
-        return Ok(series_text(alloc, run.every, engine.events(), None)?);
+        return Ok(series_text_with_seed(alloc, &run.seed, run.every, engine.events(), None)?);
     }
     let fifo = run_fifo(alloc, run.params, run.seed, &run.link, arrivals)?;
     note_stage(notes, terminals, Stage::Compared, arrivals.len());
-    Ok(series_text(alloc, run.every, engine.events(), Some(&fifo))?)
+    Ok(series_text_with_seed(alloc, &run.seed, run.every, engine.events(), Some(&fifo))?)
 }
 
 /// The table of a run's packets, beside that of a FIFO's where one is asked for.
@@ -248,7 +250,7 @@ fn compared_text<F: Write>(
     if !request.has_fifo {
         return packets_table(alloc, request.table, run, events, None);
     }
-    let told = keeper_for(alloc, request.table);
+    let told = keeper_for(alloc, &run.seed, request.table);
     let fifo = run_fifo_with_keeper(alloc, run.params, run.seed, &run.link, arrivals, told)?;
     note_stage(notes, terminals, Stage::Compared, arrivals.len());
     packets_table(alloc, request.table, run, events, Some(&fifo))

@@ -5,7 +5,7 @@ ghost use Rattle.link_report.specs.Packets.{known_of};
 
 use crate::packets::Packets;
 use journal_core::{Event, GhostList, Keeps, Memory};
-use packet_core::Waiting;
+use packet_core::{Seed, Waiting};
 use std::alloc::{AllocError, Global};
 use std::marker::Model;
 
@@ -37,15 +37,16 @@ impl Model for Gathered {
 }
 
 impl Gathered {
-    /// Nothing was told yet. It makes packets of at most `most` events. It can be told of more, and then has none.
-    pub fn new(alloc: Global, most: u64) -> Gathered
+    /// Nothing was told yet. It makes packets of at most `most` events. It can be told of more, and then has none. Their
+    /// five-tuples are found by a hash of that seed, and the packets are the same under every seed.
+    pub fn new(alloc: Global, seed: &Seed, most: u64) -> Gathered
         ensures events { result.events ≡ [] }
         ensures lost { result.lost ≡ [] }
         ensures most { result.most ≡ most }
         ensures short { result.is_short ≡ false }
     {
         Gathered {
-            packets: Packets::new(alloc),
+            packets: Packets::new(alloc, seed),
             most,
             count: 0,
             room: 0,

@@ -19,7 +19,7 @@ pub use gathered::Gathered;
 pub use packet_rows::{packets_text, packets_text_of};
 pub use packets::{Fate, PacketRecord, Packets};
 pub use percentiles::percentile;
-pub use series::series_text;
+pub use series::{series_text, series_text_with_seed};
 pub use steps::steps_text;
 pub use summary::{Delays, MAX_EVENTS, Summary, delays_of, summarize};
 pub use table::Queue;

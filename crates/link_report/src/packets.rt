@@ -9,7 +9,7 @@ ghost use Rattle.link_report.specs.Packets.{delay_sent, is_codel_drop, is_marked
 
 use indexmap::IndexSet;
 use journal_core::{Cause, Event, LatestPlaces, Mark, Memory, PACKETS_FOR_PLACES};
-use packet_core::{Ecn, FiveTuple, Packet};
+use packet_core::{Ecn, FiveTuple, Packet, Seed, SeededHash};
 use std::alloc::Global;
 use std::marker::Model;
 
@@ -145,8 +145,8 @@ impl PacketRecord {
 /// The packets of the events so far.
 #[derive(Drop)]
 pub struct Packets {
-    /// The five-tuples, in the order of their first arrivals.
-    tuples: IndexSet<FiveTuple>,
+    /// The five-tuples, in the order of their first arrivals. Senders choose them, so their hash is by a seed.
+    tuples: IndexSet<FiveTuple, SeededHash>,
     /// The packets, by their ids.
     records: Vec<PacketRecord>,
     /// How many were sent.
@@ -166,23 +166,33 @@ impl Model for Packets {
 impl Packets {
     ghost use Rattle.link_report.specs.Packets.{arrived, nothing_known};
 
-    /// The packets of no event.
-    pub(crate) fn new(alloc: Global) -> Packets
+    /// The packets of no event, whose five-tuples will be found by a hash of that seed.
+    pub(crate) fn new(alloc: Global, seed: &Seed) -> Packets
         ensures { result ≡ nothing_known }
     {
         Packets {
-            tuples: IndexSet::new(alloc),
+            tuples: IndexSet::with_hasher(alloc, SeededHash::new(seed)),
             records: Vec::new(alloc),
             sent: 0,
             latest: LatestPlaces::new(alloc),
         }
     }
 
-    /// The packets of a journal. It fails for want of memory alone.
+    /// The packets of a journal. It fails for want of memory alone. Five-tuples are found by a hash that everybody knows, so
+    /// senders can choose some that share its places: then this takes time with the square of their number. `with_seed` is
+    /// for these.
     pub fn of(alloc: Global, events: &[Event]) -> Result<Packets, Memory>
         ensures { IfOk result (λ packets. packets ≡ known_of events.now) }
     {
-        let mut packets = Packets::new(alloc);
+        Packets::with_seed(alloc, &Seed([0; 16]), events)
+    }
+
+    /// The packets of a journal, whose five-tuples are found by a hash of that seed. They are the same under every seed. It
+    /// fails for want of memory alone.
+    pub fn with_seed(alloc: Global, seed: &Seed, events: &[Event]) -> Result<Packets, Memory>
+        ensures { IfOk result (λ packets. packets ≡ known_of events.now) }
+    {
+        let mut packets = Packets::new(alloc, seed);
         packets.prepare(events.len());
         for event in events {
             packets.add(event)?;
@@ -285,7 +295,7 @@ impl Packets {
 
 /// Takes memory for so many five-tuples and packets more, and answers for how many there is memory then.
 fn take_room(
-    tuples: &mut IndexSet<FiveTuple>,
+    tuples: &mut IndexSet<FiveTuple, SeededHash>,
     records: &mut Vec<PacketRecord>,
     more: usize,
 ) -> Result<usize, Memory>
@@ -304,7 +314,7 @@ fn take_room(
 
 /// The number of a five-tuple, which is then among those. Where it has the number `guess` it isn't hashed.
 fn number_of(
-    tuples: &mut IndexSet<FiveTuple>,
+    tuples: &mut IndexSet<FiveTuple, SeededHash>,
     tuple: FiveTuple,
     guess: usize,
 ) -> Result<usize, Memory>
@@ -319,7 +329,7 @@ fn number_of(
 }
 
 /// Whether a five-tuple is among those and has that number.
-fn has_number(tuples: &IndexSet<FiveTuple>, tuple: &FiveTuple, number: usize) -> bool
+fn has_number(tuples: &IndexSet<FiveTuple, SeededHash>, tuple: &FiveTuple, number: usize) -> bool
     ensures number { result ≡ true → Spec.number_of tuples.now.keys tuple.now ≡ number }
     ensures known { result ≡ true → with_new same_tuple tuples.now.keys tuple.now ≡ tuples.now.keys }
 {

@@ -5,6 +5,7 @@ use crate::decimal::Digits;
 use crate::packets::{PacketRecord, Packets};
 use crate::table::{Queue, Table};
 use journal_core::{Event, Mark, Memory};
+use packet_core::Seed;
 use std::alloc::Global;
 
 /// What happened to the packets of a five-tuple in a bin, and what waits. Lengths are in bytes, delays in microseconds.
@@ -109,18 +110,30 @@ struct Series {
 
 /// The text of the table, with bins of `every` microseconds: a header, the rows of the scheduler's journal, by bin and
 /// then by five-tuple, and then those of the other queue's, where there is one. Where `every` is 0, all is in one bin. It
-/// fails for want of memory alone.
+/// fails for want of memory alone. Five-tuples are found as `Packets::of` finds them.
 pub fn series_text(
     alloc: Global,
     every: u64,
     events: &[Event],
     fifo: Option<&[Event]>,
 ) -> Result<Vec<u8>, Memory> {
+    series_text_with_seed(alloc, &Seed([0; 16]), every, events, fifo)
+}
+
+/// The text of the table, as `series_text` writes it. Five-tuples are found by a hash of that seed, and the text is the
+/// same under every seed. It fails for want of memory alone.
+pub fn series_text_with_seed(
+    alloc: Global,
+    seed: &Seed,
+    every: u64,
+    events: &[Event],
+    fifo: Option<&[Event]>,
+) -> Result<Vec<u8>, Memory> {
     let mut table = Table::new(alloc);
     header(&mut table)?;
-    queue_rows(&mut table, Queue::FqCodel, every, events)?;
+    queue_rows(&mut table, seed, Queue::FqCodel, every, events)?;
     if let Some(fifo) = fifo {
-        queue_rows(&mut table, Queue::Fifo, every, fifo)?;
+        queue_rows(&mut table, seed, Queue::Fifo, every, fifo)?;
     }
     table.into_text()
 }
@@ -145,9 +158,15 @@ fn header(table: &mut Table) -> Result<(), Memory> {
 }
 
 /// The rows of a queue's journal.
-fn queue_rows(table: &mut Table, queue: Queue, every: u64, events: &[Event]) -> Result<(), Memory> {
+fn queue_rows(
+    table: &mut Table,
+    seed: &Seed,
+    queue: Queue,
+    every: u64,
+    events: &[Event],
+) -> Result<(), Memory> {
     let alloc = table.allocator();
-    let packets = Packets::of(alloc, events)?;
+    let packets = Packets::with_seed(alloc, seed, events)?;
     let mut series = Series::new(alloc, queue, every, packets.tuples().len())?;
     for event in events {
         series.take(table, packets.records(), event)?;

@@ -6,7 +6,7 @@ use crate::calls::Calls;
 use crate::values::Values;
 use journal_core::{Event, Keeps, Mark};
 use link_report::Gathered;
-use packet_core::{Ecn, Packet};
+use packet_core::{Ecn, Packet, Seed};
 use test_support::tuple;
 
 /// So many packets come, each of another five-tuple, and then go. For so many a keeper stores the flows' latest ones.
@@ -15,7 +15,7 @@ const PACKETS: u64 = 80;
 /// Memory is reserved for several events, where there is some for fewer, and to tell them takes none. So at the end each
 /// packet is there. Where no memory is given for the flows' latest five-tuples, no call is refused.
 pub(crate) fn gathered(values: &Values, calls: &mut Calls<'_>) {
-    let mut gathered = Gathered::new(values.alloc, u64::MAX);
+    let mut gathered = Gathered::new(values.alloc, &Seed([0; 16]), u64::MAX);
     for (fewer, count) in [(0, 1), (2, 20), (3, 90), (1, 49)] {
         take(&mut gathered, fewer, calls);
         tell(&mut gathered, count, values, calls);

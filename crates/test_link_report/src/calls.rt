@@ -25,17 +25,22 @@ pub(crate) fn called_at<R: AllocGlobal>(
     terminals: Terminals,
 ) -> (u8, Vec<u8>, Vec<u8>) {
     let mut output = Vec::new(rt.alloc());
+    let (status, told) = called_into(rt, words, input, terminals, &mut output);
+    (status, output, told)
+}
+
+/// The status of the program with these words and this input, which writes to that writer, and what it reports.
+fn called_into<R: AllocGlobal, W: Write>(
+    rt: &R,
+    words: &[&str],
+    input: &str,
+    terminals: Terminals,
+    writer: &mut W,
+) -> (u8, Vec<u8>) {
     let mut told = Vec::new(rt.alloc());
     let mut reader = input.as_bytes();
-    let status = program(
-        rt.alloc(),
-        words,
-        &mut reader,
-        &mut output,
-        &mut told,
-        terminals,
-    );
-    (status, output, told)
+    let status = program(rt.alloc(), words, &mut reader, writer, &mut told, terminals);
+    (status, told)
 }
 
 /// A writer that is interrupted so often before the first byte. Then it takes 1,000 bytes at most in each write.
@@ -76,15 +81,6 @@ pub(crate) fn called_interrupted<R: AllocGlobal>(
         taken: Vec::new(rt.alloc()),
         left: interruptions,
     };
-    let mut told = Vec::new(rt.alloc());
-    let mut reader = input.as_bytes();
-    let status = program(
-        rt.alloc(),
-        words,
-        &mut reader,
-        &mut writer,
-        &mut told,
-        terminals,
-    );
+    let (status, told) = called_into(rt, words, input, terminals, &mut writer);
     (status, writer.taken, told)
 }

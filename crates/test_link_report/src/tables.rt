@@ -6,7 +6,7 @@ use link_report::{
     Gathered, MAX_EVENTS, Packets, flows_text, flows_text_of, packets_text, packets_text_of,
     percentile, series_text, steps_text,
 };
-use packet_core::{Ecn, FiveTuple, Ip, Packet};
+use packet_core::{Ecn, FiveTuple, Ip, Packet, Seed};
 use std::process::Abort;
 
 /// The bytes are this text.
@@ -123,7 +123,7 @@ fq_codel,1700000000000000,0,1,500,1,500,0,0,1,1,0,0\n",
 
 /// A keeper that was told these events, and makes packets of so many.
 fn told<R: Abort + AllocGlobal>(rt: &R, events: &[Event], most: u64) -> Gathered {
-    let mut gathered = Gathered::new(rt.alloc(), most);
+    let mut gathered = Gathered::new(rt.alloc(), &Seed([0; 16]), most);
     for event in events {
         gathered.reserve(1).expect(rt, "memory");
         gathered.tell(*event);

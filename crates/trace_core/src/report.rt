@@ -59,7 +59,7 @@ impl Rows {
     {
         self.totals(&sched.totals())?;
         sched.journal_laws();
-        self.tuples(&tally.rows(sched.keeper())?)
+        self.tuples(&tally.rows(&sched.seed(), sched.keeper())?)
     }
 
     /// The text of an engine's journal: the rows so far, of which there are none, a row for each event, the row of the

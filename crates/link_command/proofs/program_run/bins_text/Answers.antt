@@ -4,8 +4,8 @@ use Rattle.link_command.specs.RunsSaid.{parts_of}
 use Rattle.link_command.proofs.RunLemmas.{beside_fifo, bins_table, journal_of_engine}
 use Rattle.link_command.proofs.program_run.bins_text.Goals as goal
 
-pub returns-in_err-series_text-2-clause-quiet : goal.returns-in_err-series_text-2-clause-quiet
-returns-in_err-series_text-2-clause-quiet g c = λ none. Keeps-trans _ _ _ (c.note_stage.ensures none) (c.note_stage-2.ensures none)
+pub returns-in_err-series_text_with_seed-2-clause-quiet : goal.returns-in_err-series_text_with_seed-2-clause-quiet
+returns-in_err-series_text_with_seed-2-clause-quiet g c = λ none. Keeps-trans _ _ _ (c.note_stage.ensures none) (c.note_stage-2.ensures none)
 
 pub returns-clause-text : goal.returns-clause-text
 returns-clause-text g c =

@@ -1,6 +1,6 @@
 use Rattle.std.proofs.Common.{◌≡◌, ◌≤◌, take}
 use Rattle.link_report.specs.Packets.{known_of}
-use Rattle.link_report.proofs.packets.Packets.of.Given as goal
+use Rattle.link_report.proofs.packets.Packets.with_seed.Given as goal
 
 -- what the events so far say
 abbrev pub invariant-loop-event : goal.invariant-loop-event
