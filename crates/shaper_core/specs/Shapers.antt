@@ -123,7 +123,8 @@ renewed s = record s {
 
 -- A packet is accepted: the scheduler makes the step, and the packets that it drops are there to be read. No other
 -- drop was. It takes one of the enqueues that are reserved at most.
-pub record IsAccepted (old : Shaping) (moment : ℕ) (packet : PacketParts) (said : Enqueued) (new : Shaping) : Type 0 where
+pub record IsAccepted (old : Shaping) (moment : ℕ) (packet : PacketParts) (said : Enqueued) (new : Shaping)
+    : Type 0 where
   pub advances : IsAdvanced old.sched (Enqueue moment 0 packet) answer.Accepted new.sched
   pub id : said.id ≡ old.past.accepted + old.sched.standing.state.next_id
   pub flow : said.flow ≡ (discipline_of old.sched).flow_of packet.tuple
@@ -138,7 +139,8 @@ pub record IsAccepted (old : Shaping) (moment : ℕ) (packet : PacketParts) (sai
   }
 
 -- An enqueue is accepted, after a renewal if one is due and there is memory for it.
-pub record IsEnqueued (old : Shaping) (moment : ℕ) (packet : PacketParts) (said : Enqueued) (new : Shaping) : Type 0 where
+pub record IsEnqueued (old : Shaping) (moment : ℕ) (packet : PacketParts) (said : Enqueued) (new : Shaping)
+    : Type 0 where
   pub ready : Shaping
   pub renewal : (ready ≡ old) ⊎ (IsDue old × (ready ≡ renewed old))
   pub accepts : IsAccepted ready moment packet said new

@@ -246,7 +246,8 @@ impl Shaper {
         requires { self.old.unread ≡ 0 }
         ensures made { IfOk result (λ said. IsEnqueued self.old moment packet said self.new) }
         ensures id { IfOk result (λ said. said.id ≡ length self.old.packets.accepted) }
-        ensures refused { IfErr result (IsRefusal (refusal_of self.old.sched.standing.state (Enqueue moment 0 packet))) }
+        ensures refused { IfErr result
+            (IsRefusal (refusal_of self.old.sched.standing.state (Enqueue moment 0 packet))) }
         ensures reserved { 0 < self.old.sched.room
             → OnErr result (refusal_of self.old.sched.standing.state (Enqueue moment 0 packet) ≢ None) }
         ensures unchanged { OnErr result (self.new ≡ self.old) }
@@ -303,7 +304,8 @@ impl Shaper {
         requires later { self.old.sched.standing.state.last ≤ moment }
         ensures made { IfOk result (λ said. IsEnqueued self.old moment packet said self.new) }
         ensures id { IfOk result (λ said. said.id ≡ length self.old.packets.accepted) }
-        ensures refused { IfErr result (IsRefusal (refusal_of self.old.sched.standing.state (Enqueue moment 0 packet))) }
+        ensures refused { IfErr result
+            (IsRefusal (refusal_of self.old.sched.standing.state (Enqueue moment 0 packet))) }
         ensures reserved { 0 < self.old.sched.room
             → OnErr result (refusal_of self.old.sched.standing.state (Enqueue moment 0 packet) ≢ None) }
         ensures unchanged { OnErr result (self.new ≡ self.old) }
@@ -318,7 +320,8 @@ impl Shaper {
         requires { self.old.unread ≡ 0 }
         ensures made { IfOk result (λ said. IsAccepted self.old moment packet said self.new) }
         ensures id { IfOk result (λ said. said.id ≡ length self.old.packets.accepted) }
-        ensures refused { IfErr result (IsRefusal (refusal_of self.old.sched.standing.state (Enqueue moment 0 packet))) }
+        ensures refused { IfErr result
+            (IsRefusal (refusal_of self.old.sched.standing.state (Enqueue moment 0 packet))) }
         ensures reserved { 0 < self.old.sched.room
             → OnErr result (refusal_of self.old.sched.standing.state (Enqueue moment 0 packet) ≢ None) }
         ensures unchanged { OnErr result (self.new ≡ self.old) }
