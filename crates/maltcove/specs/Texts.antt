@@ -36,8 +36,9 @@ pub record SaysParams (text : List ℕ) (params : ParamFields) : Type 0 where
   pub read : params_of_words words ≡ Ok params
 
 -- One of these words is wrong, and C reads which, and in what way.
-abbrev pub IsFaultOf : List (List ℕ) → MaltcoveFault → Type 0
-IsFaultOf words told = (fault : ParamFault) × (params_of_words words ≡ Err fault) × (told ≡ fault_told fault)
+abbrev pub AreWrong : List (List ℕ) → NoParams → Type 0
+AreWrong words (Words told) = (fault : ParamFault) × (params_of_words words ≡ Err fault) × (told ≡ fault_told fault)
+AreWrong words Memory = ⊥
 
 -- One of the text's words is wrong, in that way.
 pub record HasFault (text : List ℕ) (fault : ParamFault) : Type 0 where

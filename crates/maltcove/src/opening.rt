@@ -1,12 +1,12 @@
 //! The calls that make a scheduler and end it.
 
-ghost use Rattle.std.specs.Prelude.{◌≡◌, ◌≢◌, ◌↔◌, IfErr, IfOk, IfSome, IsErr, IsOk, IsSome, None, Ok, map};
+ghost use Rattle.std.specs.Prelude.{◌≡◌, ◌≢◌, ◌↔◌, Err, IfErr, IfOk, IfSome, IsErr, IsOk, IsSome, None, Ok, map};
 ghost use Rattle.std.specs.Str.{IsUtf8};
 ghost use Rattle.packet_core.specs.Words.{params_of_words};
 ghost use Rattle.shaper_core.specs.Shapers.{IsClosed};
 ghost use Rattle.maltcove.specs.Calls.{Behind, IfBehind, Opens, OpensWith, RefusesClose, RefusesOpen, RefusesSeed, why_code, why_told};
 ghost use Rattle.maltcove.specs.Records.{nothing_told};
-ghost use Rattle.maltcove.specs.Texts.{AreWords, IsFaultOf, IsWhy, SaysParams};
+ghost use Rattle.maltcove.specs.Texts.{AreWords, AreWrong, IsWhy, SaysParams};
 ghost use Rattle.maltcove.specs.declared.status.TheConstants.{ALREADY_OPEN, NOT_OPEN, OK};
 
 use crate::records::{MaltcoveFault, NOT_TEXT, fault_of, no_fault};
@@ -33,14 +33,19 @@ fn words_of(alloc: Global, text: &str) -> Result<Vec<&str>, Memory>
     text.split_ascii_whitespace().collect(alloc)
 }
 
-/// The parameters that these words say, or which of them is wrong.
-fn params_said(words: &[&str]) -> Result<Params, MaltcoveFault>
-    ensures said { IfOk result (λ params. params_of_words (map (λ word. word.now) words.now) ≡ Ok params) }
-    ensures wrong { IfErr result (IsFaultOf (map (λ word. word.now) words.now)) }
+/// The parameters that these words say, if there was memory for the words.
+fn params_from(words: Result<Vec<&str>, Memory>) -> Result<Params, NoParams>
+    ensures none { IfErr words.entry (λ refused. result ≡ Err NoParams.Memory) }
+    ensures said { IfOk words.entry (λ words. IfOk result
+        (λ params. params_of_words (map (λ word. word.now) words.items) ≡ Ok params)) }
+    ensures wrong { IfOk words.entry (λ words. IfErr result (AreWrong (map (λ word. word.now) words.items))) }
 {
-    match read_params(words) {
+    let Ok(words) = words else {
+        return Err(NoParams::Memory);
+    };
+    match read_params(&words) {
         Ok(params) => Ok(params),
-        Err(fault) => Err(fault_of(fault)),
+        Err(fault) => Err(NoParams::Words(fault_of(fault))),
     }
 }
 
@@ -49,13 +54,7 @@ fn params_of_text(alloc: Global, text: &str) -> Result<Params, NoParams>
     ensures said { IfOk result (SaysParams text.now) }
     ensures wrong { IfErr result (IsWhy text.now) }
 {
-    let Ok(words) = words_of(alloc, text) else {
-        return Err(NoParams::Memory);
-    };
-    match params_said(&words) {
-        Ok(params) => Ok(params),
-        Err(wrong) => Err(NoParams::Words(wrong)),
-    }
+    params_from(words_of(alloc, text))
 }
 
 /// The parameters that the words in these bytes say.

@@ -143,7 +143,8 @@ pub extern "C" fn maltcove_raw_enqueue_flow(
 ) -> i32
     ensures none { (result ≡ NOT_OPEN) ↔ (m.old.handle.value ≡ None) }
     ensures made { result ≡ OK → Behind
-        (λ a b. (p : PacketParts) × SaysInFlow (flow % a.sched.params.flows) len ecn tag p × Admits a moment p out.new b)
+        (λ a b. (p : PacketParts) × SaysInFlow (flow % a.sched.params.flows) len ecn tag p
+        × Admits a moment p out.new b)
         m.old.handle.value m.new.handle.value }
     ensures hashed { IfBehind (λ a. (result ≡ HASHED) ↔ (a.sched.params.classify ≡ Hash)) m.old.handle.value }
     ensures refused { result ≢ OK → result ≢ HASHED
