@@ -279,6 +279,7 @@ static void each_total(void)
 {
 	maltcove_flushed flushed[5];
 	maltcove_totals_t t;
+	maltcove_flow_t view;
 
 	open_with("limit 10 drop_batch 1 target 1ms interval 10ms mtu 0 ce_threshold 500us classify dport flows 4 ecn");
 	enqueue_in_flow(0, 1, 1000, 2, 0, 10);
@@ -294,6 +295,7 @@ static void each_total(void)
 	dequeue_tag(32000, 20, MALTCOVE_NO_MARK);
 	dequeue_tag(32000, 21, MALTCOVE_NO_MARK);
 	dequeue_tag(32000, 22, MALTCOVE_NO_MARK);
+	CHECK(maltcove_flow(&m, 2, &view) == MALTCOVE_OK && view.dropping && view.count == 2 && view.last_count == 1);
 	CHECK(maltcove_totals(&m, &t) == MALTCOVE_OK && !t.closed);
 	CHECK(t.accepted == 26 && t.sent == 10 && t.dropped_codel == 2 && t.dropped_overflow == 6);
 	CHECK(t.flushed == 5 && t.marked == 1 && t.threshold_marked == 4 && t.queued == 3);
