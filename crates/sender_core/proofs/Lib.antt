@@ -1,3 +1,4 @@
 pub mod InterleavingLemmas
+pub mod MeetingLemmas
 pub mod RoomLemmas
 pub mod SenderLemmas

@@ -89,3 +89,15 @@ pub record Comes (lists : List (Vec (ℕ × PacketParts) Global)) (rows before :
       → sender_calls i calls ≡ take (get_or met i 0) (slice_index_or lists i d).items
   pub no_other : (i : ℕ) → length lists ≤ i → sender_calls i calls ≡ []
   pub main : MakesMain (main_rows false rows) (main_calls calls) (main_rows closed (drop row rows))
+
+-- The steps may come after those that were met: they are made, one after the other, by calls of which so many of each
+-- sender were met, and those of the main thread for the rows before that one. The last step before has this moment.
+pub record MayCome (lists : List (Vec (ℕ × PacketParts) Global)) (rows steps : List Step) (last : ℕ) (met : List ℕ)
+    (row : ℕ) (closed : Bool) : Type 0 where
+  pub calls : List Step
+  pub in_turn : steps ≡ made_by last calls
+  pub each : (i : ℕ) (d : Vec (ℕ × PacketParts) Global) → i < length lists
+      → IsPrefix (sender_calls i calls) (drop (get_or met i 0) (slice_index_or lists i d).items)
+  pub no_other : (i : ℕ) → length lists ≤ i → sender_calls i calls ≡ []
+  pub dequeues : ℕ
+  pub main : main_calls calls ≡ main_rows closed (drop row rows) ++ replicate dequeues (Dequeue 0)

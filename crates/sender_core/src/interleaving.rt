@@ -1,11 +1,11 @@
 //! Whether the steps of a run by senders are made by their calls and the main thread's: one pass over the steps, with a
 //! place for each sender on the stack.
 
-ghost use Rattle.std.specs.Prelude.{◌≡◌, ◌<◌, ◌∷◌, ◌++◌, ℕ, IfSome, IsTrue, List, [], drop, length, slice_index_or, true};
+ghost use Rattle.std.specs.Prelude.{◌≡◌, ◌<◌, ◌≤◌, ◌∷◌, ◌++◌, ◌↔◌, ℕ, IfSome, IsSome, IsTrue, List, [], drop, length, slice_index_or, true};
 ghost use Rattle.journal_core.specs.Statistics.{statistics};
 ghost use Rattle.journal_core.specs.declared.step.Step.{Step as StepShown};
 ghost use Rattle.journal_core.specs.declared.step.Step.TheVariants.{Enqueue};
-ghost use Rattle.sender_core.specs.Interleavings.{CallsNext, Comes, IsInterleaving, IsMadeBy, main_rows};
+ghost use Rattle.sender_core.specs.Interleavings.{CallsNext, Comes, IsInterleaving, IsMadeBy, MayCome, main_call, main_rows};
 
 use packet_core::Packet;
 use sched_core::{Engine, Step};
@@ -56,7 +56,7 @@ fn next_call(rows: &[Step], row: usize, closed: bool) -> (Step, usize, bool)
 
 /// Whether the main thread has no call left for the rows from that one on.
 fn is_done(rows: &[Step], row: usize, closed: bool) -> bool
-    ensures { IsTrue result → main_rows closed (drop row rows.now) ≡ [] }
+    ensures { IsTrue result ↔ main_rows closed (drop row rows.now) ≡ [] }
 {
     if !closed {
         return false;
@@ -71,7 +71,8 @@ fn is_done(rows: &[Step], row: usize, closed: bool) -> bool
 
 /// The moment of the step, where that call of the main thread makes it after a step at that moment.
 fn moment_made(last: u64, call: &Step, step: &Step) -> Option<u64>
-    ensures { IfSome result (IsMadeBy last call.now step.now) }
+    ensures made { IfSome result (IsMadeBy last call.now step.now) }
+    ensures whole { (moment : ℕ) → IsMadeBy last call.now step.now moment → IsSome result }
 {
     match (*call, *step) {
         (Step::Dequeue { moment: own }, Step::Dequeue { moment }) if moment == own.max(last) => {
@@ -86,10 +87,13 @@ fn moment_made(last: u64, call: &Step, step: &Step) -> Option<u64>
 
 /// One step of the main thread more.
 fn meet_main(lists: &[Vec<(u64, Packet)>], rows: &[Step], walk: &mut Walk, step: &Step) -> bool
-    ensures { IsTrue result → (before : List StepShown)
+    ensures met { IsTrue result → (before : List StepShown)
         → Comes lists.now rows.now before walk.old.last walk.old.met walk.old.row walk.old.closed
         → Comes lists.now rows.now (before ++ step.now ∷ [])
         walk.new.last walk.new.met walk.new.row walk.new.closed }
+    ensures whole { main_call step.now ≡ step.now ∷ [] → (rest : List StepShown)
+        → MayCome lists.now rows.now (step.now ∷ rest) walk.old.last walk.old.met walk.old.row walk.old.closed
+        → IsTrue result × MayCome lists.now rows.now rest walk.new.last walk.new.met walk.new.row walk.new.closed }
 {
     let (call, row, closed) = next_call(rows, walk.row, walk.closed);
     let Some(moment) = moment_made(walk.last, &call, step) else {
@@ -109,10 +113,14 @@ fn meet_sender(
     lane: u32,
     packet: &Packet,
 ) -> bool
-    ensures { IsTrue result → (rows before : List StepShown)
+    ensures met { IsTrue result → (rows before : List StepShown)
         → Comes lists.now rows before walk.old.last walk.old.met walk.old.row walk.old.closed
         → Comes lists.now rows (before ++ Enqueue moment lane packet.now ∷ [])
         walk.new.last walk.new.met walk.new.row walk.new.closed }
+    ensures whole { length lists.now ≤ MAX_SENDERS → (rows rest : List StepShown)
+        → MayCome lists.now rows (Enqueue moment lane packet.now ∷ rest)
+        walk.old.last walk.old.met walk.old.row walk.old.closed
+        → IsTrue result × MayCome lists.now rows rest walk.new.last walk.new.met walk.new.row walk.new.closed }
 {
     let sender = lane as usize;
     if sender >= PLACES || sender >= lists.len() {
@@ -135,10 +143,13 @@ fn meet_sender(
 
 /// One step more.
 fn meet(lists: &[Vec<(u64, Packet)>], rows: &[Step], walk: &mut Walk, step: &Step) -> bool
-    ensures { IsTrue result → (before : List StepShown)
+    ensures met { IsTrue result → (before : List StepShown)
         → Comes lists.now rows.now before walk.old.last walk.old.met walk.old.row walk.old.closed
         → Comes lists.now rows.now (before ++ step.now ∷ [])
         walk.new.last walk.new.met walk.new.row walk.new.closed }
+    ensures whole { length lists.now ≤ MAX_SENDERS → (rest : List StepShown)
+        → MayCome lists.now rows.now (step.now ∷ rest) walk.old.last walk.old.met walk.old.row walk.old.closed
+        → IsTrue result × MayCome lists.now rows.now rest walk.new.last walk.new.met walk.new.row walk.new.closed }
 {
     match *step {
         Step::Enqueue {
@@ -152,9 +163,12 @@ fn meet(lists: &[Vec<(u64, Packet)>], rows: &[Step], walk: &mut Walk, step: &Ste
 
 /// Whether the steps are made by the calls of the senders, a list for each, and the main thread's for the rows.
 fn is_interleaving(lists: &[Vec<(u64, Packet)>], rows: &[Step], steps: &[Step]) -> bool
-    ensures { IsTrue result → (calls_of : ℕ → _)
+    ensures made { IsTrue result → (calls_of : ℕ → _)
         → ((i : ℕ) (d : _) → i < length lists.now → (slice_index_or lists.now i d).items ≡ calls_of i)
         → IsInterleaving (length lists.now) calls_of rows.now steps.now }
+    ensures whole { length lists.now ≤ MAX_SENDERS → (calls_of : ℕ → _)
+        → ((i : ℕ) (d : _) → i < length lists.now → (slice_index_or lists.now i d).items ≡ calls_of i)
+        → IsInterleaving (length lists.now) calls_of rows.now steps.now → IsTrue result }
 {
     let mut walk = Walk {
         last: 0,
@@ -171,13 +185,18 @@ fn is_interleaving(lists: &[Vec<(u64, Packet)>], rows: &[Step], steps: &[Step]) 
 }
 
 /// Whether the engine is that of a whole run: its steps are made by the calls of the senders, a list for each, and of
-/// the main thread, it is closed, and nothing waits.
+/// the main thread, it is closed, and nothing waits. Of up to `MAX_SENDERS` lists it is so exactly then.
 pub fn is_whole(engine: &Engine, lists: &[Vec<(u64, Packet)>], steps: &[Step]) -> bool
     ensures calls { IsTrue result → (calls_of : ℕ → _)
         → ((i : ℕ) (d : _) → i < length lists.now → (slice_index_or lists.now i d).items ≡ calls_of i)
         → IsInterleaving (length lists.now) calls_of steps.now engine.now.steps }
     ensures closed { IsTrue result → (statistics engine.now.sched.standing.events).closed ≡ true }
     ensures none_waits { IsTrue result → (statistics engine.now.sched.standing.events).queued ≡ 0 }
+    ensures whole { length lists.now ≤ MAX_SENDERS → (calls_of : ℕ → _)
+        → ((i : ℕ) (d : _) → i < length lists.now → (slice_index_or lists.now i d).items ≡ calls_of i)
+        → IsInterleaving (length lists.now) calls_of steps.now engine.now.steps
+        → (statistics engine.now.sched.standing.events).closed ≡ true
+        → (statistics engine.now.sched.standing.events).queued ≡ 0 → IsTrue result }
 {
     engine.is_closed() && engine.queued() == 0 && is_interleaving(lists, steps, engine.steps())
 }

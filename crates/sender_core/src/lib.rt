@@ -2,12 +2,14 @@
 //! before it starts, and whether the steps of a run are made by their calls. It knows nothing of streams, rows and faults.
 #![tactic(auto)]
 
+mod closing;
 mod interleaving;
 mod lane_senders;
 mod moments;
 mod room;
 mod senders;
 
+pub use closing::closed_once;
 pub use interleaving::{MAX_SENDERS, is_whole};
 pub use lane_senders::{packets_of, start_lanes};
 pub use moments::device_moment;
