@@ -1,5 +1,5 @@
 -- A shaper as its caller sees it, and what its calls do.
-use Rattle.std.specs.Prelude.{◌≡◌, ℕ, ◌+◌, ◌-◌, ◌≤◌, ◌^◌, ◌⊎◌, false, List, [], ◌∷◌, ◌++◌, length, map, drop, slice_get, Option, Some, None, option_map, IfSome}
+use Rattle.std.specs.Prelude.{◌≡◌, ℕ, ◌+◌, ◌-◌, ◌<◌, ◌≤◌, ◌^◌, ◌⊎◌, false, List, [], ◌∷◌, ◌++◌, length, map, drop, slice_get, Option, Some, None, option_map, IfSome}
 use Rattle.std.specs.List.{flat_map}
 use Rattle.std.specs.List.Sorted.{IsPermutation}
 use Rattle.packet_core.specs.Packets.{PacketParts}
@@ -112,6 +112,12 @@ pub record IsDue (s : Shaping) : Type 0 where
   pub read : s.unread ≡ 0
   pub open' : s.sched.standing.state.closed ≡ false
   pub few : s.past.accepted + s.sched.standing.state.next_id ≤ 2 ^ 63
+
+-- A packet may come at that moment: it is in range and not before the last step's, and nothing was closed.
+pub record MayCome (s : Shaping) (moment : ℕ) : Type 0 where
+  pub later : s.sched.standing.state.last ≤ moment
+  pub soon : moment < 2 ^ 60
+  pub open' : s.sched.standing.state.closed ≡ false
 
 -- a shaper with a scheduler as new, of the same parameters and seed: its statistics go on
 abbrev pub renewed : Shaping → Shaping
