@@ -14,7 +14,7 @@ use Rattle.journal_core.specs.declared.step.Refusal.TheVariants as refusal
 use Rattle.journal_core.specs.declared.step.Sent.{Sent}
 use Rattle.journal_core.specs.declared.step.Step.TheVariants.{Close, Dequeue, Enqueue}
 use Rattle.shaper_core.specs.Faults.{IsFault}
-use Rattle.shaper_core.specs.Shapers.{AreFlushed, AreRead, FindsNone, IsDequeued, IsEnqueued, Shaping, new_shaper}
+use Rattle.shaper_core.specs.Shapers.{AreFlushed, AreRead, FindsNone, IsDequeued, IsEnqueued, MayCome, Shaping, new_shaper}
 use Rattle.shaper_core.specs.declared.answers.Dequeued.{Dequeued}
 use Rattle.shaper_core.specs.declared.answers.Dropped.{Dropped}
 use Rattle.shaper_core.specs.declared.answers.EnqueueFault.{EnqueueFault}
@@ -45,10 +45,11 @@ abbrev pub IfBehind : (Shaping → Type 0) → Option Shaping → Type 0
 IfBehind P (option.Some a) = P a
 IfBehind P option.None = Unit {0}
 
--- A packet is accepted, and C reads what is said of it.
+-- A packet that may come is accepted, and C reads what is said of it.
 pub record Admits (old : Shaping) (moment : ℕ) (packet : PacketParts) (out : MaltcoveAdmitted) (new : Shaping)
     : Type 0 where
   pub said : Enqueued
+  pub may_come : MayCome old moment
   pub enqueued : IsEnqueued old moment packet said new
   pub told : out ≡ admitted_told said
 
