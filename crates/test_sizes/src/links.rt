@@ -25,32 +25,27 @@ fn runs_of_a_link(rt: HostRuntime) {
     let link = the_link(&rt);
     for number in 0..SIZES {
         assert!(rt; size(number) <= arrivals.len());
-        let (events, fifo) = stored(&rt, &link, &arrivals[..size(number)]);
-        assert_eq!(rt; events.len(), fifo.len());
+        stored(&rt, &link, &arrivals[..size(number)]);
     }
 }
 
-/// The tables of packets and of five-tuples are made of them.
+/// The tables of five-tuples and of packets are made of the first events of a journal.
 #[test]
 fn tables_of_packets(rt: HostRuntime) {
-    let arrivals = arrivals(&rt);
-    let link = the_link(&rt);
+    let events = journal(&rt);
     for number in 0..SIZES {
-        assert!(rt; size(number) <= arrivals.len());
-        let (events, fifo) = stored(&rt, &link, &arrivals[..size(number)]);
-        tables(&rt, &events, &fifo);
+        assert!(rt; 2 * size(number) <= events.len());
+        tables(&rt, &events[..2 * size(number)]);
     }
 }
 
 /// And the table of bins, and the picture.
 #[test]
 fn tables_of_bins(rt: HostRuntime) {
-    let arrivals = arrivals(&rt);
-    let link = the_link(&rt);
+    let events = journal(&rt);
     for number in 0..SIZES {
-        assert!(rt; size(number) <= arrivals.len());
-        let (events, fifo) = stored(&rt, &link, &arrivals[..size(number)]);
-        pictures(&rt, &events, &fifo);
+        assert!(rt; 2 * size(number) <= events.len());
+        pictures(&rt, &events[..2 * size(number)]);
     }
 }
 
@@ -86,40 +81,39 @@ fn the_link(rt: &impl Abort) -> Link {
     Link::try_new(fields).ok().expect(rt, "a link")
 }
 
-/// The journals of the runs of these arrivals: that of the scheduler, and that of a FIFO.
-fn stored(
-    rt: &(impl Abort + AllocGlobal),
-    link: &Link,
-    arrivals: &[Arrival],
-) -> (Vec<Event>, Vec<Event>) {
+/// The runs of these arrivals, and the table of their steps.
+fn stored(rt: &(impl Abort + AllocGlobal), link: &Link, arrivals: &[Arrival]) {
     assert!(rt; Arrival::may_come(arrivals));
     let engine = run_link(rt.alloc(), params(rt), SEED, link, arrivals).expect(rt, "memory");
     let fifo = run_fifo(rt.alloc(), params(rt), SEED, link, arrivals).expect(rt, "memory");
+    assert_eq!(rt; engine.events().len(), fifo.len());
     let steps = steps_text(rt.alloc(), engine.steps()).expect(rt, "memory");
     assert!(rt; steps.len() > arrivals.len());
-    let mut events = Vec::new(rt.alloc());
-    for event in engine.events() {
-        events.push(*event).ok().expect(rt, "memory");
-    }
-    (events, fifo)
+}
+
+/// The journal of a FIFO, in which most packets are sent before the next one comes.
+fn journal(rt: &(impl Abort + AllocGlobal)) -> Vec<Event> {
+    let arrivals = arrivals(rt);
+    assert!(rt; Arrival::may_come(&arrivals));
+    run_fifo(rt.alloc(), params(rt), SEED, &the_link(rt), &arrivals).expect(rt, "memory")
 }
 
 /// The tables that have rows of packets or of five-tuples.
-fn tables(rt: &(impl Abort + AllocGlobal), events: &[Event], fifo: &[Event]) {
+fn tables(rt: &(impl Abort + AllocGlobal), events: &[Event]) {
     let alloc = rt.alloc();
-    assert!(rt; events.len() <= MAX_EVENTS && fifo.len() <= MAX_EVENTS);
+    assert!(rt; events.len() <= MAX_EVENTS);
     let packets = Packets::with_seed(alloc, &SEED, events).expect(rt, "memory");
     assert_eq!(rt; packets.tuples().len(), packets.records().len());
-    assert!(rt; flows_text(alloc, events, Some(fifo)).is_ok());
-    assert!(rt; packets_text(alloc, events, Some(fifo)).is_ok());
+    assert!(rt; flows_text(alloc, events, None).is_ok());
+    assert!(rt; packets_text(alloc, events, None).is_ok());
 }
 
 /// What is counted in bins.
-fn pictures(rt: &(impl Abort + AllocGlobal), events: &[Event], fifo: &[Event]) {
+fn pictures(rt: &(impl Abort + AllocGlobal), events: &[Event]) {
     let alloc = rt.alloc();
-    assert!(rt; events.len() <= MAX_EVENTS && fifo.len() <= MAX_EVENTS);
-    assert!(rt; series_text_with_seed(alloc, &SEED, EVERY, events, Some(fifo)).is_ok());
-    assert!(rt; picture_text(alloc, RATE, EVERY, events, Some(fifo)).is_ok());
+    assert!(rt; events.len() <= MAX_EVENTS);
+    assert!(rt; series_text_with_seed(alloc, &SEED, EVERY, events, None).is_ok());
+    assert!(rt; picture_text(alloc, RATE, EVERY, events, None).is_ok());
 }
 
 /// The same runs, of which packets are made as they are told.
