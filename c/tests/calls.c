@@ -254,6 +254,58 @@ static void codel_drops(void)
 	maltcove_free(&m);
 }
 
+static void enqueue_in_flow(uint64_t moment, uint32_t flow, uint32_t len, uint8_t ecn, uint64_t first, uint64_t packets)
+{
+	maltcove_admitted admitted;
+	maltcove_dropped drop;
+
+	for (uint64_t tag = first; tag < first + packets; tag++) {
+		CHECK(maltcove_enqueue_flow(&m, moment, flow, len, ecn, tag, &admitted) == MALTCOVE_OK);
+		CHECK((uint64_t)maltcove_drops(&m, &drop, 1) == admitted.drops);
+	}
+}
+
+static void dequeue_tag(uint64_t moment, uint64_t tag, uint8_t mark)
+{
+	maltcove_sent sent;
+	maltcove_dropped drop;
+
+	CHECK(maltcove_dequeue(&m, moment, &sent) == MALTCOVE_OK && sent.tag == tag && sent.mark == mark);
+	CHECK((uint64_t)maltcove_drops(&m, &drop, 1) == sent.drops);
+}
+
+/* Each number of the totals stands in the field of its name: no two of them are equal. */
+static void each_total(void)
+{
+	maltcove_flushed flushed[5];
+	maltcove_totals_t t;
+	maltcove_flow_t view;
+
+	open_with("limit 10 drop_batch 1 target 1ms interval 10ms mtu 0 ce_threshold 500us classify dport flows 4 ecn");
+	enqueue_in_flow(0, 1, 1000, 2, 0, 10);
+	dequeue_tag(600, 0, MALTCOVE_THRESHOLD_MARK);
+	dequeue_tag(700, 1, MALTCOVE_THRESHOLD_MARK);
+	dequeue_tag(800, 2, MALTCOVE_THRESHOLD_MARK);
+	dequeue_tag(1000, 3, MALTCOVE_THRESHOLD_MARK);
+	dequeue_tag(11000, 4, MALTCOVE_CODEL_MARK);
+	CHECK(maltcove_flush(&m, flushed, 5) == 5 && flushed[0].tag == 5 && flushed[4].tag == 9);
+	enqueue_in_flow(11000, 2, 300, 0, 10, 16);
+	dequeue_tag(12000, 16, MALTCOVE_NO_MARK);
+	dequeue_tag(22000, 18, MALTCOVE_NO_MARK);
+	dequeue_tag(32000, 20, MALTCOVE_NO_MARK);
+	dequeue_tag(32000, 21, MALTCOVE_NO_MARK);
+	dequeue_tag(32000, 22, MALTCOVE_NO_MARK);
+	CHECK(maltcove_flow(&m, 2, &view) == MALTCOVE_OK && view.dropping && view.count == 2 && view.last_count == 1);
+	CHECK(maltcove_totals(&m, &t) == MALTCOVE_OK && !t.closed);
+	CHECK(t.accepted == 26 && t.sent == 10 && t.dropped_codel == 2 && t.dropped_overflow == 6);
+	CHECK(t.flushed == 5 && t.marked == 1 && t.threshold_marked == 4 && t.queued == 3);
+	CHECK(t.accepted_bytes == 14800 && t.sent_bytes == 6500 && t.dropped_bytes == 2400);
+	CHECK(t.flushed_bytes == 5000 && t.queued_bytes == 900);
+	CHECK(maltcove_close(&m, 32000) == MALTCOVE_OK);
+	CHECK(maltcove_totals(&m, &t) == MALTCOVE_OK && t.closed);
+	maltcove_free(&m);
+}
+
 /* Bursts stop where nothing waits, and flushes give all tags that wait. */
 static void bursts_and_flushes(void)
 {
@@ -400,6 +452,7 @@ int main(void)
 	refusals();
 	drops_wait();
 	codel_drops();
+	each_total();
 	bursts_and_flushes();
 	tags_come_back();
 	texts();

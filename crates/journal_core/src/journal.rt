@@ -85,7 +85,7 @@ impl<K: Keeps<Event>> Journal<K> {
         })
     }
 
-    /// Takes room for `room` events more.
+    /// Takes room for `room` events more. Where there is room for so many, it takes no memory and doesn't fail.
     pub fn reserve(&mut self, room: usize) -> Result<(), Memory>
         requires { length self.old.events + room ≤ MAX_EVENTS }
         ensures events { self.new.events ≡ self.old.events }
@@ -93,6 +93,7 @@ impl<K: Keeps<Event>> Journal<K> {
         ensures counts { self.new.counts ≡ self.old.counts }
         ensures room { self.old.room ≤ self.new.room }
         ensures ok { OnOk result (room ≤ self.new.room) }
+        ensures missing { OnErr result (self.old.room < room) }
         ensures err { OnErr result (self.new ≡ self.old) }
     {
         self.keeper.reserve(room)

@@ -1,5 +1,9 @@
 pub mod OctaveLemmas
 pub mod BinLemmas
 pub mod LineLemmas
+pub mod ChoiceLemmas
+pub mod NameLemmas
+pub mod WordLemmas
+pub mod AxisLemmas
 pub mod PercentileCurves
 pub mod PointLemmas

@@ -1,7 +1,10 @@
 pub mod Octave
+pub mod Axes
 pub mod Bins
 pub mod Lines
 pub mod Percentages
 pub mod Curves
 pub mod Points
 pub mod Contents
+pub mod Extremes
+pub mod Wording

@@ -1,5 +1,5 @@
 -- The points of a picture, from the bins and the percentiles of its lines. All is in whole numbers, rounded down.
-use Rattle.std.specs.Prelude.{ℕ, ◌+◌, ◌-◌, ◌*◌, ◌/◌, List, [], ◌∷◌, Option, Some, None, max, min, option_map}
+use Rattle.std.specs.Prelude.{ℕ, ◌+◌, ◌-◌, ◌*◌, ◌/◌, List, [], ◌∷◌, Option, max, min, option_map}
 use Rattle.link_picture.specs.declared.axis.Axis.{Axis}
 use Rattle.link_picture.specs.declared.bins.Bin.{Bin}
 use Rattle.link_picture.specs.declared.layout.TheConstants.{PANEL_HEIGHT, PANEL_LEFT, PANEL_WIDTH, RATE_BOTTOM, SHARE_BOTTOM, WAIT_BOTTOM}

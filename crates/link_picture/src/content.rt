@@ -2,11 +2,12 @@
 
 ghost use Rattle.std.specs.Prelude.{◌≡◌, ◌≤◌, [], IfOk, IfSome, length, option_map};
 ghost use Rattle.link_report.specs.declared.summary.TheConstants.{MAX_EVENTS};
-ghost use Rattle.link_picture.specs.Contents.{ShowsJournals, ShowsPackets, events_of};
+ghost use Rattle.link_picture.specs.Axes.{IsAxis, first_moment, last_of, last_of_both};
+ghost use Rattle.link_picture.specs.Contents.{ShowsJournals, ShowsPackets, events_of, line_count, names_of};
 
 use crate::axis::Axis;
 use crate::curves::{Curve, curves_of};
-use crate::lines::choose;
+use crate::lines::{MAX_NAMED, choose};
 use journal_core::{Event, Memory};
 use link_report::{PacketRecord, Packets};
 use packet_core::FiveTuple;
@@ -46,7 +47,7 @@ impl Content {
         requires few { length events.now ≤ MAX_EVENTS }
         requires fifo_few { IfSome fifo (λ e. length e.now ≤ MAX_EVENTS) }
         ensures { IfOk result (λ content.
-            ShowsJournals events.now (events_of (option_map (λ e. e.now) fifo.entry)) content) }
+            ShowsJournals every events.now (events_of (option_map (λ e. e.now) fifo.entry)) content) }
     {
         let packets = Packets::of(alloc, events)?;
         let others = Packets::of(alloc, events_or_none(fifo))?;
@@ -63,18 +64,14 @@ impl Content {
     ) -> Result<Content, Memory>
         requires few { length packets.now.packets ≤ MAX_EVENTS }
         requires fifo_few { length fifo.now.packets ≤ MAX_EVENTS }
-        ensures { IfOk result (ShowsPackets packets.now.packets fifo.now.packets) }
+        ensures { IfOk result (ShowsPackets every packets.now fifo.now) }
     {
         let tuples = packets.tuples();
         let axis = axis_of(every, packets.records(), fifo.records());
         let chosen = choose(alloc, tuples.len(), packets.records())?;
         let names = names_of(alloc, &chosen, tuples)?;
         let others = tuples.len().saturating_sub(chosen.len());
-        let lines = if others == 0 {
-            chosen.len()
-        } else {
-            chosen.len().saturating_add(1)
-        };
+        let lines = line_count(chosen.len(), others);
         let scheduler = curves_of(alloc, &axis, &chosen, lines, packets.records())?;
         let fifo = curves_of(alloc, &axis, &chosen, lines, fifo.records())?;
         Ok(Content {
@@ -87,6 +84,18 @@ impl Content {
             scheduler,
             fifo,
         })
+    }
+}
+
+/// How many lines there are for so many five-tuples that were chosen, and so many others.
+fn line_count(chosen: usize, others: usize) -> usize
+    requires { chosen ≤ MAX_NAMED }
+    ensures { result ≡ line_count chosen others }
+{
+    if others == 0 {
+        chosen
+    } else {
+        chosen.saturating_add(1)
     }
 }
 
@@ -106,7 +115,9 @@ fn events_or_none<'a>(events: Option<&'a [Event]>) -> &'a [Event]
 const LAST_MOMENT: u64 = u64::MAX - 1;
 
 /// The bins from the first arrival to the last fate, of both queues.
-fn axis_of(every: u64, packets: &[PacketRecord], fifo: &[PacketRecord]) -> Axis {
+fn axis_of(every: u64, packets: &[PacketRecord], fifo: &[PacketRecord]) -> Axis
+    ensures { IsAxis every (first_moment packets.now) (last_of_both packets.now fifo.now) result }
+{
     let from = match packets {
         [first, ..] => first.arrived.min(LAST_MOMENT),
         [] => 0,
@@ -118,6 +129,7 @@ fn axis_of(every: u64, packets: &[PacketRecord], fifo: &[PacketRecord]) -> Axis 
 /// The last moment of some packets, and at least the one given.
 fn last_moment(packets: &[PacketRecord], moment: u64) -> u64
     requires { moment ≤ LAST_MOMENT }
+    ensures last { result ≡ last_of moment packets.now }
     ensures from { moment ≤ result }
     ensures upto { result ≤ LAST_MOMENT }
 {
@@ -129,7 +141,9 @@ fn last_moment(packets: &[PacketRecord], moment: u64) -> u64
 }
 
 /// The five-tuples with those numbers.
-fn names_of(alloc: Global, chosen: &[u64], tuples: &[FiveTuple]) -> Result<Vec<FiveTuple>, Memory> {
+fn names_of(alloc: Global, chosen: &[u64], tuples: &[FiveTuple]) -> Result<Vec<FiveTuple>, Memory>
+    ensures { IfOk result (λ names. names.items ≡ names_of chosen.now tuples.now) }
+{
     let mut names = Vec::new(alloc);
     for number in chosen {
         if let Some(tuple) = tuples.get(*number as usize) {

@@ -1,8 +1,12 @@
 //! The whole picture.
 
-ghost use Rattle.std.specs.Prelude.{◌≤◌, IfSome, length};
+ghost use Rattle.std.specs.Prelude.{◌≡◌, ◌≤◌, IfSome, length};
 ghost use Rattle.link_report.specs.declared.summary.TheConstants.{MAX_EVENTS};
+ghost use Rattle.link_picture.specs.Axes.{in_64};
+ghost use Rattle.link_picture.specs.Extremes.{IsWaitScale, greatest_rate, longest_in, longest_of, longest_wait, rate_in, rate_of_all};
 
+use crate::axis::Axis;
+use crate::bins::Bin;
 use crate::content::Content;
 use crate::curves::Curve;
 use crate::layout::PANEL_LEFT;
@@ -63,7 +67,7 @@ fn drawn(alloc: Global, link: u64, has_fifo: bool, content: &Content) -> Result<
         content,
         has_fifo,
         link,
-        waits: WaitScale::upto(longest(&content.fifo, longest(&content.scheduler, 0))),
+        waits: waits_of(content),
         rates: RateScale::upto(most(content)),
     };
     let mut svg = Svg::open(alloc, title(&show)?.as_str())?;
@@ -75,6 +79,13 @@ fn drawn(alloc: Global, link: u64, has_fifo: bool, content: &Content) -> Result<
         legend(&mut svg, &show)?;
     }
     svg.close()
+}
+
+/// The scale of the waits of all lines.
+fn waits_of(content: &Content) -> WaitScale
+    ensures { IsWaitScale (longest_wait content.now) result }
+{
+    WaitScale::upto(longest(&content.fifo, longest(&content.scheduler, 0)))
 }
 
 /// The title of a picture.
@@ -103,23 +114,54 @@ fn headline(svg: &mut Svg, show: &Show<'_>) -> Result<(), Memory> {
 }
 
 /// The longest wait in the bins of some lines, and at least the one given.
-fn longest(curves: &[Curve], wait: u64) -> u64 {
+fn longest(curves: &[Curve], wait: u64) -> u64
+    ensures { result ≡ longest_of wait curves.now }
+{
     let mut longest = wait;
     for curve in curves {
-        for bin in curve.bins() {
-            longest = longest.max(bin.longest.unwrap_or(0));
-        }
+        longest = longest_in(curve.bins(), longest);
+    }
+    longest
+}
+
+/// The longest wait in some bins, and at least the one given.
+fn longest_in(bins: &[Bin], wait: u64) -> u64
+    ensures { result ≡ longest_in wait bins.now }
+{
+    let mut longest = wait;
+    for bin in bins {
+        longest = longest.max(bin.longest.unwrap_or(0));
     }
     longest
 }
 
 /// The greatest rate in the bins of all lines, in bits a second.
-fn most(content: &Content) -> u64 {
-    let mut most = 0u128;
-    for curve in content.scheduler.iter().chain(content.fifo.iter()) {
-        for bin in curve.bins() {
-            most = most.max(rate_of(&content.axis, bin));
-        }
-    }
+fn most(content: &Content) -> u64
+    ensures { result ≡ in_64 (greatest_rate content.now) }
+{
+    let axis = &content.axis;
+    let most = most_of(axis, &content.fifo, most_of(axis, &content.scheduler, 0));
     u64::try_from(most).unwrap_or(u64::MAX)
+}
+
+/// The greatest rate in the bins of some lines, and at least the one given.
+fn most_of(axis: &Axis, curves: &[Curve], rate: u128) -> u128
+    ensures { result ≡ rate_of_all axis.now.width rate curves.now }
+{
+    let mut most = rate;
+    for curve in curves {
+        most = most_in(axis, curve.bins(), most);
+    }
+    most
+}
+
+/// The greatest rate in some bins, and at least the one given.
+fn most_in(axis: &Axis, bins: &[Bin], rate: u128) -> u128
+    ensures { result ≡ rate_in axis.now.width rate bins.now }
+{
+    let mut most = rate;
+    for bin in bins {
+        most = most.max(rate_of(axis, bin));
+    }
+    most
 }

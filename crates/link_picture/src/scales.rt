@@ -1,6 +1,6 @@
 //! The scales of a picture's panels.
 
-ghost use Rattle.std.specs.Prelude.{◌<◌, ◌≤◌, ◌^◌, ◌+◌, IfOk};
+ghost use Rattle.std.specs.Prelude.{◌≡◌, ◌<◌, ◌≤◌, ◌^◌, ◌+◌, IfOk};
 
 use crate::octaves::octave;
 use journal_core::Memory;
@@ -26,8 +26,12 @@ pub struct WaitScale {
 }
 
 impl WaitScale {
+    ghost use Rattle.link_picture.specs.Extremes.{IsWaitScale};
+
     /// The scale on which a wait of so many microseconds is near the end.
-    pub fn upto(longest: u64) -> WaitScale {
+    pub fn upto(longest: u64) -> WaitScale
+        ensures { IsWaitScale longest result }
+    {
         let low = octave(LEAST_WAIT);
         let high = octave(longest.max(USUAL_WAIT)).max(low) + 128;
         WaitScale { low, high }

@@ -1,5 +1,8 @@
 //! Times, rates and addresses as a picture writes them.
 
+ghost use Rattle.std.specs.Prelude.{◌≡◌, ◌<◌, IfOk, string_bytes};
+ghost use Rattle.link_picture.specs.Wording as Spec;
+
 use journal_core::Memory;
 use packet_core::{FiveTuple, Ip};
 use std::alloc::Global;
@@ -59,7 +62,9 @@ pub(crate) fn rate_text(alloc: Global, rate: u64, step: u64) -> Result<String, M
 }
 
 /// Where packets of a five-tuple come from, after its number.
-pub(crate) fn source_text(alloc: Global, number: u64, tuple: &FiveTuple) -> Result<String, Memory> {
+pub(crate) fn source_text(alloc: Global, number: u64, tuple: &FiveTuple) -> Result<String, Memory>
+    ensures { IfOk result (λ text. string_bytes text ≡ Spec.source_text number tuple.now) }
+{
     let protocol = protocol_text(alloc, tuple.proto)?;
     let source = address_text(alloc, tuple.src)?;
     let port = tuple.sport;
@@ -67,14 +72,18 @@ pub(crate) fn source_text(alloc: Global, number: u64, tuple: &FiveTuple) -> Resu
 }
 
 /// Where they go.
-pub(crate) fn destination_text(alloc: Global, tuple: &FiveTuple) -> Result<String, Memory> {
+pub(crate) fn destination_text(alloc: Global, tuple: &FiveTuple) -> Result<String, Memory>
+    ensures { IfOk result (λ text. string_bytes text ≡ Spec.destination_text tuple.now) }
+{
     let destination = address_text(alloc, tuple.dst)?;
     let port = tuple.dport;
     format!(in alloc; "to {destination}:{port}")
 }
 
 /// The name of a protocol.
-fn protocol_text(alloc: Global, protocol: u8) -> Result<String, Memory> {
+fn protocol_text(alloc: Global, protocol: u8) -> Result<String, Memory>
+    ensures { IfOk result (λ text. string_bytes text ≡ Spec.protocol_text protocol) }
+{
     match protocol {
         1 => format!(in alloc; "icmp"),
         6 => format!(in alloc; "tcp"),
@@ -85,7 +94,9 @@ fn protocol_text(alloc: Global, protocol: u8) -> Result<String, Memory> {
 }
 
 /// An address: one of IPv4 as four numbers with dots, and one of IPv6 as eight in brackets, without leading zeros.
-fn address_text(alloc: Global, address: Ip) -> Result<String, Memory> {
+fn address_text(alloc: Global, address: Ip) -> Result<String, Memory>
+    ensures { IfOk result (λ text. string_bytes text ≡ Spec.address_text address) }
+{
     match address {
         Ip::V4(octets) => dots(alloc, octets),
         Ip::V6(octets) => colons(alloc, octets),
@@ -93,27 +104,31 @@ fn address_text(alloc: Global, address: Ip) -> Result<String, Memory> {
 }
 
 /// Four numbers with dots.
-fn dots(alloc: Global, octets: [u8; 4]) -> Result<String, Memory> {
+fn dots(alloc: Global, octets: [u8; 4]) -> Result<String, Memory>
+    ensures { IfOk result (λ text. string_bytes text ≡ Spec.dots_text octets) }
+{
     let [first, second, third, fourth] = octets;
     format!(in alloc; "{first}.{second}.{third}.{fourth}")
 }
 
 /// Numbers of two bytes each, in hexadecimal digits, with colons.
-fn colons(alloc: Global, octets: [u8; 16]) -> Result<String, Memory> {
+#[tactic(auto, using(crate::proofs::WordLemmas::groups_none, crate::proofs::WordLemmas::groups_more))]
+fn colons(alloc: Global, octets: [u8; 16]) -> Result<String, Memory>
+    ensures { IfOk result (λ text. string_bytes text ≡ Spec.colons_text octets) }
+{
     let mut text = String::new(alloc);
-    let mut gap = "[";
-    let mut high = None;
-    for octet in octets {
-        match high {
-            None => high = Some(octet),
-            Some(upper) => {
-                let number = u16::from_be_bytes([upper, octet]);
-                write!(text, "{gap}{number:x}")?;
-                gap = ":";
-                high = None;
-            }
-        }
+    for place in 0..8usize {
+        let gap = gap_before(place);
+        let number = u16::from(octets[2 * place]) * 256 + u16::from(octets[2 * place + 1]);
+        write!(text, "{gap}{number:x}")?;
     }
     text.push_str("]")?;
     Ok(text)
+}
+
+/// What stands before the number at a place.
+fn gap_before(place: usize) -> &'static str
+    ensures { result.now ≡ Spec.gap_before place }
+{
+    if place == 0 { "[" } else { ":" }
 }

@@ -1,5 +1,5 @@
 -- What a keeper that makes packets shows: the events that it was told.
-use Rattle.std.specs.Prelude.{◌≡◌, ℕ, ◌+◌, ◌^◌, ◌<◌, ◌≤◌, Bool, false, List, length}
+use Rattle.std.specs.Prelude.{◌≡◌, ℕ, ◌+◌, ◌-◌, ◌^◌, ◌<◌, ◌≤◌, ◌⊎◌, Bool, true, false, List, length}
 use Rattle.packet_core.specs.declared.packet.Waiting.{Waiting}
 use Rattle.journal_core.specs.declared.event.Event.{Event}
 use Rattle.link_report.specs.declared.gathered.Gathered.TheInside.{Inside}
@@ -13,6 +13,21 @@ pub record Gathering : Type 0 where
   pub room : ℕ
   pub most : ℕ
   pub is_short : Bool
+
+-- It makes the packets of the next event.
+pub record MakesPackets (g : Gathering) : Type 0 where
+  pub whole : g.is_short ≡ false
+  pub few : length g.events < g.most
+
+-- So many events more can be counted in 64 bits.
+abbrev pub CanCount : Gathering → ℕ → Type 0
+CanCount g more = more ≤ 2 ^ 64 - 1 - length g.events
+
+-- Of how many events it makes packets stays, and an event finds no memory only where its packets are made.
+pub record KeepsOn (old new : Gathering) : Type 0 where
+  pub most : new.most ≡ old.most
+  pub short : new.is_short ≡ true → (old.is_short ≡ true) ⊎ MakesPackets old
+  pub still : old.is_short ≡ true → new.is_short ≡ true
 
 abbrev pub gathering_of : Inside → Gathering
 gathering_of g = record {

@@ -9,3 +9,4 @@ pub mod Gatherings
 pub mod Groups
 pub mod FlowTables
 pub mod SummaryFields
+pub mod Series

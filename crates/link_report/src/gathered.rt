@@ -1,6 +1,7 @@
 //! A keeper that makes the packets of the events that it is told.
 
-ghost use Rattle.std.specs.Prelude.{◌≡◌, ◌<◌, ◌≤◌, ◌⊎◌, [], IfNone, IfOk, IfSome, false, length, true};
+ghost use Rattle.std.specs.Prelude.{◌≡◌, ◌-◌, ◌<◌, ◌≤◌, ◌⊎◌, [], ◌∷◌, ◌++◌, IfErr, IfNone, IfOk, IfSome, OnErr, OnOk, false, length, true};
+ghost use Rattle.link_report.specs.Gatherings.{CanCount, KeepsOn, MakesPackets};
 ghost use Rattle.link_report.specs.Packets.{known_of};
 
 use crate::packets::Packets;
@@ -69,6 +70,13 @@ impl Gathered {
         }
     }
 
+    /// Whether it makes packets of the next event.
+    fn makes_packets(&self) -> bool
+        ensures { result ≡ true → MakesPackets self.now }
+    {
+        !self.is_short && self.count < self.most
+    }
+
     /// How many events it was told.
     pub fn event_count(&self) -> u64
         ensures { result ≡ length self.now.events }
@@ -81,6 +89,7 @@ impl Gathered {
 fn take_room(packets: &mut Packets, is_made: bool, more: usize) -> Result<usize, Memory>
     ensures same { packets.new ≡ packets.old }
     ensures room { IfOk result (λ room. more ≤ room) }
+    ensures refused { IfErr result (λ _. is_made ≡ true) }
 {
     if is_made {
         packets.reserve(more)
@@ -96,7 +105,13 @@ impl Keeps<Event> for Gathered {
 
     ghost room = { λ gathered. gathered.room };
 
-    fn tell(&mut self, event: Event) {
+    fn tell(&mut self, event: Event)
+        requires { 0 < self.old.room }
+        ensures told { self.new.events ≡ self.old.events ++ event ∷ [] }
+        ensures lost { self.new.lost ≡ self.old.lost }
+        ensures room { self.new.room ≡ self.old.room - 1 }
+        ensures on { KeepsOn self.old self.new }
+    {
         if !self.is_short && self.count < self.most {
             // Memory is reserved, so none is missing. That isn't proved, so it is looked at.
             self.is_short = self.packets.add(&event).is_err();
@@ -106,12 +121,32 @@ impl Keeps<Event> for Gathered {
         self.told = self.told.and(&event);
     }
 
-    fn tell_loss(&mut self, event: Event, packet: &Waiting) {
+    fn tell_loss(&mut self, event: Event, packet: &Waiting)
+        requires { 0 < self.old.room }
+        ensures told { self.new.events ≡ self.old.events ++ event ∷ [] }
+        ensures lost { self.new.lost ≡ self.old.lost ++ packet.now ∷ [] }
+        ensures room { self.new.room ≡ self.old.room - 1 }
+        ensures on { KeepsOn self.old self.new }
+    {
         self.tell(event);
         self.lost = self.lost.and(packet);
     }
 
-    fn reserve(&mut self, more: usize) -> Result<(), Memory> {
+    fn reserve(&mut self, more: usize) -> Result<(), Memory>
+        ensures told { self.new.events ≡ self.old.events }
+        ensures lost { self.new.lost ≡ self.old.lost }
+        ensures room { self.old.room ≤ self.new.room }
+        ensures ok { OnOk result (more ≤ self.new.room) }
+        ensures missing { OnErr result (self.old.room < more) }
+        ensures err { OnErr result (self.new.room ≡ self.old.room) }
+        ensures most { self.new.most ≡ self.old.most }
+
+        // A refusal is an answer, and no event is lost by it.
+        ensures short { self.new.is_short ≡ self.old.is_short }
+
+        // Where it makes no packets any more it takes no memory, so nothing that can be counted is refused.
+        ensures made { OnErr result (CanCount self.old more → MakesPackets self.old) }
+    {
         let more_events = more as u64;
         if more_events <= self.room {
             return Ok(());
@@ -121,7 +156,7 @@ impl Keeps<Event> for Gathered {
         if more_events > countable {
             return Err(AllocError);
         }
-        let is_made = !self.is_short && self.count < self.most;
+        let is_made = self.makes_packets();
         let room = take_room(&mut self.packets, is_made, more)?;
         self.room = countable.min(room as u64);
         self.told = self.told.with_room(self.room as usize);

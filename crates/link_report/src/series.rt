@@ -1,5 +1,8 @@
 //! The table `series`: for each bin of time a row for each five-tuple with an arrival, a fate or a packet that waits at
-//! the bin's end. Its text is tested, and no contract says it.
+//! the bin's end. Its text is tested, and no contract says it. Contracts say which bin an event falls in.
+
+ghost use Rattle.std.specs.Prelude.{◌≡◌, OnOk};
+ghost use Rattle.link_report.specs.Series.{bin_after, bin_at};
 
 use crate::decimal::Digits;
 use crate::packets::{PacketRecord, Packets};
@@ -197,14 +200,17 @@ impl Series {
         table: &mut Table,
         packets: &[PacketRecord],
         event: &Event,
-    ) -> Result<(), Memory> {
+    ) -> Result<(), Memory>
+        ensures every { self.new.every ≡ self.old.every }
+        ensures bin { OnOk result (self.new.bin ≡ bin_after self.old.every self.old.bin event.now) }
+    {
         let (id, moment) = match *event {
             Event::Accepted { id, moment, .. }
             | Event::Sent { id, moment, .. }
             | Event::Dropped { id, moment, .. } => (id, moment),
             Event::Closed { .. } => return Ok(()),
         };
-        self.go_on(table, moment.checked_div(self.every).unwrap_or(0))?;
+        self.go_on(table, bin_at(self.every, moment))?;
         let Some(packet) = packets.get(id as usize) else {
             return Ok(());
         };
@@ -212,7 +218,10 @@ impl Series {
     }
 
     /// Goes on to a later bin, and writes those that have rows up to there.
-    fn go_on(&mut self, table: &mut Table, bin: u64) -> Result<(), Memory> {
+    fn go_on(&mut self, table: &mut Table, bin: u64) -> Result<(), Memory>
+        ensures every { self.new.every ≡ self.old.every }
+        ensures bin { OnOk result (self.new.bin ≡ bin) }
+    {
         for _turn in self.bin..bin {
             if self.rows.is_empty() {
                 break;
@@ -225,7 +234,10 @@ impl Series {
     }
 
     /// Notes an event of a packet in the bin.
-    fn note(&mut self, packet: &PacketRecord, event: &Event, moment: u64) -> Result<(), Memory> {
+    fn note(&mut self, packet: &PacketRecord, event: &Event, moment: u64) -> Result<(), Memory>
+        ensures every { self.new.every ≡ self.old.every }
+        ensures bin { self.new.bin ≡ self.old.bin }
+    {
         let number = packet.tuple as usize;
         if number >= self.happenings.len() {
             return Ok(());
@@ -248,7 +260,10 @@ impl Series {
     }
 
     /// Writes the rows of the bin, by five-tuple, and leaves those with a packet that waits for the next one.
-    fn write(&mut self, table: &mut Table) -> Result<(), Memory> {
+    fn write(&mut self, table: &mut Table) -> Result<(), Memory>
+        ensures every { self.new.every ≡ self.old.every }
+        ensures bin { self.new.bin ≡ self.old.bin }
+    {
         self.rows.sort()?;
         let from = self.bin.saturating_mul(self.every);
         let mut rows = Vec::new(self.alloc);
@@ -267,6 +282,13 @@ impl Series {
         self.rows = rows;
         Ok(())
     }
+}
+
+/// The number of the bin that a moment falls in, from 0. Where bins have no width it is the first one.
+fn bin_at(every: u64, moment: u64) -> u64
+    ensures { result ≡ bin_at every moment }
+{
+    moment.checked_div(every).unwrap_or(0)
 }
 
 /// The row of a five-tuple in a bin.

@@ -1,3 +1,5 @@
 pub mod AsBox
 pub mod WordLemmas
 pub mod Readings
+pub mod Bursts
+pub mod Openings

@@ -1,6 +1,6 @@
 -- How drops are read, and packets flushed, into C's array, one by one.
-use Rattle.std.proofs.Common.{◌≡◌, ℕ, ◌+◌, ◌-◌, ◌<◌, ◌≤◌, List, [], ◌∷◌, ◌++◌, drop, length, map, set, take, ap, refl, subst, sym, ◌∙◌, arith}
-use Rattle.std.proofs.lemmas.List.{drop-drop, drop-set-lt, length-map, length-take, map-append, take_more_set}
+use Rattle.std.proofs.Common.{◌≡◌, ℕ, ◌+◌, ◌<◌, List, [], ◌∷◌, ◌++◌, drop, length, map, set, take, ap, refl, subst, sym, ◌∙◌, arith}
+use Rattle.std.proofs.lemmas.List.{drop-drop, drop-set-lt, map-append, take_more_set}
 use Rattle.shaper_core.specs.declared.answers.Dropped.{Dropped}
 use Rattle.shaper_core.specs.declared.answers.Handle.{Handle}
 use Rattle.shaper_core.specs.Shapers.{AreFlushed, AreRead, IsFlushed, IsRead, Shaping}
@@ -10,7 +10,7 @@ use Rattle.maltcove.specs.declared.records.MaltcoveDropped.{MaltcoveDropped}
 use Rattle.maltcove.specs.declared.records.MaltcoveFlushed.{MaltcoveFlushed}
 
 -- the rest of a list stays where the place before it is written
-rest_stays : {X : Type 0} (first out : List X) (place : ℕ) (x : X) → drop place out ≡ drop place first → drop (place + 1) (set out place x) ≡ drop (place + 1) first
+pub rest_stays : {X : Type 0} (first out : List X) (place : ℕ) (x : X) → drop place out ≡ drop place first → drop (place + 1) (set out place x) ≡ drop (place + 1) first
 rest_stays first out place x rest = drop-set-lt (place + 1) out place x (omega arith) ∙ sym (drop-drop 1 place out) ∙ ap (drop 1) rest ∙ drop-drop 1 place first
 
 -- what is told of a list and of one more

@@ -1,7 +1,8 @@
 -- What the calls from C do with the shaper behind a handle.
-use Rattle.std.specs.Prelude.{◌≡◌, ◌≢◌, ◌%◌, ◌⊎◌, ℕ, ℤ, List, length, map, Some, None}
+use Rattle.std.specs.Prelude.{◌≡◌, ◌≢◌, ◌<◌, ◌%◌, ◌⊎◌, ◌↔◌, ℕ, ℤ, List, [], ◌∷◌, length, map, slice_get, take, Some, None}
 use Rattle.std.specs.declared.option.Option.{Option}
 use Rattle.std.specs.declared.option.Option.TheVariants as option
+use Rattle.std.specs.Str.{IsUtf8}
 use Rattle.packet_core.specs.Packets.{PacketParts}
 use Rattle.packet_core.specs.declared.flow.Seed.{Seed}
 use Rattle.packet_core.specs.declared.params.ParamFields.{ParamFields}
@@ -17,12 +18,15 @@ use Rattle.shaper_core.specs.Shapers.{AreFlushed, AreRead, FindsNone, IsDequeued
 use Rattle.shaper_core.specs.declared.answers.Dequeued.{Dequeued}
 use Rattle.shaper_core.specs.declared.answers.Dropped.{Dropped}
 use Rattle.shaper_core.specs.declared.answers.EnqueueFault.{EnqueueFault}
+use Rattle.shaper_core.specs.declared.answers.EnqueueFault.TheVariants.{Refused, Unread}
 use Rattle.shaper_core.specs.declared.answers.Enqueued.{Enqueued}
 use Rattle.shaper_core.specs.declared.answers.Handle.{Handle}
 use Rattle.shaper_core.specs.declared.shaper.TheConstants.{RENEW_AFTER}
 use Rattle.maltcove.specs.Records.{SaysInFlow, admitted_told, dropped_told, flushed_told, idle_told, nothing_told, sent_told}
 use Rattle.maltcove.specs.Statuses.{close_code, enqueue_code, moment_code}
 use Rattle.maltcove.specs.Texts.{IsWrong, SaysParams}
+use Rattle.maltcove.specs.declared.opening.NoParams.{NoParams}
+use Rattle.maltcove.specs.declared.opening.NoParams.TheVariants as no_params
 use Rattle.maltcove.specs.declared.records.MaltcoveAdmitted.{MaltcoveAdmitted}
 use Rattle.maltcove.specs.declared.records.MaltcoveDropped.{MaltcoveDropped}
 use Rattle.maltcove.specs.declared.records.MaltcoveFault.{MaltcoveFault}
@@ -48,10 +52,13 @@ pub record Admits (old : Shaping) (moment : ℕ) (packet : PacketParts) (out : M
   pub enqueued : IsEnqueued old moment packet said new
   pub told : out ≡ admitted_told said
 
--- An enqueue is refused for that, by the tests in their order.
+-- An enqueue is refused for that, by the tests in their order: a drop wasn't read; the scheduler refuses the step; or
+-- memory is wanted, and no enqueue is reserved.
 pub record RefusesEnqueue (old : Shaping) (moment : ℕ) (packet : PacketParts) (answer : ℤ) : Type 0 where
   pub fault : EnqueueFault
+  pub unread : (fault ≡ Unread) ↔ (0 < old.unread)
   pub is_fault : IsFault (refusal_of old.sched.standing.state (Enqueue moment 0 packet)) fault
+  pub reserved : 0 < old.sched.room → fault ≢ Refused refusal.Memory
   pub code : answer ≡ enqueue_code fault
 
 -- An enqueue to a flow of the caller's is refused: no packet is what the caller says, or the packet that it says is
@@ -78,27 +85,60 @@ pub record Idles (old : Shaping) (moment : ℕ) (out : MaltcoveSent) (new : Shap
   pub none_sent : said.sent ≡ None
   pub told : out ≡ idle_told said.drops
 
+-- Packets are sent at that moment, one after another, and C reads of each in its place.
+abbrev pub AreSent : Shaping → ℕ → List MaltcoveSent → Shaping → Type 0
+AreSent old moment [] new = new ≡ old
+AreSent old moment (out ∷ outs) new = (mid : Shaping) × Sends old moment out mid × AreSent mid moment outs new
+
+-- So many are, and then none waits, of which C reads in the next place.
+pub record SendsAll (old : Shaping) (moment : ℕ) (outs : List MaltcoveSent) (given : ℕ) (new : Shaping) : Type 0 where
+  pub mid : Shaping
+  pub sends : AreSent old moment (take given outs) mid
+  pub last : MaltcoveSent
+  pub place : slice_get outs given ≡ Some last
+  pub idles : Idles mid moment last new
+
 -- A dequeue is refused for its moment.
 pub record RefusesDequeue (old : Shaping) (moment : ℕ) (answer : ℤ) : Type 0 where
   pub fault : MomentFault
   pub is_fault : refusal_of old.sched.standing.state (Dequeue moment) ≡ Some (refusal.Moment fault)
   pub code : answer ≡ moment_code fault
 
+-- A shaper is opened with these parameters and a seed, which has 16 bytes.
+pub record OpensWith (params : ParamFields) (seed : List ℕ) (new : Shaping) : Type 0 where
+  pub secret : Seed
+  pub seed_is : secret.0 ≡ seed
+  pub long : length seed ≡ 16
+  pub is_new : new ≡ new_shaper params secret RENEW_AFTER
+
 -- A shaper is opened by words and a seed.
 pub record Opens (words seed : List ℕ) (new : Shaping) : Type 0 where
   pub params : ParamFields
   pub says : SaysParams words params
-  pub secret : Seed
-  pub seed_is : secret.0 ≡ seed
-  pub is_new : new ≡ new_shaper params secret RENEW_AFTER
+  pub opens : OpensWith params seed new
 
--- Why none is opened, and what C reads as the fault.
+-- what is answered where there are no parameters
+abbrev pub why_code : NoParams → ℤ
+why_code (no_params.Words told) = BAD_WORDS
+why_code no_params.Memory = MEMORY
+
+-- and what C reads then
+abbrev pub why_told : NoParams → MaltcoveFault
+why_told (no_params.Words told) = told
+why_told no_params.Memory = nothing_told
+
+-- why none is opened where there are parameters
+abbrev pub RefusesSeed : List ℕ → ℤ → Type 0
+RefusesSeed seed answer = ((answer ≡ BAD_SEED) × (length seed ≢ 16)) ⊎ ((answer ≡ MEMORY) × (length seed ≡ 16))
+
+-- Why none is opened, and what C reads as the fault. Memory is taken first for the words of a text that is UTF-8, then,
+-- where words and seed are right, for the shaper.
 abbrev pub RefusesOpen : List ℕ → List ℕ → MaltcoveFault → ℤ → Type 0
 RefusesOpen words seed told answer =
     ((answer ≡ BAD_WORDS) × IsWrong words told)
     ⊎ ((answer ≡ BAD_SEED) × (told ≡ nothing_told) × (length seed ≢ 16)
     × ((params : ParamFields) × SaysParams words params))
-    ⊎ ((answer ≡ MEMORY) × (told ≡ nothing_told))
+    ⊎ ((answer ≡ MEMORY) × (told ≡ nothing_told) × IsUtf8 words)
 
 -- A close is refused for that.
 pub record RefusesClose (old : Shaping) (moment : ℕ) (answer : ℤ) : Type 0 where

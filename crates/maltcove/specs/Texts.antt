@@ -1,5 +1,5 @@
 -- The words in a text.
-use Rattle.std.specs.Prelude.{◌≡◌, ◌⊎◌, ℕ, ◌<◌, List, [], ◌∷◌, ◌++◌, length, Result, Ok, Err}
+use Rattle.std.specs.Prelude.{◌≡◌, ◌⊎◌, ℕ, ◌<◌, List, [], ◌∷◌, ◌++◌, length, Ok, Err}
 use Rattle.std.specs.List.{AllPass}
 use Rattle.std.specs.Char.{is_ascii_whitespace}
 use Rattle.std.specs.Str.{IsUtf8, NoCharPasses}
@@ -35,6 +35,11 @@ pub record SaysParams (text : List ℕ) (params : ParamFields) : Type 0 where
   pub are_words : AreWords text words
   pub read : params_of_words words ≡ Ok params
 
+-- One of these words is wrong, and C reads which, and in what way.
+abbrev pub AreWrong : List (List ℕ) → NoParams → Type 0
+AreWrong words (Words told) = (fault : ParamFault) × (params_of_words words ≡ Err fault) × (told ≡ fault_told fault)
+AreWrong words Memory = ⊥
+
 -- One of the text's words is wrong, in that way.
 pub record HasFault (text : List ℕ) (fault : ParamFault) : Type 0 where
   pub words : List (List ℕ)
@@ -47,7 +52,7 @@ IsWrong text told =
     (¬ IsUtf8 text × (told ≡ record { place = 0; kind = NOT_TEXT }))
     ⊎ ((fault : ParamFault) × HasFault text fault × (told ≡ fault_told fault))
 
--- why there are no parameters
+-- Why there are no parameters. That a text isn't UTF-8 is seen before memory is taken for its words.
 abbrev pub IsWhy : List ℕ → NoParams → Type 0
 IsWhy text (Words told) = IsWrong text told
-IsWhy text Memory = Unit {0}
+IsWhy text Memory = IsUtf8 text

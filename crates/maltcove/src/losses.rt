@@ -1,6 +1,6 @@
 //! The calls that tags come back by which no dequeue gives: drops and flushes.
 
-ghost use Rattle.std.specs.Prelude.{◌≡◌, ◌<◌, IfSome, IsNone, None, drop, length, min, take};
+ghost use Rattle.std.specs.Prelude.{◌≡◌, ◌<◌, ◌≤◌, IfSome, IsNone, None, drop, length, min, take};
 ghost use Rattle.shaper_core.specs.Shapers.{FindsNone, IsFlushed};
 ghost use Rattle.maltcove.specs.Calls.{Behind, Flushes, FlushesAllTold, IfBehind, ReadsDrops};
 ghost use Rattle.maltcove.specs.declared.status.TheConstants.{NOT_OPEN, OK};
@@ -64,6 +64,7 @@ fn flush_next(shaper: &mut Shaper) -> Option<Handle>
 
 /// Takes packets out into the places, as many as there are of both, and says how many.
 fn flush_into(shaper: &mut Shaper, out: &mut [MaltcoveFlushed]) -> usize
+    ensures within { result ≤ length out.old }
     ensures full { result ≡ length out.old → Flushes shaper.old (take result out.new) shaper.new }
     ensures all { result < length out.old → FlushesAllTold shaper.old (take result out.new) shaper.new }
     ensures rest { drop result out.new ≡ drop result out.old }
@@ -88,6 +89,7 @@ pub extern "C" fn maltcove_raw_flush(
     ensures none { m.old.handle.value ≡ None
         → (result ≡ NOT_OPEN) × (m.new.handle.value ≡ None) × (given.new ≡ 0) × (out.new ≡ out.old) }
     ensures open { IfBehind (λ a. result ≡ OK) m.old.handle.value }
+    ensures within { given.new ≤ length out.old }
     ensures full { result ≡ OK → given.new ≡ length out.old
         → Behind (λ a b. Flushes a (take given.new out.new) b) m.old.handle.value m.new.handle.value }
     ensures all { result ≡ OK → given.new < length out.old

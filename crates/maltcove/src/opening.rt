@@ -1,12 +1,12 @@
 //! The calls that make a scheduler and end it.
 
-ghost use Rattle.std.specs.Prelude.{◌≡◌, ◌≢◌, ◌↔◌, IfErr, IfOk, IfSome, IsOk, IsSome, None, map};
-ghost use Rattle.packet_core.specs.declared.flow.Seed.{Seed};
-ghost use Rattle.shaper_core.specs.Shapers.{IsClosed, new_shaper};
-ghost use Rattle.shaper_core.specs.declared.shaper.TheConstants.{RENEW_AFTER};
-ghost use Rattle.maltcove.specs.Calls.{Behind, IfBehind, Opens, RefusesClose, RefusesOpen};
+ghost use Rattle.std.specs.Prelude.{◌≡◌, ◌≢◌, ◌↔◌, Err, IfErr, IfOk, IfSome, IsErr, IsOk, IsSome, None, Ok, map};
+ghost use Rattle.std.specs.Str.{IsUtf8};
+ghost use Rattle.packet_core.specs.Words.{params_of_words};
+ghost use Rattle.shaper_core.specs.Shapers.{IsClosed};
+ghost use Rattle.maltcove.specs.Calls.{Behind, IfBehind, Opens, OpensWith, RefusesClose, RefusesOpen, RefusesSeed, why_code, why_told};
 ghost use Rattle.maltcove.specs.Records.{nothing_told};
-ghost use Rattle.maltcove.specs.Texts.{AreWords, IsWhy, SaysParams};
+ghost use Rattle.maltcove.specs.Texts.{AreWords, AreWrong, IsWhy, SaysParams};
 ghost use Rattle.maltcove.specs.declared.status.TheConstants.{ALREADY_OPEN, NOT_OPEN, OK};
 
 use crate::records::{MaltcoveFault, NOT_TEXT, fault_of, no_fault};
@@ -33,12 +33,14 @@ fn words_of(alloc: Global, text: &str) -> Result<Vec<&str>, Memory>
     text.split_ascii_whitespace().collect(alloc)
 }
 
-/// The parameters that the words in a text say.
-fn params_of_text(alloc: Global, text: &str) -> Result<Params, NoParams>
-    ensures said { IfOk result (SaysParams text.now) }
-    ensures wrong { IfErr result (IsWhy text.now) }
+/// The parameters that these words say, if there was memory for the words.
+fn params_from(words: Result<Vec<&str>, Memory>) -> Result<Params, NoParams>
+    ensures none { IfErr words.entry (λ refused. result ≡ Err NoParams.Memory) }
+    ensures said { IfOk words.entry (λ words. IfOk result
+        (λ params. params_of_words (map (λ word. word.now) words.items) ≡ Ok params)) }
+    ensures wrong { IfOk words.entry (λ words. IfErr result (AreWrong (map (λ word. word.now) words.items))) }
 {
-    let Ok(words) = words_of(alloc, text) else {
+    let Ok(words) = words else {
         return Err(NoParams::Memory);
     };
     match read_params(&words) {
@@ -47,9 +49,18 @@ fn params_of_text(alloc: Global, text: &str) -> Result<Params, NoParams>
     }
 }
 
+/// The parameters that the words in a text say.
+fn params_of_text(alloc: Global, text: &str) -> Result<Params, NoParams>
+    ensures said { IfOk result (SaysParams text.now) }
+    ensures wrong { IfErr result (IsWhy text.now) }
+{
+    params_from(words_of(alloc, text))
+}
+
 /// The parameters that the words in these bytes say.
 fn params_in(alloc: Global, text: &[u8]) -> Result<Params, NoParams>
     ensures said { IfOk result (SaysParams text.now) }
+    ensures text { IfOk result (λ params. IsUtf8 text.now) }
     ensures wrong { IfErr result (IsWhy text.now) }
 {
     match str::from_utf8(text) {
@@ -63,14 +74,49 @@ fn params_in(alloc: Global, text: &[u8]) -> Result<Params, NoParams>
 
 /// A scheduler with these parameters.
 fn shaper_with(alloc: Global, params: Params, seed: [u8; 16]) -> Option<Box<Shaper>>
-    ensures { IfSome result (λ s. (secret : Seed) × (secret.0 ≡ seed) × (s.value ≡ new_shaper params secret RENEW_AFTER)) }
+    ensures { IfSome result (λ s. OpensWith params seed s.value) }
 {
     let shaper = Shaper::open(alloc, params, Seed(seed)).ok()?;
     Box::new(alloc, shaper).ok()
 }
 
-/// A scheduler with the parameters that words say, if they do.
+/// A scheduler with these parameters and that seed.
+fn shaper_seeded(alloc: Global, params: Params, seed: &[u8]) -> Result<Box<Shaper>, i32>
+    ensures made { IfOk result (λ s. OpensWith params seed.now s.value) }
+    ensures refused { IfErr result (RefusesSeed seed.now) }
+{
+    let Ok(seed) = <[u8; 16]>::try_from(seed) else {
+        return Err(BAD_SEED);
+    };
+    shaper_with(alloc, params, seed).ok_or(MEMORY)
+}
+
+/// A scheduler with these parameters, if there are any, and that seed.
 fn shaper_of(
+    alloc: Global,
+    params: Result<Params, NoParams>,
+    seed: &[u8],
+    fault: &mut MaltcoveFault,
+) -> Result<Box<Shaper>, i32>
+    requires { fault.old ≡ nothing_told }
+    ensures none { IfErr params (λ why. IsErr result × (fault.new ≡ why_told why)
+        × IfErr result (λ code. code ≡ why_code why)) }
+    ensures told { IfOk params (λ p. fault.new ≡ nothing_told) }
+    ensures made { IfOk params (λ p. IfOk result (λ s. OpensWith p seed.now s.value)) }
+    ensures refused { IfOk params (λ p. IfErr result (RefusesSeed seed.now)) }
+{
+    match params {
+        Err(NoParams::Words(wrong)) => {
+            *fault = wrong;
+            Err(BAD_WORDS)
+        }
+        Err(NoParams::Memory) => Err(MEMORY),
+        Ok(params) => shaper_seeded(alloc, params, seed),
+    }
+}
+
+/// A scheduler with the parameters that words say, if they do.
+fn shaper_said(
     alloc: Global,
     words: &[u8],
     seed: &[u8],
@@ -81,19 +127,8 @@ fn shaper_of(
     ensures told { IsOk result → fault.new ≡ nothing_told }
     ensures refused { IfErr result (RefusesOpen words.now seed.now fault.new) }
 {
-    match params_in(alloc, words) {
-        Err(NoParams::Words(wrong)) => {
-            *fault = wrong;
-            Err(BAD_WORDS)
-        }
-        Err(NoParams::Memory) => Err(MEMORY),
-        Ok(params) => {
-            let Ok(seed) = <[u8; 16]>::try_from(seed) else {
-                return Err(BAD_SEED);
-            };
-            shaper_with(alloc, params, seed).ok_or(MEMORY)
-        }
-    }
+    let params = params_in(alloc, words);
+    shaper_of(alloc, params, seed, fault)
 }
 
 /// Makes a scheduler, with the parameters that words say.
@@ -117,7 +152,7 @@ pub extern "C" fn maltcove_raw_open(
         return ALREADY_OPEN;
     }
     *fault = no_fault();
-    match shaper_of(alloc, words, seed, fault) {
+    match shaper_said(alloc, words, seed, fault) {
         Ok(shaper) => {
             put(m, shaper);
             OK

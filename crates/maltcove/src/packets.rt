@@ -1,9 +1,9 @@
 //! The calls that packets come and go by.
 
-ghost use Rattle.std.specs.Prelude.{◌≡◌, ◌≢◌, ◌⊎◌, ◌↔◌, ◌<◌, ◌%◌, None};
+ghost use Rattle.std.specs.Prelude.{◌≡◌, ◌≢◌, ◌⊎◌, ◌↔◌, ◌+◌, ◌<◌, ◌%◌, None, drop, length};
 ghost use Rattle.packet_core.specs.Packets.{PacketParts};
 ghost use Rattle.packet_core.specs.declared.params.Classify.TheVariants.{Dport, Hash};
-ghost use Rattle.maltcove.specs.Calls.{Admits, Behind, IfBehind, Idles, RefusesDequeue, RefusesEnqueue, RefusesInFlow, Sends};
+ghost use Rattle.maltcove.specs.Calls.{Admits, AreSent, Behind, IfBehind, Idles, RefusesDequeue, RefusesEnqueue, RefusesInFlow, Sends, SendsAll};
 ghost use Rattle.maltcove.specs.Records.{Says, SaysInFlow};
 ghost use Rattle.maltcove.specs.declared.status.TheConstants.{BAD_PACKET, HASHED, IDLE, NOT_OPEN, OK};
 
@@ -143,7 +143,8 @@ pub extern "C" fn maltcove_raw_enqueue_flow(
 ) -> i32
     ensures none { (result ≡ NOT_OPEN) ↔ (m.old.handle.value ≡ None) }
     ensures made { result ≡ OK → Behind
-        (λ a b. (p : PacketParts) × SaysInFlow (flow % a.sched.params.flows) len ecn tag p × Admits a moment p out.new b)
+        (λ a b. (p : PacketParts) × SaysInFlow (flow % a.sched.params.flows) len ecn tag p
+        × Admits a moment p out.new b)
         m.old.handle.value m.new.handle.value }
     ensures hashed { IfBehind (λ a. (result ≡ HASHED) ↔ (a.sched.params.classify ≡ Hash)) m.old.handle.value }
     ensures refused { result ≢ OK → result ≢ HASHED
@@ -208,16 +209,26 @@ pub extern "C" fn maltcove_raw_dequeue(
 }
 
 /// Packets go until none waits or the places are full, and how many went. At a moment that is refused none goes.
-fn give_burst(shaper: &mut Shaper, moment: u64, out: &mut [MaltcoveSent], given: &mut u64) -> i32 {
-    let mut code = OK;
-    for place in out {
-        code = give(shaper, moment, place);
+fn give_burst(shaper: &mut Shaper, moment: u64, out: &mut [MaltcoveSent], given: &mut u64) -> i32
+    ensures full { result ≡ OK
+        → (given.new ≡ length out.old) × AreSent shaper.old moment out.new shaper.new }
+    ensures idle { result ≡ IDLE
+        → (given.new < length out.old) × SendsAll shaper.old moment out.new given.new shaper.new }
+    ensures rest { result ≡ IDLE → drop (given.new + 1) out.new ≡ drop (given.new + 1) out.old }
+    ensures refused { result ≢ OK → result ≢ IDLE → RefusesDequeue shaper.old moment result }
+    ensures unchanged { result ≢ OK → result ≢ IDLE
+        → (shaper.new ≡ shaper.old) × (out.new ≡ out.old) × (given.new ≡ 0) }
+    ensures open { result ≢ NOT_OPEN }
+{
+    for place in 0..out.len() {
+        let code = give(shaper, moment, &mut out[place]);
         if code != OK {
-            break;
+            *given = place as u64;
+            return code;
         }
-        *given = given.wrapping_add(1);
     }
-    code
+    *given = out.len() as u64;
+    OK
 }
 
 /// Gives the next packets, as many as there is room for. It answers how many, by `given`.
@@ -228,9 +239,20 @@ pub extern "C" fn maltcove_raw_dequeue_burst(
     moment: u64,
     out: &mut [MaltcoveSent],
     given: &mut u64,
-) -> i32 {
-    *given = 0;
+) -> i32
+    ensures none { (result ≡ NOT_OPEN) ↔ (m.old.handle.value ≡ None) }
+    ensures full { result ≡ OK → (given.new ≡ length out.old)
+        × Behind (λ a b. AreSent a moment out.new b) m.old.handle.value m.new.handle.value }
+    ensures idle { result ≡ IDLE → (given.new < length out.old)
+        × Behind (λ a b. SendsAll a moment out.new given.new b) m.old.handle.value m.new.handle.value }
+    ensures rest { result ≡ IDLE → drop (given.new + 1) out.new ≡ drop (given.new + 1) out.old }
+    ensures refused { result ≢ OK → result ≢ IDLE
+        → IfBehind (λ a. RefusesDequeue a moment result) m.old.handle.value }
+    ensures unchanged { result ≢ OK → result ≢ IDLE
+        → (m.new.handle.value ≡ m.old.handle.value) × (out.new ≡ out.old) × (given.new ≡ 0) }
+{
     let Some(mut shaper) = take(alloc, m) else {
+        *given = 0;
         return NOT_OPEN;
     };
     let code = give_burst(&mut shaper, moment, out, given);

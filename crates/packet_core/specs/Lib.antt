@@ -4,5 +4,5 @@ pub mod PackedPackets
 pub mod PackedTuples
 pub mod Packets
 pub mod Params
-pub mod Words
 pub mod TupleHash
+pub mod Words

@@ -1,4 +1,5 @@
--- What a five-tuple feeds a hasher, and that five-tuples which are equal by the derived test feed it alike.
+-- What a five-tuple feeds a hasher, that five-tuples which are equal by the derived test feed it alike, and the hasher
+-- that a builder gives.
 use Rattle.std.specs.Prelude.{◌≡◌, ◌&&◌, ◌==◌, ◌++◌, Bool, true, false, List, ℕ}
 use Rattle.std.specs.Hash as fed
 use mathlib.Core.Path.{ap, refl}
@@ -20,16 +21,19 @@ tuple_input tuple =
     let words = tuple_packed tuple in
     fed.u64 words.src.0 ++ fed.u64 words.src.1 ++ fed.u64 words.dst.0 ++ fed.u64 words.dst.1 ++ fed.u64 words.fields
 
+-- where two tests hold together, each holds
 both : (a b : Bool) → (a && b) ≡ true → (a ≡ true) × (b ≡ true)
 both true b h = (refl, h)
 both false b h = absurd (false≢true h)
 
+-- addresses that are equal by the derived test are the same one
 address_is : (a b : Ip) → (ip_equality.ghosts).eq a b ≡ true → a ≡ b
 address_is (V4 a) (V4 b) same = ap V4 ((bytes_decides a b).0 same)
 address_is (V6 a) (V6 b) same = ap V6 ((bytes_decides a b).0 same)
 address_is (V4 a) (V6 b) same = absurd (false≢true same)
 address_is (V6 a) (V4 b) same = absurd (false≢true same)
 
+-- and so are five-tuples
 tuple_is : (a b : FiveTuple) → (tuple_equality.ghosts).eq a b ≡ true → a ≡ b
 tuple_is a b same =
     let first = both (a.proto == b.proto) _ same in
@@ -44,6 +48,7 @@ tuple_is a b same =
       dport = (unsigned_Decides a.dport b.dport).0 ports.1 i;
     }
 
+-- so these feed a hasher alike
 pub inputs_agree : (a b : FiveTuple) → (tuple_equality.ghosts).eq a b ≡ true → tuple_input a ≡ tuple_input b
 inputs_agree a b same = ap tuple_input (tuple_is a b same)
 

@@ -42,7 +42,8 @@ abbrev pub loss_of : Waiting → Handle
 loss_of w = record { tag = w.packet.tag; id = w.id }
 
 -- Of the lost packets and of the causes the same number is forgotten, and no more than stand before the last acceptance.
-pub record AreRecent (losses : List Handle) (causes : List Cause) (told : List Event) (lost : List Waiting) : Type 0 where
+pub record AreRecent (losses : List Handle) (causes : List Cause) (told : List Event) (lost : List Waiting)
+    : Type 0 where
   pub past_losses : List Handle
   pub past_causes : List Cause
   pub losses_are : map loss_of lost ≡ past_losses ++ losses

@@ -1,5 +1,5 @@
 -- A shaper as its caller sees it, and what its calls do.
-use Rattle.std.specs.Prelude.{◌≡◌, ℕ, ◌+◌, ◌-◌, ◌≤◌, ◌^◌, ◌⊎◌, false, List, [], ◌∷◌, ◌++◌, length, map, drop, slice_get, Option, Some, None, option_map, IfSome}
+use Rattle.std.specs.Prelude.{◌≡◌, ℕ, ◌+◌, ◌-◌, ◌<◌, ◌≤◌, ◌^◌, ◌⊎◌, false, List, [], ◌∷◌, ◌++◌, length, map, drop, slice_get, Option, Some, None, option_map, IfSome}
 use Rattle.std.specs.List.{flat_map}
 use Rattle.std.specs.List.Sorted.{IsPermutation}
 use Rattle.packet_core.specs.Packets.{PacketParts}
@@ -113,6 +113,12 @@ pub record IsDue (s : Shaping) : Type 0 where
   pub open' : s.sched.standing.state.closed ≡ false
   pub few : s.past.accepted + s.sched.standing.state.next_id ≤ 2 ^ 63
 
+-- A packet may come at that moment: it is in range and not before the last step's, and nothing was closed.
+pub record MayCome (s : Shaping) (moment : ℕ) : Type 0 where
+  pub later : s.sched.standing.state.last ≤ moment
+  pub soon : moment < 2 ^ 60
+  pub open' : s.sched.standing.state.closed ≡ false
+
 -- a shaper with a scheduler as new, of the same parameters and seed: its statistics go on
 abbrev pub renewed : Shaping → Shaping
 renewed s = record s {
@@ -123,7 +129,8 @@ renewed s = record s {
 
 -- A packet is accepted: the scheduler makes the step, and the packets that it drops are there to be read. No other
 -- drop was. It takes one of the enqueues that are reserved at most.
-pub record IsAccepted (old : Shaping) (moment : ℕ) (packet : PacketParts) (said : Enqueued) (new : Shaping) : Type 0 where
+pub record IsAccepted (old : Shaping) (moment : ℕ) (packet : PacketParts) (said : Enqueued) (new : Shaping)
+    : Type 0 where
   pub advances : IsAdvanced old.sched (Enqueue moment 0 packet) answer.Accepted new.sched
   pub id : said.id ≡ old.past.accepted + old.sched.standing.state.next_id
   pub flow : said.flow ≡ (discipline_of old.sched).flow_of packet.tuple
@@ -138,7 +145,8 @@ pub record IsAccepted (old : Shaping) (moment : ℕ) (packet : PacketParts) (sai
   }
 
 -- An enqueue is accepted, after a renewal if one is due and there is memory for it.
-pub record IsEnqueued (old : Shaping) (moment : ℕ) (packet : PacketParts) (said : Enqueued) (new : Shaping) : Type 0 where
+pub record IsEnqueued (old : Shaping) (moment : ℕ) (packet : PacketParts) (said : Enqueued) (new : Shaping)
+    : Type 0 where
   pub ready : Shaping
   pub renewal : (ready ≡ old) ⊎ (IsDue old × (ready ≡ renewed old))
   pub accepts : IsAccepted ready moment packet said new

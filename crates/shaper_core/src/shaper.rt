@@ -191,7 +191,7 @@ fn take_out(sent: Option<Sent>, before: u64, packets: &mut Life) -> Option<Flush
 
 impl Shaper {
     ghost use Rattle.shaper_core.specs.Faults.{IsFault};
-    ghost use Rattle.shaper_core.specs.Shapers.{AreFlushed, AreGivenBack, AreRead, FlushesAll, FlushesOne, IsAccepted, IsClosed, IsDequeued, IsDue, IsEnqueued, IsFlushed, IsRead, KeepsSent, flushed_by, lost_of, new_shaper, queued_in, renewed, totals_of};
+    ghost use Rattle.shaper_core.specs.Shapers.{AreFlushed, AreGivenBack, AreRead, FlushesAll, FlushesOne, IsAccepted, IsClosed, IsDequeued, IsDue, IsEnqueued, IsFlushed, IsRead, KeepsSent, MayCome, flushed_by, lost_of, new_shaper, queued_in, renewed, totals_of};
 
     /// A scheduler before its first step. It takes the memory for `limit` packets and one more here.
     pub fn open(alloc: Global, params: Params, seed: Seed) -> Result<Shaper, Memory>
@@ -228,6 +228,7 @@ impl Shaper {
     pub fn enqueue(&mut self, moment: u64, packet: Packet) -> Result<Enqueued, EnqueueFault>
         ensures made { IfOk result (λ said. IsEnqueued self.old moment packet said self.new) }
         ensures id { IfOk result (λ said. said.id ≡ length self.old.packets.accepted) }
+        ensures may_come { IfOk result (λ said. MayCome self.old moment) }
         ensures unread { (result ≡ Err fault.Unread) ↔ (0 < self.old.unread) }
         ensures refused { IfErr result (λ f. IsFault
             (refusal_of self.old.sched.standing.state (Enqueue moment 0 packet)) f) }
@@ -241,12 +242,15 @@ impl Shaper {
     }
 
     /// The same where each drop was read.
+    #[tactic(auto, using(crate::proofs::Refusals::may_come))]
     #[inline(always)]
     fn admit(&mut self, moment: u64, packet: Packet) -> Result<Enqueued, Refusal>
         requires { self.old.unread ≡ 0 }
         ensures made { IfOk result (λ said. IsEnqueued self.old moment packet said self.new) }
         ensures id { IfOk result (λ said. said.id ≡ length self.old.packets.accepted) }
-        ensures refused { IfErr result (IsRefusal (refusal_of self.old.sched.standing.state (Enqueue moment 0 packet))) }
+        ensures may_come { IfOk result (λ said. MayCome self.old moment) }
+        ensures refused { IfErr result
+            (IsRefusal (refusal_of self.old.sched.standing.state (Enqueue moment 0 packet))) }
         ensures reserved { 0 < self.old.sched.room
             → OnErr result (refusal_of self.old.sched.standing.state (Enqueue moment 0 packet) ≢ None) }
         ensures unchanged { OnErr result (self.new ≡ self.old) }
@@ -303,7 +307,9 @@ impl Shaper {
         requires later { self.old.sched.standing.state.last ≤ moment }
         ensures made { IfOk result (λ said. IsEnqueued self.old moment packet said self.new) }
         ensures id { IfOk result (λ said. said.id ≡ length self.old.packets.accepted) }
-        ensures refused { IfErr result (IsRefusal (refusal_of self.old.sched.standing.state (Enqueue moment 0 packet))) }
+        ensures may_come { IfOk result (λ said. MayCome self.old moment) }
+        ensures refused { IfErr result
+            (IsRefusal (refusal_of self.old.sched.standing.state (Enqueue moment 0 packet))) }
         ensures reserved { 0 < self.old.sched.room
             → OnErr result (refusal_of self.old.sched.standing.state (Enqueue moment 0 packet) ≢ None) }
         ensures unchanged { OnErr result (self.new ≡ self.old) }
@@ -318,7 +324,10 @@ impl Shaper {
         requires { self.old.unread ≡ 0 }
         ensures made { IfOk result (λ said. IsAccepted self.old moment packet said self.new) }
         ensures id { IfOk result (λ said. said.id ≡ length self.old.packets.accepted) }
-        ensures refused { IfErr result (IsRefusal (refusal_of self.old.sched.standing.state (Enqueue moment 0 packet))) }
+        ensures fits { IfOk result (λ said.
+            refusal_of self.old.sched.standing.state (Enqueue moment 0 packet) ≡ None) }
+        ensures refused { IfErr result
+            (IsRefusal (refusal_of self.old.sched.standing.state (Enqueue moment 0 packet))) }
         ensures reserved { 0 < self.old.sched.room
             → OnErr result (refusal_of self.old.sched.standing.state (Enqueue moment 0 packet) ≢ None) }
         ensures unchanged { OnErr result (self.new ≡ self.old) }

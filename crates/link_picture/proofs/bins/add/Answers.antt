@@ -1,4 +1,4 @@
-use Rattle.std.proofs.Common.{◌≡◌, ◌/◌, ap, refl, arith}
+use Rattle.std.proofs.Common.{◌/◌, ap, refl, arith}
 use Rattle.link_picture.proofs.BinLemmas.{add_in, add_out}
 use Rattle.link_picture.proofs.bins.add.Goals as goal
 

@@ -1,4 +1,4 @@
-use Rattle.std.proofs.Common.{◌≡◌, ◌==◌, arith, below_more, sym}
+use Rattle.std.proofs.Common.{◌==◌, arith, below_more, sym}
 use Rattle.std.proofs.lemmas.Bool.{eq-eqb, ne_eqb}
 use Rattle.std.proofs.lemmas.List.Sums.{position_or_len_is}
 use Rattle.link_picture.proofs.lines.line_of.Goals as goal

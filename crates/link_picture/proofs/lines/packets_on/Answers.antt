@@ -1,4 +1,4 @@
-use Rattle.std.proofs.Common.{◌≡◌, ◌∙◌, sym}
+use Rattle.std.proofs.Common.{◌∙◌, sym}
 use Rattle.link_picture.proofs.LineLemmas.{own_more, own_same}
 use Rattle.link_picture.proofs.lines.packets_on.Goals as goal
 use Rattle.link_picture.proofs.lines.packets_on.Goals.{then-line_of-line+in_ok-push, else-line_of-line}

@@ -1,4 +1,3 @@
-use Rattle.std.proofs.Common.{◌≡◌}
 use Rattle.link_picture.proofs.OctaveLemmas.{octave_is}
 use Rattle.link_picture.proofs.octaves.octave.Goals as goal
 

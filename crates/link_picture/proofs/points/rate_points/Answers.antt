@@ -1,4 +1,4 @@
-use Rattle.std.proofs.Common.{◌≡◌, ◌∙◌, sym}
+use Rattle.std.proofs.Common.{◌∙◌, sym}
 use Rattle.link_picture.proofs.PointLemmas.{rate_more}
 use Rattle.link_picture.proofs.points.rate_points.Goals as goal
 

@@ -1,4 +1,4 @@
-use Rattle.std.proofs.Common.{◌≡◌, ◌∙◌, sym}
+use Rattle.std.proofs.Common.{◌∙◌, sym}
 use Rattle.link_picture.proofs.PointLemmas.{share_more}
 use Rattle.link_picture.proofs.points.share_points.Goals as goal
 

@@ -1,4 +1,4 @@
-use Rattle.std.proofs.Common.{◌≡◌, ◌∙◌, ap}
+use Rattle.std.proofs.Common.{◌∙◌, ap}
 use Rattle.link_picture.specs.Bins.{longer}
 use Rattle.link_picture.proofs.BinLemmas.{bin_more}
 use Rattle.link_picture.proofs.bins.Bin.with.Goals as goal

@@ -1,0 +1,152 @@
+//! Runs of a link, and the tables and the picture of them.
+
+use crate::sizes::{LARGEST, SIZES, packet, params, size};
+use link_core::{
+    Arrival, Link, LinkFields, run_fifo, run_fifo_with_keeper, run_link, run_link_with_keepers,
+};
+use link_picture::picture_text;
+use link_report::{
+    Gathered, MAX_EVENTS, Packets, flows_text, packets_text, series_text_with_seed, steps_text,
+};
+use sched_core::{Event, Unstored};
+use std::process::Abort;
+use test_support::SEED;
+
+/// The link's rate, in bits a second.
+const RATE: u64 = 10_000_000_000;
+
+/// The width of bins, in microseconds.
+const EVERY: u64 = 100_000;
+
+/// So many packets come to a link, and their runs are stored.
+#[test]
+fn runs_of_a_link(rt: HostRuntime) {
+    let arrivals = arrivals(&rt);
+    let link = the_link(&rt);
+    for number in 0..SIZES {
+        assert!(rt; size(number) <= arrivals.len());
+        let (events, fifo) = stored(&rt, &link, &arrivals[..size(number)]);
+        assert_eq!(rt; events.len(), fifo.len());
+    }
+}
+
+/// The tables of packets and of five-tuples are made of them.
+#[test]
+fn tables_of_packets(rt: HostRuntime) {
+    let arrivals = arrivals(&rt);
+    let link = the_link(&rt);
+    for number in 0..SIZES {
+        assert!(rt; size(number) <= arrivals.len());
+        let (events, fifo) = stored(&rt, &link, &arrivals[..size(number)]);
+        tables(&rt, &events, &fifo);
+    }
+}
+
+/// And the table of bins, and the picture.
+#[test]
+fn tables_of_bins(rt: HostRuntime) {
+    let arrivals = arrivals(&rt);
+    let link = the_link(&rt);
+    for number in 0..SIZES {
+        assert!(rt; size(number) <= arrivals.len());
+        let (events, fifo) = stored(&rt, &link, &arrivals[..size(number)]);
+        pictures(&rt, &events, &fifo);
+    }
+}
+
+/// What makes packets while a run tells its events has them all at the end.
+#[test]
+fn packets_as_they_are_told(rt: HostRuntime) {
+    let arrivals = arrivals(&rt);
+    let link = the_link(&rt);
+    for number in 0..SIZES {
+        assert!(rt; size(number) <= arrivals.len());
+        gathered(&rt, &link, &arrivals[..size(number)]);
+    }
+}
+
+fn arrivals(rt: &(impl Abort + AllocGlobal)) -> Vec<Arrival> {
+    let mut arrivals = Vec::new(rt.alloc());
+    for number in 0..LARGEST {
+        let arrival = Arrival {
+            moment: number as u64,
+            packet: packet(rt, number),
+        };
+        arrivals.push(arrival).ok().expect(rt, "memory");
+    }
+    arrivals
+}
+
+fn the_link(rt: &impl Abort) -> Link {
+    let fields = LinkFields {
+        rate: RATE,
+        overhead: 0,
+        mpu: 0,
+    };
+    Link::try_new(fields).ok().expect(rt, "a link")
+}
+
+/// The journals of the runs of these arrivals: that of the scheduler, and that of a FIFO.
+fn stored(
+    rt: &(impl Abort + AllocGlobal),
+    link: &Link,
+    arrivals: &[Arrival],
+) -> (Vec<Event>, Vec<Event>) {
+    assert!(rt; Arrival::may_come(arrivals));
+    let engine = run_link(rt.alloc(), params(rt), SEED, link, arrivals).expect(rt, "memory");
+    let fifo = run_fifo(rt.alloc(), params(rt), SEED, link, arrivals).expect(rt, "memory");
+    let steps = steps_text(rt.alloc(), engine.steps()).expect(rt, "memory");
+    assert!(rt; steps.len() > arrivals.len());
+    let mut events = Vec::new(rt.alloc());
+    for event in engine.events() {
+        events.push(*event).ok().expect(rt, "memory");
+    }
+    (events, fifo)
+}
+
+/// The tables that have rows of packets or of five-tuples.
+fn tables(rt: &(impl Abort + AllocGlobal), events: &[Event], fifo: &[Event]) {
+    let alloc = rt.alloc();
+    assert!(rt; events.len() <= MAX_EVENTS && fifo.len() <= MAX_EVENTS);
+    let packets = Packets::with_seed(alloc, &SEED, events).expect(rt, "memory");
+    assert_eq!(rt; packets.tuples().len(), packets.records().len());
+    assert!(rt; flows_text(alloc, events, Some(fifo)).is_ok());
+    assert!(rt; packets_text(alloc, events, Some(fifo)).is_ok());
+}
+
+/// What is counted in bins.
+fn pictures(rt: &(impl Abort + AllocGlobal), events: &[Event], fifo: &[Event]) {
+    let alloc = rt.alloc();
+    assert!(rt; events.len() <= MAX_EVENTS && fifo.len() <= MAX_EVENTS);
+    assert!(rt; series_text_with_seed(alloc, &SEED, EVERY, events, Some(fifo)).is_ok());
+    assert!(rt; picture_text(alloc, RATE, EVERY, events, Some(fifo)).is_ok());
+}
+
+/// The same runs, of which packets are made as they are told.
+fn gathered(rt: &(impl Abort + AllocGlobal), link: &Link, arrivals: &[Arrival]) {
+    let alloc = rt.alloc();
+    assert!(rt; Arrival::may_come(arrivals));
+    let made = Gathered::new(alloc, &SEED, u64::MAX);
+    let engine = run_link_with_keepers(
+        alloc,
+        params(rt),
+        SEED,
+        link,
+        arrivals,
+        made,
+        Unstored::new(),
+    )
+    .expect(rt, "memory");
+    has_all(rt, engine.keeper(), arrivals.len());
+    let made = Gathered::new(alloc, &SEED, u64::MAX);
+    let fifo = run_fifo_with_keeper(alloc, params(rt), SEED, link, arrivals, made).expect(
+        rt, "memory",
+    );
+    has_all(rt, &fifo, arrivals.len());
+}
+
+/// So many packets were made.
+fn has_all(rt: &impl Abort, made: &Gathered, number: usize) {
+    let packets = made.packets().expect(rt, "memory");
+    assert_eq!(rt; packets.records().len(), number);
+}

@@ -1,0 +1,72 @@
+//! Runs by senders: through a locked port, and through lanes.
+
+use crate::sizes::{LARGEST, SIZES, packet, params, size};
+use run_core::{run_lanes, run_locked};
+use sched_core::Step;
+use sender_core::{lists_of, packets_of};
+use std::process::Abort;
+use std::sync::Wait;
+use std::thread::Threads;
+use test_support::SEED;
+
+/// How many senders there are.
+const SENDERS: u32 = 2;
+
+/// The packets of each sender are listed.
+#[test]
+fn lists_of_senders(rt: HostRuntime) {
+    let steps = enqueues(&rt);
+    for number in 0..SIZES {
+        assert!(rt; size(number) <= steps.len());
+        listed(&rt, &steps[..size(number)]);
+    }
+}
+
+/// The senders have a lock.
+#[test]
+fn locked_runs(rt: HostRuntime) {
+    let steps = enqueues(&rt);
+    for number in 0..SIZES {
+        assert!(rt; size(number) <= steps.len());
+        sent_locked(&rt, &steps[..size(number)]);
+    }
+}
+
+/// The senders have lanes, and a monitor reads.
+#[test]
+fn runs_by_lanes(rt: HostRuntime) {
+    let steps = enqueues(&rt);
+    for number in 0..SIZES {
+        assert!(rt; size(number) <= steps.len());
+        sent_by_lanes(&rt, &steps[..size(number)]);
+    }
+}
+
+fn enqueues(rt: &(impl Abort + AllocGlobal)) -> Vec<Step> {
+    let mut steps = Vec::new(rt.alloc());
+    for number in 0..LARGEST {
+        let step = Step::Enqueue {
+            moment: 1,
+            lane: 0,
+            packet: packet(rt, number),
+        };
+        steps.push(step).ok().expect(rt, "memory");
+    }
+    steps
+}
+
+fn listed(rt: &(impl Abort + AllocGlobal), steps: &[Step]) {
+    let lists = lists_of(rt.alloc(), &params(rt), &SEED, SENDERS, steps);
+    let lists = lists.ok().expect(rt, "memory");
+    assert!(rt; packets_of(rt.alloc(), &lists).is_ok());
+}
+
+fn sent_locked(rt: &(impl Abort + AllocGlobal + Threads + Wait + Sync), steps: &[Step]) {
+    let ran = run_locked(rt, rt.alloc(), params(rt), SEED, SENDERS, steps);
+    assert!(rt; ran.is_ok());
+}
+
+fn sent_by_lanes(rt: &(impl Abort + AllocGlobal + Threads + Wait + Sync), steps: &[Step]) {
+    let ran = run_lanes(rt, rt.alloc(), params(rt), SEED, SENDERS, 1, steps);
+    assert!(rt; ran.is_ok());
+}

@@ -1,0 +1,46 @@
+//! The sizes, and packets of as many five-tuples. Where a step fails the test ends there.
+
+ghost use Rattle.std.specs.Prelude.{◌≤◌};
+
+use packet_core::{Ecn, FiveTuple, Ip, Packet, ParamFields, Params};
+use std::process::Abort;
+use test_support::by_port;
+
+/// How many sizes there are.
+pub(crate) const SIZES: usize = 40;
+
+/// The largest of them.
+pub(crate) const LARGEST: usize = 1_048_577;
+
+/// The size of that number: of each power of two from 2 to 2^20 the power, and the number after it.
+pub(crate) fn size(number: usize) -> usize
+    ensures { result ≤ LARGEST }
+{
+    let power = 1usize << (1 + number / 2 % 20);
+    power.saturating_add(number % 2).min(LARGEST)
+}
+
+/// A packet of the five-tuple of that number. Up to 2^32 they all differ.
+pub(crate) fn packet<R: Abort>(rt: &R, number: usize) -> Packet {
+    let [_, _, _, _, a, b, c, d] = number.to_be_bytes();
+    let tuple = FiveTuple {
+        proto: 17,
+        src: Ip::V4([a, b, c, d]),
+        dst: Ip::V4([10, 0, 0, 2]),
+        sport: 5_000,
+        dport: u16::from_be_bytes([c, d]),
+    };
+    Packet::try_new(tuple, 1_000, Ecn::NotEct).expect(rt, "a packet")
+}
+
+/// Parameters for 1,024 flows by the destination port, and as many packets as may wait.
+pub(crate) fn params<R: Abort>(rt: &R) -> Params {
+    let mut fields = by_port(1_024);
+    fields.limit = 1_048_576;
+    params_of(rt, fields)
+}
+
+/// Those parameters.
+pub(crate) fn params_of<R: Abort>(rt: &R, fields: ParamFields) -> Params {
+    Params::try_new(fields).ok().expect(rt, "parameters")
+}
