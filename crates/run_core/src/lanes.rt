@@ -66,7 +66,7 @@ pub fn run_lanes<H: Threads + Wait + Sync>(
     Ok(run)
 }
 
-/// The room that a lane needs for all packets of any of these lists. The first list that no lane has room for is a fault.
+/// The room that a lane needs for all packets of any of these lists. The first that no lane has room for is a fault.
 fn capacity_of(lists: &[Vec<Packet>]) -> Result<u32, SendersFault>
     requires { length lists.now ≤ MAX_SENDERS }
     ensures ok { IfOk result (λ capacity. (0 < capacity) × (capacity ≤ MAX_CAPACITY)) }
@@ -148,8 +148,8 @@ fn run_opened<
     run_watched(rt, alloc, senders, device, monitors, readers, steps, lists)
 }
 
-/// Makes the run. Its monitors, of which the number is `readers`, read in threads of their own until it has ended. Where
-/// no thread can be made, the run ends before the first of them reads.
+/// Makes the run. Its monitors, of which the number is `readers`, read in threads of their own until it has ended.
+/// Where no thread can be made, the run ends before the first of them reads.
 fn run_watched<
     J: BookName + Send + Sync,
     X: Screen<Shown<J>> + Drop + Send,

@@ -148,8 +148,8 @@ fn close<A: Ledger, S: Ledger, H: Wait>(
     closed_once(port.close(rt, moment))
 }
 
-/// Closes, unless there was a close, and takes packets at the last moment until none waits: one more than so many, if none
-/// of these finds no packet.
+/// Closes, unless there was a close, and takes packets at the last moment until none waits, or one more than `most` are
+/// taken.
 fn emptied<A: Ledger, S: Ledger, H: Wait>(
     rt: &H,
     port: &LockedPort<A, S>,
