@@ -1,3 +1,5 @@
+pub mod ClosingLemmas
 pub mod DeviceRunLemmas
 pub mod JournalLemmas
+pub mod LaneRoomLemmas
 pub mod LaneRunLemmas

@@ -1,14 +1,16 @@
 //! The run of steps by senders that are threads, through lanes into a device.
-ghost use Rattle.std.specs.Prelude.{◌≡◌, ◌≢◌, ◌≤◌, ◌<◌, ◌++◌, ◌⊎◌, [], ℕ, All, IfErr, IfOk, IsOk, None, OnOk, false, length, slice_index_or, true};
+ghost use Rattle.std.specs.Prelude.{◌≡◌, ◌≢◌, ◌≤◌, ◌<◌, ◌-◌, ◌++◌, ◌⊎◌, [], ℕ, All, IfErr, IfOk, IsOk, None, OnErr, OnOk, false, length, max, slice_index_or, true};
 ghost use denote.Param.Send.{IsSync};
 ghost use Rattle.journal_core.specs.declared.step.Step.TheVariants.{Dequeue};
-ghost use Rattle.port_core.specs.Devices.{AreNewLanes, rings_of};
+ghost use Rattle.journal_core.specs.State.{IsRefusal};
+ghost use Rattle.port_core.specs.Devices.{AreNewLanes, Pumps, TakesAllLeft, fed_of, pump_refusal_of, rings_of};
 ghost use Rattle.port_core.specs.Lanes.{LaneView, accepted};
 ghost use Rattle.port_core.specs.declared.gate.Stop.TheVariants as stop;
 ghost use Rattle.port_core.specs.declared.opening.TheConstants.{MAX_CAPACITY, MAX_MONITORS};
 ghost use Rattle.sender_core.specs.declared.interleaving.TheConstants.{MAX_SENDERS};
 ghost use Rattle.run_core.specs.DeviceRuns.{Dequeues, EmptiesLane, EndsRun, Finishes, HasServed, IsAny, IsBurst, IsDeviceRun, IsIdle, PumpsAll, ServesRow, closed_at, has_close, last_moment};
 ghost use Rattle.run_core.specs.Journals.{AreLaneRows, AreLanesJournal, FitsLane, IsLaneRow, IsLanesRunOf, IsSameDevice, ShowsAll, submitted_of};
+ghost use Rattle.run_core.specs.LaneRooms.{IsTooLong, capacity_for};
 ghost use Rattle.run_core.specs.Seeing.{IsSeen};
 ghost use Rattle.run_core.specs.SendersFaults.{IsLanesRunFault};
 ghost use Rattle.run_core.specs.declared.senders_fault.SendersFault.TheVariants as senders_fault;
@@ -18,8 +20,8 @@ use crate::room::{BURST, stores};
 use crate::senders_fault::SendersFault;
 use packet_core::{Packet, Params, Seed};
 use port_core::{
-    BookBlank, BookName, Device, LaneDone, LaneSender, Layout, MAX_CAPACITY, MAX_MONITORS, Open,
-    Opened, PublishFault, Screen, Seen, Shown, Stop, lanes_with_keepers,
+    BookBlank, BookName, Device, LaneDone, LaneSender, Layout, MAX_CAPACITY, MAX_MONITORS, Monitor,
+    Open, Opened, PublishFault, Screen, Seen, Shown, Stop, lanes_with_keepers,
 };
 use sched_core::{Engine, Refusal, Step};
 use sender_core::{Expected, MAX_SENDERS, device_moment, lists_of, packets_of, start_lanes};
@@ -64,10 +66,12 @@ pub fn run_lanes<H: Threads + Wait + Sync>(
     Ok(run)
 }
 
-/// The room that a lane needs for all packets of any of these lists. A list that no lane has room for is a fault.
+/// The room that a lane needs for all packets of any of these lists. The first that no lane has room for is a fault.
 fn capacity_of(lists: &[Vec<Packet>]) -> Result<u32, SendersFault>
     requires { length lists.now ≤ MAX_SENDERS }
     ensures ok { IfOk result (λ capacity. (0 < capacity) × (capacity ≤ MAX_CAPACITY)) }
+    ensures room { IfOk result (λ capacity. capacity ≡ capacity_for lists.now) }
+    ensures too_long { IfErr result (IsTooLong lists.now) }
     ensures fault { IfErr result (IsLanesRunFault (length lists.now)) }
 {
     let mut capacity = 1;
@@ -111,8 +115,7 @@ fn run_in_book<J: BookName + Send + Sync, H: Threads + Wait + Sync>(
     run_opened(rt, alloc, opened, steps, lists)
 }
 
-/// Makes the run through lanes that were just opened. Its monitors read in threads of their own until it has ended.
-/// Where no thread can be made, the run ends before the first of them reads.
+/// Makes the run through lanes that were just opened.
 fn run_opened<
     J: BookName + Send + Sync,
     X: Screen<Shown<J>> + Drop + Send,
@@ -142,12 +145,39 @@ fn run_opened<
         monitors,
     } = opened;
     let readers = monitors.len();
+    run_watched(rt, alloc, senders, device, monitors, readers, steps, lists)
+}
+
+/// Makes the run. Its monitors, of which the number is `readers`, read in threads of their own until it has ended.
+/// Where no thread can be made, the run ends before the first of them reads.
+fn run_watched<
+    J: BookName + Send + Sync,
+    X: Screen<Shown<J>> + Drop + Send,
+    H: Threads + Wait + Sync,
+>(
+    rt: &H,
+    alloc: Global,
+    senders: Vec<LaneSender>,
+    device: Device<J, X>,
+    monitors: Vec<Monitor<J>>,
+    readers: usize,
+    steps: &[Step],
+    lists: &[Vec<Packet>],
+) -> Result<(Engine, Vec<SenderRow>, Vec<Seen>), SendersFault>
+    requires lanes { AreNewLanes senders.items device.lanes (length lists.now) }
+    requires number { length lists.now ≤ MAX_SENDERS }
+    requires readers { readers ≡ length monitors.items }
+    ensures made { IfOk result (λ r. IsLanesRunOf device steps.now lists.now r.0 r.1.items) }
+    ensures seen { IfOk result (λ r. (length r.2.items ≡ length monitors.items) × All IsSeen r.2.items) }
+    ensures fault { IfErr result (IsLanesRunFault (length lists.now)) }
+{
     let ended = AtomicBool::new(false);
     let over = &ended;
     let run = move || -> Result<(Device<J, X>, Vec<SenderRow>), SendersFault>
         requires { IsSync H.row × AreNewLanes senders.items device.lanes (length lists.now)
             × (length lists.now ≤ MAX_SENDERS) }
-        ensures { IfOk result (λ r. IsLanesRunOf device steps.entry.now lists.entry.now r.0.engine r.1.items)
+        ensures { IfOk result (λ r. IsLanesRunOf device steps.entry.now lists.entry.now r.0.engine r.1.items
+            × (0 < readers → ShowsAll r.0))
             × IfErr result (IsLanesRunFault (length lists.entry.now)) }
     {
         let made = run_device(rt, alloc, senders, device, steps, lists, readers);
@@ -312,9 +342,29 @@ fn pump_all<J: BookName, X: Screen<Shown<J>> + Drop>(
         return Ok(());
     }
     for lane in 0..device.lanes() {
-        device.pump(lane, now, BURST)?;
+        pump(device, lane, now)?;
     }
     Ok(())
+}
+
+/// Takes packets from a lane, a burst at most, and answers how many.
+fn pump<J: BookName, X: Screen<Shown<J>> + Drop>(
+    device: &mut Device<J, X>,
+    lane: u32,
+    now: u64,
+) -> Result<u64, Refusal>
+    requires lane { lane < length device.old.lanes }
+    ensures rest { device.new.published ≡ device.old.published }
+    ensures pumped { IfOk result (λ k. Pumps (fed_of device.old) lane now k (fed_of device.new)) }
+    ensures burst { IfOk result (λ k. k ≤ 64) }
+    ensures left { IfOk result (λ k. TakesAllLeft device.old.lanes lane 64 k) }
+    ensures room { IfOk result (λ k. device.new.engine.room ≡ max device.old.engine.room 64 - k) }
+    ensures rings { rings_of device.new.lanes ≡ rings_of device.old.lanes }
+    ensures fits { OnOk result (pump_refusal_of device.old.engine.sched.standing.state now 64 ≡ None) }
+    ensures refused { IfErr result (IsRefusal (pump_refusal_of device.old.engine.sched.standing.state now 64)) }
+    ensures unchanged { OnErr result (device.new ≡ device.old) }
+{
+    device.pump(lane, now, BURST)
 }
 
 /// Closes, unless there was a close.
@@ -457,7 +507,7 @@ fn emptied<J: BookName, X: Screen<Shown<J>> + Drop>(
     let now = last_moment(device);
     let mut left = left;
     while left > 0 {
-        left -= device.pump(lane, now, BURST)?;
+        left -= pump(device, lane, now)?;
     }
     Ok(left)
 }

@@ -1,6 +1,8 @@
 //! The run of steps by senders that are threads, through a locked port.
-ghost use Rattle.std.specs.Prelude.{◌≡◌, ◌≢◌, ◌≤◌, ◌<◌, ◌+◌, ◌-◌, ℕ, All, IfErr, IfOk, OnOk, length, map};
+ghost use Rattle.std.specs.Prelude.{◌≡◌, ◌≢◌, ◌≤◌, ◌<◌, ◌+◌, ◌-◌, ◌⊎◌, ℕ, All, IfErr, IfOk, None, OnOk, length, map};
 ghost use Rattle.journal_core.specs.declared.step.Refusal.TheVariants.{ClosedAlready};
+ghost use Rattle.journal_core.specs.declared.step.Step.TheVariants.{Close};
+ghost use Rattle.port_core.specs.LockedCalls.{IsClosedBy, IsRefusedBy, IsServedBy};
 ghost use Rattle.sender_core.specs.Senders.{AreCalls};
 ghost use Rattle.sender_core.specs.declared.interleaving.TheConstants.{MAX_SENDERS};
 ghost use Rattle.port_core.specs.declared.gate.Stop.TheVariants as stop;
@@ -13,7 +15,7 @@ use crate::senders_fault::SendersFault;
 use packet_core::{Packet, Params, Seed};
 use port_core::{LockedDone, LockedPort, Open, PortSeat, Stop};
 use sched_core::{Engine, Refusal, Step};
-use sender_core::{Expected, MAX_SENDERS, is_whole, lists_of, start_locked};
+use sender_core::{Expected, MAX_SENDERS, closed_once, is_whole, lists_of, start_locked};
 use std::alloc::Global;
 use std::marker::Brand;
 use std::sync::Wait;
@@ -139,29 +141,31 @@ fn close<A: Ledger, S: Ledger, H: Wait>(
     port: &LockedPort<A, S>,
     moment: u64,
 ) -> Result<(), Refusal>
-    ensures { IfErr result (λ why. why ≢ ClosedAlready) }
+    ensures made { OnOk result (((at : ℕ) × IsClosedBy moment at) ⊎ IsRefusedBy Close moment ClosedAlready) }
+    ensures refused { IfErr result (IsRefusedBy Close moment) }
+    ensures other { IfErr result (λ why. why ≢ ClosedAlready) }
 {
-    match port.close(rt, moment) {
-        Ok(_) | Err(Refusal::ClosedAlready) => Ok(()),
-        Err(refusal) => Err(refusal),
-    }
+    closed_once(port.close(rt, moment))
 }
 
-/// Closes, unless there was a close, and takes packets, at most so many, at the last moment, until none waits.
+/// Closes, unless there was a close, and takes packets at the last moment until none waits, or one more than `most` are
+/// taken.
 fn emptied<A: Ledger, S: Ledger, H: Wait>(
     rt: &H,
     port: &LockedPort<A, S>,
     seat: PortSeat<A, S>,
     most: usize,
 ) -> Result<PortSeat<A, S>, Refusal>
-    ensures { IfOk result (λ r. (r.lane ≡ seat.lane) × (r.told ≡ seat.told)) }
+    ensures seat { IfOk result (λ r. (r.lane ≡ seat.lane) × (r.told ≡ seat.told)) }
+    ensures ends { IfOk result (λ r. IsServedBy 0 None ⊎ (r.sent ≡ seat.sent + (most + 1))) }
+    ensures most { IfOk result (λ r. (seat.sent ≤ r.sent) × (r.sent ≤ seat.sent + (most + 1))) }
 {
     let mut seat = seat;
     // A step at 0 is made at the last moment.
     close(rt, port, 0)?;
     for _packet in 0..=most {
         if port.dequeue(rt, &mut seat, 0)?.is_none() {
-            break;
+            return Ok(seat);
         }
     }
     Ok(seat)

@@ -9,8 +9,8 @@ use Rattle.run_core.proofs.lanes.emptied.Goals.{In_ok-left}
 
 -- a pump has taken some of what is left
 taken : (g : Over) (c : In_ok-left g) → (c.in_ok-left.field-0 ≤ c.loop-left.left) × (0 < c.loop-left.left → 0 < c.in_ok-left.field-0)
-    × Emptying c.args.device.now c.args.lane c.last_moment-now.result (c.loop-left.left - c.in_ok-left.field-0) c.pump.new.self
-taken g c = emptying_more c.args.device.now c.loop-left.device c.pump.new.self c.args.lane c.last_moment-now.result c.loop-left.left c.in_ok-left.field-0
+    × Emptying c.args.device.now c.args.lane c.last_moment-now.result (c.loop-left.left - c.in_ok-left.field-0) c.pump.new.device
+taken g c = emptying_more c.args.device.now c.loop-left.device c.pump.new.device c.args.lane c.last_moment-now.result c.loop-left.left c.in_ok-left.field-0
     (omega (arith, c.requires.lane, c.loop-left.invariant.same.number)) c.loop-left.invariant c.in_ok-left.ensures.pumped c.in_ok-left.ensures.left c.in_ok-left.ensures.rings
 
 pub returns-in_err-left-clause-others : goal.returns-in_err-left-clause-others

@@ -11,9 +11,9 @@ pub loop-lane-preserved : goal.loop-lane-preserved
 loop-lane-preserved g c =
     let pumped = c.in_ok-pump.ensures.pumped in
     let few : length pumped.packets ≤ 64 = omega (arith, pumped.count, c.in_ok-pump.ensures.burst) in (
-      same_more c.args.device.now c.loop-lane.device c.pump.new.self c.loop-lane.invariant.0
-          (pumped_same c.loop-lane.device c.pump.new.self c.loop-lane.lane c.args.now c.pump.result c.pump.ensures.pumped c.pump.ensures.rings c.pump.ensures.unchanged),
-      pumps_next IsBurst c.args.now c.loop-lane.lane c.args.device.now.engine.steps c.loop-lane.device.engine.steps c.pump.new.self.engine.steps pumped.packets
+      same_more c.args.device.now c.loop-lane.device c.pump.new.device c.loop-lane.invariant.0
+          (pumped_same c.loop-lane.device c.pump.new.device c.loop-lane.lane c.args.now c.pump.result c.pump.ensures.pumped c.pump.ensures.rings c.pump.ensures.unchanged),
+      pumps_next IsBurst c.args.now c.loop-lane.lane c.args.device.now.engine.steps c.loop-lane.device.engine.steps c.pump.new.device.engine.steps pumped.packets
           c.loop-lane.invariant.1 few pumped.steps,
     )
 

@@ -1,5 +1,5 @@
 -- The device that was opened has made no step yet, and it has as many monitors as were asked for.
-use Rattle.std.proofs.Common.{◌≡◌, ◌∙◌, [], ap, false, length, refl}
+use Rattle.std.proofs.Common.{◌≡◌, ◌∙◌, [], ap, false, length}
 use Rattle.std.proofs.lemmas.Result.{IfOk-weaker}
 use Rattle.std.proofs.lemmas.List.{length-replicate}
 use Rattle.sched_core.specs.Engines.{Running}
