@@ -2,6 +2,7 @@ pub mod ArrivalTexts
 pub mod CommandLine
 pub mod Faults
 pub mod FaultsOn
+pub mod Fields
 pub mod InputFaults
 pub mod PlainWords
 pub mod Rates

@@ -1,5 +1,8 @@
 //! The fields of a row, and the one that a fault stands in.
 
+ghost use Rattle.std.specs.Prelude.{◌≡◌, ◌⊎◌, IfOk};
+ghost use Rattle.link_command.specs.Fields.{HasNumber, StandsIn, greatest_of, place_of};
+
 use crate::faults::RowFault;
 use csv::ByteRecord;
 use packet_core::read_numeral;
@@ -53,7 +56,9 @@ const NUMBERS: [FieldName; 5] = [
 
 impl FieldName {
     /// Its place in a row, from 1.
-    pub fn number(self) -> usize {
+    pub fn number(self) -> usize
+        ensures { result ≡ place_of self }
+    {
         match self {
             FieldName::Kind => 1,
             FieldName::Version | FieldName::Moment => 2,
@@ -68,7 +73,9 @@ impl FieldName {
     }
 
     /// The greatest number that it may have, where it has a number.
-    fn greatest(self) -> u64 {
+    fn greatest(self) -> u64
+        ensures { result ≡ greatest_of self }
+    {
         match self {
             FieldName::Moment => (1 << 60) - 1,
             FieldName::Proto => 255,
@@ -91,7 +98,9 @@ pub(crate) fn faulty_field(
     what: RowFault,
     row: &ByteRecord,
     first: &ByteRecord,
-) -> Result<Option<FieldName>, AllocError> {
+) -> Result<Option<FieldName>, AllocError>
+    ensures { IfOk result (StandsIn what) }
+{
     Ok(match what {
         RowFault::NotAnArrival | RowFault::Trace(TraceFaultKind::BadKind) => Some(FieldName::Kind),
         RowFault::TooLate | RowFault::Backwards => Some(FieldName::Moment),
@@ -109,7 +118,9 @@ pub(crate) fn faulty_field(
 }
 
 /// The field of a row that has no number, or one that it may not have, where it is to have one.
-fn faulty_number(row: &ByteRecord) -> FieldName {
+fn faulty_number(row: &ByteRecord) -> FieldName
+    ensures { HasNumber result }
+{
     match FieldName::Kind.in_row(row) {
         b"enq" => {}
         b"version" => return FieldName::Version,
@@ -130,7 +141,9 @@ fn faulty_address(
     alloc: Global,
     row: &ByteRecord,
     first: &ByteRecord,
-) -> Result<FieldName, AllocError> {
+) -> Result<FieldName, AllocError>
+    ensures { IfOk result (λ name. (name ≡ FieldName.Src) ⊎ (name ≡ FieldName.Dst)) }
+{
     let address = FieldName::Src.in_row(row);
     let mut trace = Vec::new(alloc);
     if FieldName::Kind.in_row(first) == b"version".as_slice() {

@@ -134,6 +134,7 @@ fn thousand_flows(rt: HostRuntime) {
         &text,
         &[
             ">999: udp 10.0.0.1:5000</text>",
+            ">to 10.0.0.2:999</text>",
             ">4: udp",
             ">the other 994</text>",
         ],

@@ -1,0 +1,46 @@
+//! Addresses of IPv6 in a legend.
+
+use crate::journals::{has_all, picture};
+use journal_core::{Event, Mark};
+use packet_core::{Ecn, FiveTuple, Ip, Packet};
+
+/// An address is eight numbers of two bytes each, the first byte the higher, in their order and without leading zeros.
+#[test]
+fn addresses_of_ipv6(rt: HostRuntime) {
+    let tuple = FiveTuple {
+        proto: 6,
+        src: Ip::V6([
+            0x20, 0x01, 0x0d, 0xb8, 0x12, 0x34, 0x00, 0x56, 0x78, 0x9a, 0xbc, 0xde, 0xf0, 0x11,
+            0x00, 0x22,
+        ]),
+        dst: Ip::V6([
+            0xfe, 0x80, 0x33, 0x44, 0x55, 0x66, 0x77, 0x88, 0x99, 0xaa, 0xbb, 0xcc, 0xdd, 0xee,
+            0xff, 0x00,
+        ]),
+        sport: 5_000,
+        dport: 443,
+    };
+    let events = [
+        Event::Accepted {
+            lane: 0,
+            id: 0,
+            moment: 0,
+            flow: 0,
+            packet: Packet::try_new(tuple, 100, Ecn::NotEct).expect(&rt, "a packet"),
+        },
+        Event::Sent {
+            id: 0,
+            moment: 10,
+            ecn: Ecn::NotEct,
+            mark: Mark::NoMark,
+        },
+    ];
+    has_all(
+        &rt,
+        &picture(&rt, &events, None),
+        &[
+            ">0: tcp [2001:db8:1234:56:789a:bcde:f011:22]:5000</text>",
+            ">to [fe80:3344:5566:7788:99aa:bbcc:ddee:ff00]:443</text>",
+        ],
+    );
+}
