@@ -1,6 +1,6 @@
 //! Runs of a link, and the tables and the picture of them.
 
-use crate::sizes::{LARGEST, SIZES, packet, params, size};
+use crate::sizes::{LARGEST, SIZES, first, packet, params, size};
 use link_core::{
     Arrival, Link, LinkFields, run_fifo, run_fifo_with_keeper, run_link, run_link_with_keepers,
 };
@@ -24,8 +24,7 @@ fn runs_of_a_link(rt: HostRuntime) {
     let arrivals = arrivals(&rt);
     let link = the_link(&rt);
     for number in 0..SIZES {
-        assert!(rt; size(number) <= arrivals.len());
-        stored(&rt, &link, &arrivals[..size(number)]);
+        stored(&rt, &link, first(&rt, &arrivals, size(number)));
     }
 }
 
@@ -34,8 +33,7 @@ fn runs_of_a_link(rt: HostRuntime) {
 fn tables_of_packets(rt: HostRuntime) {
     let events = journal(&rt);
     for number in 0..SIZES {
-        assert!(rt; 2 * size(number) <= events.len());
-        tables(&rt, &events[..2 * size(number)]);
+        tables(&rt, first(&rt, &events, 2 * size(number)));
     }
 }
 
@@ -44,8 +42,7 @@ fn tables_of_packets(rt: HostRuntime) {
 fn tables_of_bins(rt: HostRuntime) {
     let events = journal(&rt);
     for number in 0..SIZES {
-        assert!(rt; 2 * size(number) <= events.len());
-        pictures(&rt, &events[..2 * size(number)]);
+        pictures(&rt, first(&rt, &events, 2 * size(number)));
     }
 }
 
@@ -55,8 +52,7 @@ fn packets_as_they_are_told(rt: HostRuntime) {
     let arrivals = arrivals(&rt);
     let link = the_link(&rt);
     for number in 0..SIZES {
-        assert!(rt; size(number) <= arrivals.len());
-        gathered(&rt, &link, &arrivals[..size(number)]);
+        gathered(&rt, &link, first(&rt, &arrivals, size(number)));
     }
 }
 

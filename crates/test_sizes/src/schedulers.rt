@@ -1,6 +1,6 @@
 //! Schedulers, engines, shapers and choosers of flows.
 
-use crate::sizes::{LARGEST, SIZES, packet, params, params_of, size};
+use crate::sizes::{LARGEST, SIZES, first, packet, params, params_of, size};
 use packet_core::ParamFields;
 use sched_core::{Engine, FlowChooser, Sched, Step, run_steps};
 use shaper_core::Shaper;
@@ -110,8 +110,12 @@ fn step_lists(rt: &(impl Abort + AllocGlobal)) {
         steps.push(step).ok().expect(rt, "memory");
     }
     for number in 0..SIZES {
-        assert!(rt; size(number) <= steps.len());
-        let ran = run_steps(rt.alloc(), params(rt), SEED, &steps[..size(number)]);
+        let ran = run_steps(
+            rt.alloc(),
+            params(rt),
+            SEED,
+            first(rt, &steps, size(number)),
+        );
         assert!(rt; ran.is_ok());
     }
 }

@@ -1,6 +1,6 @@
 //! Runs by senders: through a locked port, and through lanes.
 
-use crate::sizes::{LARGEST, SIZES, packet, params, size};
+use crate::sizes::{LARGEST, SIZES, first, packet, params, size};
 use run_core::{run_lanes, run_locked};
 use sched_core::Step;
 use sender_core::{lists_of, packets_of};
@@ -17,8 +17,7 @@ const SENDERS: u32 = 2;
 fn lists_of_senders(rt: HostRuntime) {
     let steps = enqueues(&rt);
     for number in 0..SIZES {
-        assert!(rt; size(number) <= steps.len());
-        listed(&rt, &steps[..size(number)]);
+        listed(&rt, first(&rt, &steps, size(number)));
     }
 }
 
@@ -27,8 +26,7 @@ fn lists_of_senders(rt: HostRuntime) {
 fn locked_runs(rt: HostRuntime) {
     let steps = enqueues(&rt);
     for number in 0..SIZES {
-        assert!(rt; size(number) <= steps.len());
-        sent_locked(&rt, &steps[..size(number)]);
+        sent_locked(&rt, first(&rt, &steps, size(number)));
     }
 }
 
@@ -37,8 +35,7 @@ fn locked_runs(rt: HostRuntime) {
 fn runs_by_lanes(rt: HostRuntime) {
     let steps = enqueues(&rt);
     for number in 0..SIZES {
-        assert!(rt; size(number) <= steps.len());
-        sent_by_lanes(&rt, &steps[..size(number)]);
+        sent_by_lanes(&rt, first(&rt, &steps, size(number)));
     }
 }
 

@@ -20,6 +20,12 @@ pub(crate) fn size(number: usize) -> usize
     power.saturating_add(number % 2).min(LARGEST)
 }
 
+/// The first so many of a list.
+pub(crate) fn first<'a, T, R: Abort>(rt: &R, list: &'a [T], many: usize) -> &'a [T] {
+    assert!(rt; many <= list.len());
+    &list[..many]
+}
+
 /// A packet of the five-tuple of that number. Up to 2^32 they all differ.
 pub(crate) fn packet<R: Abort>(rt: &R, number: usize) -> Packet {
     let [_, _, _, _, a, b, c, d] = number.to_be_bytes();
