@@ -1,5 +1,5 @@
 //! Tests over many sizes, in which no growth is refused: so no call may answer that memory is missing. The sizes stand on
-//! both sides of each power of two up to 2^20, since lists and tables grow there. No clause says that a call which
+//! both sides of each power of two up to 2^17, since lists and tables grow there. No clause says that a call which
 //! answers `Memory` had a growth refused. `test_allocations` refuses growths, one by one.
 #![tactic(auto)]
 
