@@ -28,7 +28,7 @@ use Rattle.shaper_core.specs.Calls.{AreCalled, Call, IsCalled, answered, given_b
 use Rattle.shaper_core.specs.Calls.Call.{enqueued, dequeued, read, flushed, closed}
 use Rattle.shaper_core.specs.Laws.{IsLawful}
 use Rattle.shaper_core.specs.ShaperKept.{AreBalanced}
-use Rattle.shaper_core.specs.Shapers.{AreFlushed, AreRead, FindsNone, IsAccepted, IsClosed, IsDequeued, IsDue, IsEnqueued, Shaping, drop_handle, events_of, handle_of, lost_of, new_shaper, renewed, renumbered, sent_handle, sent_handles, unread_packets, waiting_packets}
+use Rattle.shaper_core.specs.Shapers.{AreFlushed, AreRead, FindsNone, IsAccepted, IsClosed, IsDequeued, IsDue, IsEnqueued, Shaping, drop_handle, events_of, handle_of, lost_of, new_shaper, renewed, renumbered, sent_handle, sent_handles, unread_packets, unrenewed, waiting_packets}
 use Rattle.shaper_core.proofs.Balanced.{gone_sum, sum_push}
 use Rattle.shaper_core.proofs.Multisets.{Tells, same_sums}
 use Rattle.shaper_core.proofs.Renewals.{none_queued, renewed_balanced}
@@ -104,16 +104,29 @@ renews old steady due = record {
   gone = λ f. omega arith;
 }
 
+-- what is noted of a renewal that wasn't made
+notes : (old : Shaping) (moment : ℕ) → IsSteady old → Step' old [] [] (unrenewed old moment)
+notes old moment steady = record {
+  steady = record { steps = steady.steps; run = steady.run; range = steady.range; few = steady.few; balanced = steady.balanced };
+  accepted = λ f. omega arith;
+  gone = λ f. omega arith;
+}
+
 enqueues : (old new : Shaping) (moment : ℕ) (packet : PacketParts) (said : Enqueued) → IsSteady old → IsEnqueued old moment packet said new → Step' old (record { tag = packet.tag; id = said.id } ∷ []) [] new
 enqueues old new moment packet said steady e =
-    let handle : Handle = record { tag = packet.tag; id = said.id } in
     elim e.renewal [
-      | inl same ↦ accepts old new moment packet said steady (subst (λ (s : Shaping). IsAccepted s moment packet said new) same e.accepts)
-      | inr anew ↦
-          let first = renews old steady anew.0 in
-          joins old (renewed old) new [] (handle ∷ []) [] [] first
-          (accepts (renewed old) new moment packet said first.steady (subst (λ (s : Shaping). IsAccepted s moment packet said new) anew.1 e.accepts))
+      | inl same ↦ accepts old new moment packet said steady (subst (λ (s : Shaping). IsAccepted s moment packet said new) same.1 e.accepts)
+      | inr due ↦
+          elim due.1 [
+            | inl anew ↦ after (renewed old) (renews old steady due.0) anew
+            | inr late ↦ after (unrenewed old moment) (notes old moment steady) late
+          ]
     ]
+  where
+    after : (ready : Shaping) → Step' old [] [] ready → e.ready ≡ ready → Step' old (record { tag = packet.tag; id = said.id } ∷ []) [] new
+    after ready first same =
+        joins old ready new [] (record { tag = packet.tag; id = said.id } ∷ []) [] [] first
+        (accepts ready new moment packet said first.steady (subst (λ (s : Shaping). IsAccepted s moment packet said new) same e.accepts))
 
 closes : (old new : Shaping) (moment : ℕ) → IsSteady old → IsClosed old moment new → Step' old [] [] new
 closes old new moment steady a =

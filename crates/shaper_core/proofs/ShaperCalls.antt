@@ -1,5 +1,5 @@
 -- What the calls of a shaper say.
-use Rattle.std.proofs.Common.{◌≡◌, ◌≢◌, ℕ, ◌+◌, ◌-◌, ◌<◌, ◌≤◌, ◌^◌, ◌⊎◌, List, ◌++◌, length, map, sum_by, Option, Some, None, option_map, Result, Ok, Err, IsSomeAnd, refl, ap, subst, sym, ◌∙◌, inl, inr, arith, append-nil}
+use Rattle.std.proofs.Common.{◌≡◌, ◌≢◌, ℕ, ◌+◌, ◌-◌, ◌<◌, ◌≤◌, ◌^◌, ◌⊎◌, Bool, true, false, List, ◌++◌, length, map, sum_by, Option, Some, None, option_map, Result, Ok, Err, IsSomeAnd, refl, ap, subst, sym, ◌∙◌, inl, inr, arith, append-nil}
 use Rattle.std.specs.Prelude.{IfErr, IfOk, IfSome, OnErr}
 use Rattle.std.proofs.lemmas.List.Sums.{sum_by-append}
 use Rattle.packet_core.specs.Packets.{PacketParts}
@@ -29,11 +29,11 @@ use Rattle.shaper_core.specs.Laws.{IsLawful}
 use Rattle.shaper_core.specs.Lives.{Packets, no_packets}
 use Rattle.shaper_core.specs.ShaperKept.{AreBalanced, IsShaped}
 use Rattle.shaper_core.specs.ShaperTotals.{HasGrown, IsWithin, capped, more_aside, no_totals, nothing_aside, totals_by}
-use Rattle.shaper_core.specs.Shapers.{AreGivenBack, FlushesOne, IsAccepted, IsDue, IsEnqueued, KeepsSent, Shaping, events_of, flushed_by, handle_of, lost_of, new_shaper, open_scheduler, renewed, sent_handle, sent_handles, totals_of, unread_packets, waiting_packets}
+use Rattle.shaper_core.specs.Shapers.{AreGivenBack, FlushesOne, IsAccepted, IsDue, IsEnqueued, KeepsSent, Shaping, events_of, flushed_by, handle_of, lost_of, new_shaper, open_scheduler, renewed, sent_handle, sent_handles, totals_of, unread_packets, unrenewed, waiting_packets}
 use Rattle.shaper_core.proofs.CallLaws.{tells_handles, same_handle}
 use Rattle.shaper_core.proofs.Handles.{named_is}
 use Rattle.shaper_core.proofs.Multisets.{same_sums}
-use Rattle.shaper_core.proofs.Refusals.{first_fits}
+use Rattle.shaper_core.proofs.Refusals.{first_fits, may_come}
 use Rattle.shaper_core.proofs.Renewals.{none_queued}
 use Rattle.shaper_core.proofs.ShapedSteps.{flush_shaped, idle_shaped}
 use Rattle.shaper_core.proofs.StepMoves.{served_grows}
@@ -138,22 +138,54 @@ kept_sent old new sent before s serves aside past =
     subst (λ (t : ShaperTotals). KeepsSent (totals_of old) n (totals_by t now new.aside)) (sym past) with_aside
 
 -- An enqueue without a renewal.
-pub as_it_is : (old : Shaping) (moment : ℕ) (packet : PacketParts) (said : Enqueued) (new : Shaping) → IsAccepted old moment packet said new → IsEnqueued old moment packet said new
-as_it_is old moment packet said new a = record { ready = old; renewal = inl refl; accepts = a }
+pub made_plain : (old : Shaping) (moment : ℕ) (packet : PacketParts) (new : Shaping) (r : Result Enqueued Refusal)
+    → (IsDue old → moment < 2 ^ 60 → old.sched.standing.state.last ≤ moment → ⊥)
+    → IfOk r (λ said. refusal_of old.sched.standing.state (Enqueue moment 0 packet) ≡ None)
+    → IfOk r (λ said. IsAccepted old moment packet said new) → IfOk r (λ said. IsEnqueued old moment packet said new)
+made_plain old moment packet new (Ok said) never fits made =
+    let may = may_come old moment packet fits in
+    record { ready = old; renewal = inl ((λ due. never due may.soon may.later), refl); accepts = made }
+made_plain old moment packet new (Err e) never fits made = tt
 
-pub made_plain : (old : Shaping) (moment : ℕ) (packet : PacketParts) (new : Shaping) (r : Result Enqueued Refusal) → IfOk r (λ said. IsAccepted old moment packet said new) → IfOk r (λ said. IsEnqueued old moment packet said new)
-made_plain old moment packet new (Ok said) made = as_it_is old moment packet said new made
-made_plain old moment packet new (Err e) made = tt
+-- What is noted of a renewal that wasn't made leaves an acceptance as it is.
+accepted_unrenewed : (old : Shaping) (moment : ℕ) (packet : PacketParts) (said : Enqueued) (new : Shaping) → IsAccepted old moment packet said new
+    → IsAccepted (unrenewed old moment) moment packet said (unrenewed new moment)
+accepted_unrenewed old moment packet said new a = record {
+  advances = a.advances;
+  id = a.id;
+  flow = a.flow;
+  read = a.read;
+  unread = a.unread;
+  drops = a.drops;
+  room = a.room;
+  rest = ap (λ (s : Shaping). unrenewed s moment) a.rest;
+}
+
+-- A shaper is as it was or renewed.
+pub ready_by : (old mid : Shaping) (renewal : Bool) → (renewal ≡ true → mid ≡ renewed old) → (renewal ≡ false → mid ≡ old) → (mid ≡ old) ⊎ (mid ≡ renewed old)
+ready_by old mid true made refused = inr (made refl)
+ready_by old mid false made refused = inl (refused refl)
+
+-- Where a renewal was due it was made, or the moment is noted.
+pub noted : (old mid after new : Shaping) (moment : ℕ) (packet : PacketParts) (said : Enqueued) (renewal : Bool) → (renewal ≡ true → mid ≡ renewed old) → (renewal ≡ false → mid ≡ old)
+    → (renewal ≡ true → new ≡ after) → (renewal ≡ false → new ≡ unrenewed after moment) → IsDue old → IsAccepted mid moment packet said after
+    → IsEnqueued old moment packet said new
+noted old mid after new moment packet said true made refused same late due accepts = record {
+  ready = mid;
+  renewal = inr (due, inl (made refl));
+  accepts = subst (λ (s : Shaping). IsAccepted mid moment packet said s) (sym (same refl)) accepts;
+}
+noted old mid after new moment packet said false made refused same late due accepts = record {
+  ready = unrenewed mid moment;
+  renewal = inr (due, inr (ap (λ (s : Shaping). unrenewed s moment) (refused refl)));
+  accepts = subst (λ (s : Shaping). IsAccepted (unrenewed mid moment) moment packet said s) (sym (late refl)) (accepted_unrenewed mid moment packet said after accepts);
+}
 
 pub ready_read : (old mid : Shaping) → IsDue old → (mid ≡ old) ⊎ (mid ≡ renewed old) → mid.unread ≡ 0
 ready_read old mid due ready = elim ready [ inl same ↦ ap (λ (s : Shaping). s.unread) same ∙ due.read | inr anew ↦ ap (λ (s : Shaping). s.unread) anew ∙ due.read ]
 
 -- After a renewal or none, an enqueue is made or refused as without it.
 module _ (old mid new : Shaping) (moment : ℕ) (packet : PacketParts) (ready : (mid ≡ old) ⊎ (mid ≡ renewed old)) where
-  pub made_anew : (r : Result Enqueued Refusal) → IsDue old → IfOk r (λ said. IsAccepted mid moment packet said new) → IfOk r (λ said. IsEnqueued old moment packet said new)
-  made_anew (Ok said) due made = record { ready = mid; renewal = elim ready [ inl same ↦ inl same | inr anew ↦ inr (due, anew) ]; accepts = made }
-  made_anew (Err e) due made = tt
-
   -- It can't be refused after a renewal.
   same_where_refused : moment < 2 ^ 60 → (0 < mid.sched.room → refusal_of mid.sched.standing.state (Enqueue moment 0 packet) ≢ None) → mid ≡ old
   same_where_refused soon reserved =

@@ -8,4 +8,5 @@ packets_of l = record {
   sent = l.sent.items;
   read = l.read.items;
   flushed = l.flushed.items;
+  unrenewed = l.unrenewed.items;
 }

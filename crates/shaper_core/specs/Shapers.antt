@@ -127,6 +127,16 @@ renewed s = record s {
   past = totals_of s;
 }
 
+-- a shaper with the scheduler that it had: memory for a renewal was refused before the packet of that moment
+abbrev pub unrenewed : Shaping → ℕ → Shaping
+unrenewed s moment = record s { packets = record s.packets { unrenewed = s.packets.unrenewed ++ moment ∷ [] } }
+
+-- A shaper is ready for a packet of that moment. Where a renewal is due it was renewed, or memory for that was refused.
+abbrev pub IsReady : Shaping → ℕ → Shaping → Type 0
+IsReady old moment ready =
+    ((IsDue old → ⊥) × (ready ≡ old))
+    ⊎ (IsDue old × ((ready ≡ renewed old) ⊎ (ready ≡ unrenewed old moment)))
+
 -- A packet is accepted: the scheduler makes the step, and the packets that it drops are there to be read. No other
 -- drop was. It takes one of the enqueues that are reserved at most.
 pub record IsAccepted (old : Shaping) (moment : ℕ) (packet : PacketParts) (said : Enqueued) (new : Shaping)
@@ -144,11 +154,11 @@ pub record IsAccepted (old : Shaping) (moment : ℕ) (packet : PacketParts) (sai
     packets = record old.packets { accepted = old.packets.accepted ++ record { tag = packet.tag; id = said.id } ∷ [] };
   }
 
--- An enqueue is accepted, after a renewal if one is due and there is memory for it.
+-- An enqueue is accepted, after a renewal wherever one is due and there is memory for it.
 pub record IsEnqueued (old : Shaping) (moment : ℕ) (packet : PacketParts) (said : Enqueued) (new : Shaping)
     : Type 0 where
   pub ready : Shaping
-  pub renewal : (ready ≡ old) ⊎ (IsDue old × (ready ≡ renewed old))
+  pub renewal : IsReady old moment ready
   pub accepts : IsAccepted ready moment packet said new
 
 -- A dequeue is made: the scheduler makes the step, and the packets that it drops are there to be read, after those that

@@ -1,19 +1,20 @@
 //! The packets that went through a shaper, which proofs alone read.
 
-ghost use Rattle.std.specs.Prelude.{◌≡◌, [], ◌∷◌, ◌++◌};
+ghost use Rattle.std.specs.Prelude.{◌≡◌, [], ◌∷◌, ◌++◌, false, true};
 
 use crate::answers::Handle;
 use sched_core::GhostList;
 use std::marker::Model;
 
 /// The packets that a shaper accepted, those that a dequeue gave, those whose drops were read and those that were flushed,
-/// over all renewals. It takes no memory.
+/// over all renewals, and the moments at which memory for a renewal was refused. It takes no memory.
 #[derive(Debug, Drop)]
 pub(crate) struct Life {
     accepted: GhostList<Handle>,
     sent: GhostList<Handle>,
     read: GhostList<Handle>,
     flushed: GhostList<Handle>,
+    unrenewed: GhostList<u64>,
 }
 
 impl Model for Life {
@@ -37,6 +38,7 @@ impl Life {
             sent: GhostList::new(),
             read: GhostList::new(),
             flushed: GhostList::new(),
+            unrenewed: GhostList::new(),
         }
     }
 
@@ -70,5 +72,16 @@ impl Life {
         ensures { self.new ≡ record self.old { flushed = self.old.flushed ++ packet ∷ [] } }
     {
         self.flushed = self.flushed.and(&packet);
+    }
+
+    /// A renewal was due at that moment. Where memory for it was refused, that is noted.
+    pub(crate) fn note_renewal(&mut self, renewed: bool, moment: u64)
+        ensures made { renewed ≡ true → self.new ≡ self.old }
+        ensures refused { renewed ≡ false
+            → self.new ≡ record self.old { unrenewed = self.old.unrenewed ++ moment ∷ [] } }
+    {
+        if !renewed {
+            self.unrenewed = self.unrenewed.and(&moment);
+        }
     }
 }

@@ -1,6 +1,6 @@
 //! The scheduler of an embedder.
 
-ghost use Rattle.std.specs.Prelude.{◌≡◌, ◌≢◌, ◌+◌, ◌<◌, ◌≤◌, ◌^◌, ◌↔◌, ◌⊎◌, ◌++◌, IfErr, IfOk, IfSome, IsNone, IsTrue, OnErr, OnOk, None, Some, Err, drop, length, max, min, option_map, take};
+ghost use Rattle.std.specs.Prelude.{◌≡◌, ◌≢◌, ◌+◌, ◌<◌, ◌≤◌, ◌^◌, ◌↔◌, ◌⊎◌, ◌++◌, IfErr, IfOk, IfSome, IsNone, IsTrue, OnErr, OnOk, None, Some, Err, drop, false, length, max, min, option_map, take, true};
 ghost use Rattle.journal_core.specs.Calls.{close_refusal};
 ghost use Rattle.journal_core.specs.Losses.{lost_packets};
 ghost use Rattle.journal_core.specs.State.{IsRefusal, refusal_of};
@@ -280,22 +280,24 @@ impl Shaper {
             && moment >= self.sched.last_moment()
     }
 
-    /// Goes on with a scheduler as new, if there is memory for it.
-    fn renew(&mut self)
+    /// Goes on with a scheduler as new, if there is memory for it, and answers whether it does.
+    fn renew(&mut self) -> bool
         requires { IsDue self.old }
-        ensures { (self.new ≡ self.old) ⊎ (self.new ≡ renewed self.old) }
+        ensures made { result ≡ true → self.new ≡ renewed self.old }
+        ensures refused { result ≡ false → self.new ≡ self.old }
     {
         let totals = self.totals();
         has_laws(&self.sched);
         let alloc = self.sched.keeper().allocator();
         let params = *self.sched.params();
         let Ok(sched) = open_sched(alloc, params, self.sched.seed()) else {
-            return;
+            return false;
         };
         self.past = totals;
         self.aside = Aside::none();
         self.ahead = u64::from(params.limit()) + 1;
         self.sched = sched;
+        true
     }
 
     /// The same after a renewal, if there is memory for it.
@@ -314,8 +316,10 @@ impl Shaper {
             → OnErr result (refusal_of self.old.sched.standing.state (Enqueue moment 0 packet) ≢ None) }
         ensures unchanged { OnErr result (self.new ≡ self.old) }
     {
-        self.renew();
-        self.accept(moment, packet)
+        let renewed = self.renew();
+        let said = self.accept(moment, packet)?;
+        self.packets.note_renewal(renewed, moment);
+        Ok(said)
     }
 
     /// Accepts a packet, as the scheduler does.

@@ -1,4 +1,4 @@
-use Rattle.std.proofs.Common.{◌≡◌, ◌+◌, inr, ap, subst, sym, ◌∙◌, arith}
+use Rattle.std.proofs.Common.{◌≡◌, ◌+◌, ap, subst, sym, ◌∙◌, arith}
 use Rattle.sched_core.specs.Schedulers.{Scheduler}
 use Rattle.shaper_core.specs.declared.totals.ShaperTotals.{ShaperTotals}
 use Rattle.shaper_core.specs.ShaperKept.{IsShaped, shaping_of}
@@ -19,9 +19,9 @@ invariant_of-self c =
       ahead = omega (arith, ap (λ (s : Scheduler). s.room) c.in-Ok.ensures, c.limit.ensures.value, c.from.ensures);
     }
 
-pub returns : goal.returns
-returns c =
+pub returns-clause-made : goal.returns-clause-made
+returns-clause-made c =
     let old = shaping_of c.self.inside in
     let total : c.totals-totals.result ≡ totals_of old = c.totals-totals.ensures.value ∙ ap totals_of (sym c.self.view_is) in
     let sched : c.in-Ok.sched ≡ open_scheduler old.sched.params old.sched.seed = c.in-Ok.ensures ∙ (λ i. open_scheduler (c.params.ensures i) (c.seed.ensures i)) in
-    inr ((λ i. record old { sched = sched i; aside = c.none-self-inside.ensures i; past = total i }) ∙ ap renewed c.self.view_is)
+    λ made. (λ i. record old { sched = sched i; aside = c.none-self-inside.ensures i; past = total i }) ∙ ap renewed c.self.view_is
