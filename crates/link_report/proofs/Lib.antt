@@ -3,3 +3,4 @@ pub mod PacketLemmas
 pub mod PercentileLemmas
 pub mod GroupLemmas
 pub mod SummaryLemmas
+pub mod SeriesLemmas

@@ -10,3 +10,4 @@ pub mod Groups
 pub mod FlowTables
 pub mod SummaryFields
 pub mod Series
+pub mod SeriesTables

@@ -1,8 +1,11 @@
 //! The table `series`: for each bin of time a row for each five-tuple with an arrival, a fate or a packet that waits at
-//! the bin's end. Its text is tested, and no contract says it. Contracts say which bin an event falls in.
+//! the bin's end. Contracts say its text, byte by byte.
 
-ghost use Rattle.std.specs.Prelude.{◌≡◌, OnOk};
+ghost use Rattle.std.specs.Prelude.{◌≡◌, ◌<◌, ◌∷◌, ◌++◌, [], ℕ, List, IfOk, OnOk, length, map, nat_lt, option_map, replicate, slice_set};
 ghost use Rattle.link_report.specs.Series.{bin_after, bin_at};
+ghost use Rattle.link_report.specs.Tables as Tables;
+ghost use Rattle.link_report.specs.SeriesTables as Spec;
+ghost use Rattle.link_report.specs.SeriesTables.{AreRows, IsAt, IsIn, Walk, lines_at, of_number, series_header, series_line, series_lines, series_text, still_waiting};
 
 use crate::decimal::Digits;
 use crate::packets::{PacketRecord, Packets};
@@ -36,12 +39,16 @@ struct Happenings {
 
 impl Happenings {
     /// Nothing happened, and nothing waits.
-    fn none() -> Happenings {
+    fn none() -> Happenings
+        ensures { result ≡ Spec.nothing }
+    {
         Happenings::of_waiting(0, 0)
     }
 
     /// Nothing happened yet, and so many packets wait.
-    fn of_waiting(waiting: u64, waiting_bytes: u64) -> Happenings {
+    fn of_waiting(waiting: u64, waiting_bytes: u64) -> Happenings
+        ensures { result ≡ Spec.of_waiting waiting waiting_bytes }
+    {
         Happenings {
             packets: 0,
             bytes: 0,
@@ -58,7 +65,9 @@ impl Happenings {
     }
 
     /// A packet of that length arrived.
-    fn arrive(&mut self, len: u64) {
+    fn arrive(&mut self, len: u64)
+        ensures { self.new ≡ Spec.with_arrival self.old len }
+    {
         self.packets = self.packets.saturating_add(1);
         self.bytes = self.bytes.saturating_add(len);
         self.waiting = self.waiting.saturating_add(1);
@@ -66,33 +75,98 @@ impl Happenings {
     }
 
     /// A packet of that length waits no more.
-    fn leave(&mut self, len: u64) {
+    fn leave(&mut self, len: u64)
+        ensures { self.new ≡ Spec.without self.old len }
+    {
         self.waiting = self.waiting.saturating_sub(1);
         self.waiting_bytes = self.waiting_bytes.saturating_sub(len);
     }
 
     /// A packet of that length was sent after that delay.
-    fn send(&mut self, len: u64, delay: u64, mark: Mark) {
+    fn send(&mut self, len: u64, delay: u64, mark: Mark)
+        ensures { self.new ≡ Spec.with_sending self.old len delay mark }
+    {
         self.leave(len);
         self.sent = self.sent.saturating_add(1);
         self.sent_bytes = self.sent_bytes.saturating_add(len);
         self.delay_sum = self.delay_sum.saturating_add(u128::from(delay));
         self.delay_max = self.delay_max.max(delay);
-        if mark != Mark::NoMark {
-            self.marked = self.marked.saturating_add(1);
-        }
+        self.marked = with_mark(self.marked, mark);
     }
 
     /// A packet of that length was dropped.
-    fn lose(&mut self, len: u64) {
+    fn lose(&mut self, len: u64)
+        ensures { self.new ≡ Spec.with_drop self.old len }
+    {
         self.leave(len);
         self.dropped = self.dropped.saturating_add(1);
     }
 
+    /// Notes an event of a packet. The bin has a row for it then, and the answer says whether it had one before.
+    fn note(&mut self, packet: &PacketRecord, event: &Event) -> bool
+        ensures value { self.new ≡ Spec.happened packet.now self.old event.now }
+        ensures had_row { result ≡ self.old.has_row }
+    {
+        let had_row = self.has_row;
+        self.happen(packet, event);
+        self.has_row = true;
+        had_row
+    }
+
+    /// Counts what an event of a packet says.
+    fn happen(&mut self, packet: &PacketRecord, event: &Event)
+        ensures { self.new ≡ Spec.with_own packet.now self.old event.now }
+    {
+        let len = u64::from(packet.len);
+        match *event {
+            Event::Accepted { .. } => self.arrive(len),
+            Event::Sent { moment, mark, .. } => {
+                self.send(len, moment.saturating_sub(packet.arrived), mark)
+            }
+            Event::Dropped { .. } => self.lose(len),
+            Event::Closed { .. } => {}
+        }
+    }
+
     /// The mean delay, rounded down, if a packet was sent.
-    fn delay_mean(&self) -> Option<u64> {
-        let mean = self.delay_sum.checked_div(u128::from(self.sent))?;
-        u64::try_from(mean).ok()
+    fn delay_mean(&self) -> Option<u64>
+        ensures { result ≡ Spec.delay_mean self.now }
+    {
+        if self.sent == 0 {
+            return None;
+        }
+        in_64_bits(self.delay_sum / u128::from(self.sent))
+    }
+}
+
+/// So many packets with a mark, and one more if that is one.
+fn with_mark(marked: u64, mark: Mark) -> u64
+    ensures { result ≡ Spec.with_mark marked mark }
+{
+    match mark {
+        Mark::NoMark => marked,
+        Mark::CodelMark | Mark::Threshold => marked.saturating_add(1),
+    }
+}
+
+/// The number, if it has 64 bits at most.
+fn in_64_bits(number: u128) -> Option<u64>
+    ensures { result ≡ Spec.in_64_bits number }
+{
+    if number <= u128::from(u64::MAX) {
+        Some(number as u64)
+    } else {
+        None
+    }
+}
+
+/// That delay, where there is a mean.
+fn beside(mean: Option<u64>, delay: u64) -> Option<u64>
+    ensures { result ≡ option_map (λ m. delay) mean }
+{
+    match mean {
+        Some(_) => Some(delay),
+        None => None,
     }
 }
 
@@ -119,7 +193,9 @@ pub fn series_text(
     every: u64,
     events: &[Event],
     fifo: Option<&[Event]>,
-) -> Result<Vec<u8>, Memory> {
+) -> Result<Vec<u8>, Memory>
+    ensures { IfOk result (λ text. text.items ≡ series_text every events.now (option_map (λ e. e.now) fifo.entry)) }
+{
     series_text_with_seed(alloc, &Seed([0; 16]), every, events, fifo)
 }
 
@@ -131,18 +207,37 @@ pub fn series_text_with_seed(
     every: u64,
     events: &[Event],
     fifo: Option<&[Event]>,
-) -> Result<Vec<u8>, Memory> {
+) -> Result<Vec<u8>, Memory>
+    ensures { IfOk result (λ text. text.items ≡ series_text every events.now (option_map (λ e. e.now) fifo.entry)) }
+{
     let mut table = Table::new(alloc);
-    header(&mut table)?;
-    queue_rows(&mut table, seed, Queue::FqCodel, every, events)?;
-    if let Some(fifo) = fifo {
-        queue_rows(&mut table, seed, Queue::Fifo, every, fifo)?;
-    }
+    write_series(&mut table, seed, every, events, fifo)?;
     table.into_text()
 }
 
+/// Writes the table where nothing is written yet.
+fn write_series(
+    table: &mut Table,
+    seed: &Seed,
+    every: u64,
+    events: &[Event],
+    fifo: Option<&[Event]>,
+) -> Result<(), Memory>
+    ensures { OnOk result (Tables.Adds table.old table.new
+        (series_text every events.now (option_map (λ e. e.now) fifo.entry))) }
+{
+    header(table)?;
+    queue_rows(table, seed, Queue::FqCodel, every, events)?;
+    match fifo {
+        Some(fifo) => queue_rows(table, seed, Queue::Fifo, every, fifo),
+        None => Ok(()),
+    }
+}
+
 /// The header.
-fn header(table: &mut Table) -> Result<(), Memory> {
+fn header(table: &mut Table) -> Result<(), Memory>
+    ensures { OnOk result (Tables.Adds table.old table.new (Tables.line_of series_header)) }
+{
     table.row(&[
         b"queue",
         b"from",
@@ -167,7 +262,9 @@ fn queue_rows(
     queue: Queue,
     every: u64,
     events: &[Event],
-) -> Result<(), Memory> {
+) -> Result<(), Memory>
+    ensures { OnOk result (Tables.Adds table.old table.new (series_lines queue every events.now)) }
+{
     let alloc = table.allocator();
     let packets = Packets::with_seed(alloc, seed, events)?;
     let mut series = Series::new(alloc, queue, every, packets.tuples().len())?;
@@ -179,17 +276,15 @@ fn queue_rows(
 
 impl Series {
     /// The first bin, where nothing happened yet, with room for so many five-tuples.
-    fn new(alloc: Global, queue: Queue, every: u64, tuples: usize) -> Result<Series, Memory> {
-        let mut happenings = Vec::with_capacity(alloc, tuples)?;
-        for _number in 0..tuples {
-            happenings.push(Happenings::none())?;
-        }
+    fn new(alloc: Global, queue: Queue, every: u64, tuples: usize) -> Result<Series, Memory>
+        ensures { IfOk result (λ series. IsIn series (Spec.begun queue every tuples)) }
+    {
         Ok(Series {
             alloc,
             queue,
             every,
             bin: 0,
-            happenings,
+            happenings: no_happenings(alloc, tuples)?,
             rows: Vec::new(alloc),
         })
     }
@@ -203,6 +298,8 @@ impl Series {
     ) -> Result<(), Memory>
         ensures every { self.new.every ≡ self.old.every }
         ensures bin { OnOk result (self.new.bin ≡ bin_after self.old.every self.old.bin event.now) }
+        ensures walk { OnOk result ((before : List ℕ) (walk : Walk) → IsAt before self.old table.old walk
+            → IsAt before self.new table.new (Spec.with_event packets.now walk event.now)) }
     {
         let (id, moment) = match *event {
             Event::Accepted { id, moment, .. }
@@ -214,13 +311,15 @@ impl Series {
         let Some(packet) = packets.get(id as usize) else {
             return Ok(());
         };
-        self.note(packet, event, moment)
+        self.note(packet, event)
     }
 
     /// Goes on to a later bin, and writes those that have rows up to there.
     fn go_on(&mut self, table: &mut Table, bin: u64) -> Result<(), Memory>
         ensures every { self.new.every ≡ self.old.every }
         ensures bin { OnOk result (self.new.bin ≡ bin) }
+        ensures walk { OnOk result ((before : List ℕ) (walk : Walk) → IsAt before self.old table.old walk
+            → IsAt before self.new table.new (Spec.on_to bin walk)) }
     {
         for _turn in self.bin..bin {
             if self.rows.is_empty() {
@@ -234,28 +333,20 @@ impl Series {
     }
 
     /// Notes an event of a packet in the bin.
-    fn note(&mut self, packet: &PacketRecord, event: &Event, moment: u64) -> Result<(), Memory>
+    fn note(&mut self, packet: &PacketRecord, event: &Event) -> Result<(), Memory>
         ensures every { self.new.every ≡ self.old.every }
         ensures bin { self.new.bin ≡ self.old.bin }
+        ensures walk { OnOk result ((walk : Walk) → IsIn self.old walk
+            → IsIn self.new (Spec.noted packet.now walk event.now)) }
     {
         let number = packet.tuple as usize;
         if number >= self.happenings.len() {
             return Ok(());
         }
-        let happenings = &mut self.happenings[number];
-        let len = u64::from(packet.len);
-        match *event {
-            Event::Accepted { .. } => happenings.arrive(len),
-            Event::Sent { mark, .. } => {
-                happenings.send(len, moment.saturating_sub(packet.arrived), mark)
-            }
-            Event::Dropped { .. } => happenings.lose(len),
-            Event::Closed { .. } => {}
+        if self.happenings[number].note(packet, event) {
+            return Ok(());
         }
-        if !happenings.has_row {
-            happenings.has_row = true;
-            self.rows.push(number)?;
-        }
+        self.rows.push(number)?;
         Ok(())
     }
 
@@ -263,25 +354,85 @@ impl Series {
     fn write(&mut self, table: &mut Table) -> Result<(), Memory>
         ensures every { self.new.every ≡ self.old.every }
         ensures bin { self.new.bin ≡ self.old.bin }
+        ensures walk { OnOk result ((before : List ℕ) (walk : Walk) → IsAt before self.old table.old walk
+            → IsAt before self.new table.new (Spec.ended walk)) }
     {
         self.rows.sort()?;
         let from = self.bin.saturating_mul(self.every);
-        let mut rows = Vec::new(self.alloc);
-        for place in 0..self.rows.len() {
-            let number = self.rows[place];
-            if number < self.happenings.len() {
-                let happenings = self.happenings[number];
-                row(table, self.queue, from, number as u64, &happenings)?;
-                let left = Happenings::of_waiting(happenings.waiting, happenings.waiting_bytes);
-                self.happenings[number] = left;
-                if left.has_row {
-                    rows.push(number)?;
-                }
-            }
-        }
+        let rows = write_rows(
+            self.alloc,
+            table,
+            self.queue,
+            from,
+            &self.rows,
+            &mut self.happenings,
+        )?;
         self.rows = rows;
         Ok(())
     }
+}
+
+/// Nothing happened to so many five-tuples.
+fn no_happenings(alloc: Global, tuples: usize) -> Result<Vec<Happenings>, Memory>
+    ensures { IfOk result (λ happenings. happenings.items ≡ replicate tuples Spec.nothing) }
+{
+    let mut happenings = Vec::with_capacity(alloc, tuples)?;
+    for _number in 0..tuples {
+        happenings.push(Happenings::none())?;
+    }
+    Ok(happenings)
+}
+
+/// Writes the rows of the five-tuples with those numbers, and leaves what waits for the next bin. The numbers of those
+/// with a packet that waits are given.
+fn write_rows(
+    alloc: Global,
+    table: &mut Table,
+    queue: Queue,
+    from: u64,
+    numbers: &[usize],
+    happenings: &mut Vec<Happenings>,
+) -> Result<Vec<usize>, Memory>
+    ensures text { OnOk result (AreRows happenings.old.items numbers.now
+        → Tables.Adds table.old table.new (lines_at queue from happenings.old.items numbers.now)) }
+    ensures happenings { OnOk result (AreRows happenings.old.items numbers.now
+        → happenings.new.items ≡ map still_waiting happenings.old.items) }
+    ensures rows { IfOk result (λ rows. AreRows happenings.old.items numbers.now
+        → AreRows happenings.new.items rows.items) }
+{
+    let mut rows = Vec::new(alloc);
+    for number in numbers {
+        if write_row(table, queue, from, happenings, *number)? {
+            rows.push(*number)?;
+        }
+    }
+    Ok(rows)
+}
+
+/// Writes the row of the five-tuple with that number, and leaves what waits for the next bin. Whether a packet waits is
+/// answered.
+fn write_row(
+    table: &mut Table,
+    queue: Queue,
+    from: u64,
+    happenings: &mut Vec<Happenings>,
+    number: usize,
+) -> Result<bool, Memory>
+    ensures text { OnOk result (number < length happenings.old.items
+        → Tables.Adds table.old table.new (series_line queue from number (of_number happenings.old.items number))) }
+    ensures happenings { OnOk result (number < length happenings.old.items → happenings.new.items
+        ≡ slice_set happenings.old.items number (still_waiting (of_number happenings.old.items number))) }
+    ensures waits { IfOk result (λ waits. number < length happenings.old.items
+        → waits ≡ nat_lt 0 (of_number happenings.old.items number).waiting) }
+{
+    if number >= happenings.len() {
+        return Ok(false);
+    }
+    let happened = happenings[number];
+    row(table, queue, from, number as u64, &happened)?;
+    let left = Happenings::of_waiting(happened.waiting, happened.waiting_bytes);
+    happenings[number] = left;
+    Ok(left.has_row)
 }
 
 /// The number of the bin that a moment falls in, from 0. Where bins have no width it is the first one.
@@ -298,7 +449,9 @@ fn row(
     from: u64,
     tuple: u64,
     happenings: &Happenings,
-) -> Result<(), Memory> {
+) -> Result<(), Memory>
+    ensures { OnOk result (Tables.Adds table.old table.new (series_line queue from tuple happenings.now)) }
+{
     let mean = happenings.delay_mean();
     let from = Digits::of(from);
     let tuple = Digits::of(tuple);
@@ -308,7 +461,7 @@ fn row(
     let sent_bytes = Digits::of(happenings.sent_bytes);
     let dropped = Digits::of(happenings.dropped);
     let marked = Digits::of(happenings.marked);
-    let delay_max = Digits::of_any(mean.map(|_| happenings.delay_max));
+    let delay_max = Digits::of_any(beside(mean, happenings.delay_max));
     let delay_mean = Digits::of_any(mean);
     let waiting = Digits::of(happenings.waiting);
     let waiting_bytes = Digits::of(happenings.waiting_bytes);
