@@ -23,7 +23,7 @@ moment_append last (Enqueue moment lane packet ∷ some) more = moment_append mo
 moment_append last (Dequeue moment ∷ some) more = moment_append moment some more
 moment_append last (Close moment ∷ some) more = moment_append moment some more
 
-closed_append : (closed : Bool) (some more : List Step) → closed_after closed (some ++ more) ≡ closed_after (closed_after closed some) more
+pub closed_append : (closed : Bool) (some more : List Step) → closed_after closed (some ++ more) ≡ closed_after (closed_after closed some) more
 closed_append closed [] more = refl
 closed_append closed (Enqueue moment lane packet ∷ some) more = closed_append closed some more
 closed_append closed (Dequeue moment ∷ some) more = closed_append closed some more
@@ -43,7 +43,7 @@ closed_dequeued closed now zero = refl
 closed_dequeued closed now (suc n) = closed_dequeued closed now n
 
 -- a close stays
-closed_stays : (steps : List Step) → closed_after true steps ≡ true
+pub closed_stays : (steps : List Step) → closed_after true steps ≡ true
 closed_stays [] = refl
 closed_stays (Enqueue moment lane packet ∷ steps) = closed_stays steps
 closed_stays (Dequeue moment ∷ steps) = closed_stays steps

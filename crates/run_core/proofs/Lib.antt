@@ -3,3 +3,5 @@ pub mod DeviceRunLemmas
 pub mod JournalLemmas
 pub mod LaneRoomLemmas
 pub mod LaneRunLemmas
+pub mod LeftLemmas
+pub mod SeeingLemmas

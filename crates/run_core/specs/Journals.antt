@@ -44,7 +44,7 @@ pub record IsSenderRow (sender : ℕ) (calls : List (ℕ × PacketParts)) (event
 
 -- The events are those of a run with that seed and those parameters, by calls of so many senders for the packets of the
 -- steps and of the main thread for the other steps, and the rows are theirs. At its end it is closed, and nothing waits.
--- All that was accepted is some sender's.
+-- All that was accepted is some sender's. Where no row of the trace is a close each packet was accepted.
 pub record AreLockedJournal (p : ParamFields) (seed : Seed) (senders : ℕ) (steps : List Step) (events : List Event)
     (rows : List SenderRow) : Type 0 where
   pub made : List Step
@@ -58,6 +58,7 @@ pub record AreLockedJournal (p : ParamFields) (seed : Seed) (senders : ℕ) (ste
   pub each : (i : ℕ) (d : SenderRow) → i < senders
       → IsSenderRow i (calls_of p seed senders i steps) events (slice_index_or rows i d)
   pub all : (statistics events).accepted ≡ sum_by (λ row. row.accepted) rows
+  pub none_left : has_close steps ≡ false → All (λ row. row.left ≡ 0) rows
 
 -- the packets that went into a lane, by its sender's end
 abbrev pub submitted_of : Option Sending → List PacketParts

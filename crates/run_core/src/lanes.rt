@@ -11,11 +11,11 @@ ghost use Rattle.sender_core.specs.declared.interleaving.TheConstants.{MAX_SENDE
 ghost use Rattle.run_core.specs.DeviceRuns.{Dequeues, EmptiesLane, EndsRun, Finishes, HasServed, IsAny, IsBurst, IsDeviceRun, IsIdle, PumpsAll, ServesRow, closed_at, has_close, last_moment};
 ghost use Rattle.run_core.specs.Journals.{AreLaneRows, AreLanesJournal, FitsLane, IsLaneRow, IsLanesRunOf, IsSameDevice, ShowsAll, submitted_of};
 ghost use Rattle.run_core.specs.LaneRooms.{IsTooLong, capacity_for};
-ghost use Rattle.run_core.specs.Seeing.{IsSeen};
+ghost use Rattle.run_core.specs.Seeing.{AreTotalsOf, IsSeenOf};
 ghost use Rattle.run_core.specs.SendersFaults.{IsLanesRunFault};
 ghost use Rattle.run_core.specs.declared.senders_fault.SendersFault.TheVariants as senders_fault;
 
-use crate::monitors::read_all;
+use crate::monitors::{read_all, seen_of_journal};
 use crate::room::{BURST, stores};
 use crate::senders_fault::SendersFault;
 use packet_core::{Packet, Params, Seed};
@@ -47,7 +47,8 @@ pub fn run_lanes<H: Threads + Wait + Sync>(
     requires monitors { monitors ≤ MAX_MONITORS }
     ensures journal { IfOk result (λ r. AreLanesJournal params seed senders steps.now
         r.0.sched.standing.events r.1.items) }
-    ensures seen { IfOk result (λ r. (length r.2.items ≡ monitors) × All IsSeen r.2.items) }
+    ensures seen { IfOk result (λ r. (length r.2.items ≡ monitors)
+        × All (IsSeenOf r.0.sched.standing.events) r.2.items) }
     ensures fault { IfErr result (IsLanesRunFault senders) }
 {
     let calls = lists_of(alloc, &params, &seed, senders, steps)?;
@@ -105,7 +106,8 @@ fn run_in_book<J: BookName + Send + Sync, H: Threads + Wait + Sync>(
     ensures made { IfOk result (λ r. IsDeviceRun (length lists.now) steps.now [] r.0.steps) }
     ensures idle { IfOk result (λ r. (moment : ℕ) × IsIdle moment r.0) }
     ensures none_left { IfOk result (λ r. has_close steps.now ≡ false → All (λ row. row.left ≡ 0) r.1.items) }
-    ensures seen { IfOk result (λ r. (length r.2.items ≡ layout.monitors) × All IsSeen r.2.items) }
+    ensures seen { IfOk result (λ r. (length r.2.items ≡ layout.monitors)
+        × All (IsSeenOf r.0.sched.standing.events) r.2.items) }
     ensures fault { IfErr result (IsLanesRunFault (length lists.now)) }
 {
     let (events, made) = stores(alloc, Expected::of(steps));
@@ -136,7 +138,8 @@ fn run_opened<
     ensures idle { IfOk result (λ r. (moment : ℕ) × IsIdle moment r.0) }
     ensures none_left { IfOk result (λ r. has_close opened.device.engine.steps ≡ false → has_close steps.now ≡ false
         → All (λ row. row.left ≡ 0) r.1.items) }
-    ensures seen { IfOk result (λ r. (length r.2.items ≡ length opened.monitors.items) × All IsSeen r.2.items) }
+    ensures seen { IfOk result (λ r. (length r.2.items ≡ length opened.monitors.items)
+        × All (IsSeenOf r.0.sched.standing.events) r.2.items) }
     ensures fault { IfErr result (IsLanesRunFault (length lists.now)) }
 {
     let Opened {
@@ -168,7 +171,8 @@ fn run_watched<
     requires number { length lists.now ≤ MAX_SENDERS }
     requires readers { readers ≡ length monitors.items }
     ensures made { IfOk result (λ r. IsLanesRunOf device steps.now lists.now r.0 r.1.items) }
-    ensures seen { IfOk result (λ r. (length r.2.items ≡ length monitors.items) × All IsSeen r.2.items) }
+    ensures seen { IfOk result (λ r. (length r.2.items ≡ length monitors.items)
+        × All (IsSeenOf r.0.sched.standing.events) r.2.items) }
     ensures fault { IfErr result (IsLanesRunFault (length lists.now)) }
 {
     let ended = AtomicBool::new(false);
@@ -184,15 +188,39 @@ fn run_watched<
         over.store(true, Ordering::SeqCst);
         made
     };
-    let read = move || -> Result<Vec<Seen>, AllocError>
+    let read = move || -> Result<Vec<(Monitor<J>, Seen)>, AllocError>
         requires { IsSync H.row }
-        ensures { IfOk result (λ seen. (length seen.items ≡ length monitors.items) × All IsSeen seen.items) }
+        ensures { IfOk result (λ read. (length read.items ≡ length monitors.items)
+            × All (λ r. AreTotalsOf r.0 r.1) read.items) }
     { read_all(rt, monitors, over) };
     // Where no thread can be made, `join` calls its first closure last: the run has ended before a monitor reads.
-    let (seen, made) = thread::join(rt, read, run);
+    let (read, made) = thread::join(rt, read, run);
     // The device is there until each monitor has read for the last time.
     let (device, rows) = made?;
-    Ok((device.into_engine(), rows, seen?))
+    let seen = seen_of(alloc, &device, read?)?;
+    Ok((device.into_engine(), rows, seen))
+}
+
+/// What the monitors of a device saw of its journal, which was shown to them, if there are any.
+fn seen_of<J: BookName, X: Screen<Shown<J>> + Drop>(
+    alloc: Global,
+    device: &Device<J, X>,
+    read: Vec<(Monitor<J>, Seen)>,
+) -> Result<Vec<Seen>, AllocError>
+    requires saw { All (λ r. AreTotalsOf r.0 r.1) read.items }
+    requires shown { 0 < length read.items → ShowsAll device.now }
+    ensures number { IfOk result (λ seen. length seen.items ≡ length read.items) }
+    ensures each { IfOk result (λ seen. All (IsSeenOf device.now.engine.sched.standing.events) seen.items) }
+{
+    if read.is_empty() {
+        return Ok(Vec::new(alloc));
+    }
+    let receipt = device.receipt();
+    let whole = Seen {
+        events: receipt.events(),
+        totals: device.engine().totals(),
+    };
+    seen_of_journal(alloc, read, &receipt, whole)
 }
 
 /// Has the packets of each list sent to its lane by a thread of its own and the other steps made by this one, and gives

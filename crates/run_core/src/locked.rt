@@ -1,11 +1,12 @@
 //! The run of steps by senders that are threads, through a locked port.
-ghost use Rattle.std.specs.Prelude.{◌≡◌, ◌≢◌, ◌≤◌, ◌<◌, ◌+◌, ◌-◌, ◌⊎◌, ℕ, All, IfErr, IfOk, None, OnOk, length, map};
+ghost use Rattle.std.specs.Prelude.{◌≡◌, ◌≢◌, ◌≤◌, ◌<◌, ◌+◌, ◌-◌, ◌∷◌, ◌⊎◌, [], ℕ, All, IfErr, IfOk, None, OnOk, false, length, map, true};
 ghost use Rattle.journal_core.specs.declared.step.Refusal.TheVariants.{ClosedAlready};
 ghost use Rattle.journal_core.specs.declared.step.Step.TheVariants.{Close};
 ghost use Rattle.port_core.specs.LockedCalls.{IsClosedBy, IsRefusedBy, IsServedBy};
 ghost use Rattle.sender_core.specs.Senders.{AreCalls};
 ghost use Rattle.sender_core.specs.declared.interleaving.TheConstants.{MAX_SENDERS};
 ghost use Rattle.port_core.specs.declared.gate.Stop.TheVariants as stop;
+ghost use Rattle.run_core.specs.DeviceRuns.{has_close};
 ghost use Rattle.run_core.specs.Journals.{AreLockedJournal, row_of};
 ghost use Rattle.run_core.specs.SendersFaults.{IsLockedRunFault};
 ghost use Rattle.run_core.specs.declared.senders_fault.SendersFault.TheVariants as senders_fault;
@@ -87,6 +88,9 @@ fn run_lists<A: Ledger + Send + Sync, S: Ledger + Send + Sync, H: Threads + Wait
     seats.push(seat)?;
     match port.settle(seats) {
         Ok(engine) => {
+            if leaves(&rows, steps) {
+                return Err(SendersFault::Settle);
+            }
             if !is_whole(&engine, lists, steps) {
                 return Err(SendersFault::Settle);
             }
@@ -169,6 +173,51 @@ fn emptied<A: Ledger, S: Ledger, H: Wait>(
         }
     }
     Ok(seat)
+}
+
+/// Whether a packet is left, though no row of the trace is a close: somebody closed too early then.
+fn leaves(rows: &[SenderRow], steps: &[Step]) -> bool
+    ensures { result ≡ false → has_close steps.now ≡ false → All (λ row. row.left ≡ 0) rows.now }
+{
+    !leave_none(rows) && !has_close(steps)
+}
+
+/// Whether each sender's packets were accepted.
+fn leave_none(rows: &[SenderRow]) -> bool
+    ensures { result ≡ true → All (λ row. row.left ≡ 0) rows.now }
+{
+    for row in rows {
+        if is_left(row) {
+            return false;
+        }
+    }
+    true
+}
+
+/// Whether a packet of this sender is left.
+fn is_left(row: &SenderRow) -> bool
+    ensures { result ≡ false → row.now.left ≡ 0 }
+{
+    row.left > 0
+}
+
+/// Whether one of these is a close.
+fn has_close(steps: &[Step]) -> bool
+    ensures { result ≡ has_close steps.now }
+{
+    for step in steps {
+        if is_close(step) {
+            return true;
+        }
+    }
+    false
+}
+
+/// Whether it is one.
+fn is_close(step: &Step) -> bool
+    ensures { result ≡ has_close (step.now ∷ []) }
+{
+    matches!(step, Step::Close { .. })
 }
 
 /// The rows of the senders, in their order, and their seats.

@@ -1,9 +1,9 @@
 //! The monitors of a run: threads that read its statistics while it lasts.
-ghost use Rattle.std.specs.Prelude.{◌≡◌, ℕ, All, IfOk, length};
-ghost use Rattle.run_core.specs.Seeing.{IsSeen};
+ghost use Rattle.std.specs.Prelude.{◌≡◌, ℕ, All, IfOk, IsTrue, length};
+ghost use Rattle.run_core.specs.Seeing.{AreTotalsOf, IsSeen, IsSeenOf};
 
-use port_core::{BookName, Monitor, Seen};
-use std::alloc::AllocError;
+use port_core::{BookName, Monitor, Receipt, Seen};
+use std::alloc::{AllocError, Global};
 use std::marker::{Send, Sync};
 use std::sync::Wait;
 use std::sync::atomic::{AtomicBool, Ordering};
@@ -11,8 +11,12 @@ use std::thread::{self, Threads};
 
 /// What knows whether a run has ended.
 pub trait Ending {
+    /// What is known once it has.
+    ghost Ended: { Self → Type 0 } = { λ _. Unit {0} };
+
     /// Whether it has.
-    fn has_ended(&self) -> bool;
+    fn has_ended(&self) -> bool
+        ensures { IsTrue result → Ended self.now };
 }
 
 impl Ending for AtomicBool {
@@ -21,25 +25,39 @@ impl Ending for AtomicBool {
     }
 }
 
-/// Has each monitor read, in a thread of its own where one can be made, until the run has ended, and gives what each
-/// saw last, in their order.
+/// Has each monitor read, in a thread of its own where one can be made, until the run has ended, and gives them back
+/// with what each saw last, in their order.
 pub(crate) fn read_all<J: BookName + Send + Sync, H: Threads + Wait + Sync>(
     rt: &H,
     monitors: Vec<Monitor<J>>,
     ended: &AtomicBool,
-) -> Result<Vec<Seen>, AllocError>
-    ensures number { IfOk result (λ seen. length seen.items ≡ length monitors.items) }
-    ensures each { IfOk result (λ seen. All IsSeen seen.items) }
+) -> Result<Vec<(Monitor<J>, Seen)>, AllocError>
+    ensures number { IfOk result (λ read. length read.items ≡ length monitors.items) }
+    ensures each { IfOk result (λ read. All (λ r. AreTotalsOf r.0 r.1) read.items) }
 {
-    let read = move |monitor: Monitor<J>| -> Seen
-        ensures { IsSeen result }
-    { read_on(rt, monitor, ended) };
+    let read = move |monitor: Monitor<J>| -> (Monitor<J>, Seen)
+        ensures { AreTotalsOf result.0 result.1 }
+    { read_until(rt, monitor, ended) };
     thread::map_vec(rt, monitors, &read)
 }
 
 /// Reads until the run has ended, and gives what was seen last: no less than what was published before the end.
 pub fn read_on<J: BookName, H: Wait, E: Ending>(rt: &H, monitor: Monitor<J>, ended: &E) -> Seen
-    ensures { IsSeen result }
+    ensures seen { IsSeen result }
+    ensures ended { E.Ended ended.now }
+{
+    let (_, seen) = read_until(rt, monitor, ended);
+    seen
+}
+
+/// Reads until the run has ended, and gives the monitor with what it saw last.
+fn read_until<J: BookName, H: Wait, E: Ending>(
+    rt: &H,
+    monitor: Monitor<J>,
+    ended: &E,
+) -> (Monitor<J>, Seen)
+    ensures seen { AreTotalsOf result.0 result.1 }
+    ensures ended { E.Ended ended.now }
 {
     let mut monitor = monitor;
     for _ in rt.forever() {
@@ -47,9 +65,51 @@ pub fn read_on<J: BookName, H: Wait, E: Ending>(rt: &H, monitor: Monitor<J>, end
         let last = ended.has_ended();
         let seen = monitor.totals();
         if last {
-            return seen;
+            return (monitor, seen);
         }
         thread::yield_now();
     }
     unreachable!()
+}
+
+/// What each of them saw of the journal that the receipt stands for, of which `whole` has the statistics.
+pub(crate) fn seen_of_journal<J: BookName>(
+    alloc: Global,
+    read: Vec<(Monitor<J>, Seen)>,
+    receipt: &Receipt<J>,
+    whole: Seen,
+) -> Result<Vec<Seen>, AllocError>
+    requires saw { All (λ r. AreTotalsOf r.0 r.1) read.items }
+    requires whole { AreTotalsOf receipt.now whole }
+    ensures number { IfOk result (λ seen. length seen.items ≡ length read.items) }
+    ensures each { IfOk result (λ seen. All (IsSeenOf receipt.now) seen.items) }
+{
+    let mut seen = Vec::new(alloc);
+    for one in read {
+        let (monitor, last) = one;
+        seen.push(of_journal(monitor, last, receipt, whole))?;
+    }
+    Ok(seen)
+}
+
+/// What a monitor saw last, of the journal that the receipt stands for, of which `whole` has the statistics.
+fn of_journal<J: BookName>(
+    monitor: Monitor<J>,
+    last: Seen,
+    receipt: &Receipt<J>,
+    whole: Seen,
+) -> Seen
+    requires saw { AreTotalsOf monitor last }
+    requires whole { AreTotalsOf receipt.now whole }
+    ensures { IsSeenOf receipt.now result }
+{
+    let mut monitor = monitor;
+    // From here on what it saw and the journal are beginnings of one list.
+    monitor.learn(receipt);
+    // Nobody published more than the journal. That stands in no contract of another thread.
+    if last.events <= whole.events {
+        last
+    } else {
+        whole
+    }
 }

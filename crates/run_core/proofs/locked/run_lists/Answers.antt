@@ -1,4 +1,4 @@
-use Rattle.std.proofs.Common.{◌≡◌, ◌∙◌, ◌+◌, ◌<◌, ◌++◌, ◌∷◌, [], List, ap, arith, length, map, refl, rules, subst, sum_by, sym}
+use Rattle.std.proofs.Common.{◌≡◌, ◌∙◌, ◌+◌, ◌<◌, ◌++◌, ◌∷◌, [], All, List, ap, arith, length, map, refl, rules, subst, sum_by, sym}
 use Rattle.std.proofs.lemmas.Grind.{common_steps}
 use Rattle.std.proofs.lemmas.List.{length-map}
 use Rattle.packet_core.specs.declared.flow.Seed.{Seed}
@@ -70,4 +70,5 @@ returns-in-Ok-clause-journal g c =
       all =
           c.in-Ok.ensures.accepted ∙ ap (sum_by (λ (s : Seat). length s.told)) settled
           ∙ accepted_of_rows (λ d. d.calls) (λ d. d.seat) done device untold ∙ ap (sum_by (λ (r : SenderRow). r.accepted)) (sym rows_are);
+      none_left = λ open'. subst (λ rs. All (λ row. row.left ≡ 0) rs) c.deref-in-Ok.ensures.value (c.if-leaves.ensures refl open');
     }
