@@ -16,12 +16,25 @@ use Rattle.link_command.specs.ArrivalTexts.{IsArrivalText}
 use Rattle.link_command.specs.CommandLine.{AsksForRun, IsMistake, Texts}
 use Rattle.link_command.specs.FaultsOn.{IsWordsFault}
 use Rattle.link_command.specs.InputFaults.{IsInputFault}
-use Rattle.link_command.specs.Runs.{IsBeside, IsComparedFault, IsComparedText, IsFaultOn, IsJournalOf, IsRunFault, IsTable, IsTableFault}
+use Rattle.std.specs.Io.KnownBytes.{Keeps}
+use Rattle.link_command.specs.Runs.{FailsBy, IsBeside, IsComparedFault, IsComparedText, IsFaultOn, IsJournalOf, IsRunFault, IsTable, IsTableFault}
 use Rattle.link_command.specs.Values.{RunParts, SaysRun}
 use Rattle.link_command.specs.declared.command_line.TableName.{TableName}
 use Rattle.link_command.specs.declared.command_line.TableName.TheVariants.{Flows, Packets, Series, Steps, Svg}
 use Rattle.link_command.specs.declared.faults.ProgramFault.{ProgramFault}
 use Rattle.link_command.specs.declared.faults.ProgramFault.TheVariants.{CommandLine, NotUtf8, Value, Seed, Params, Row, Memory, Write}
+
+-- Before anything is written the writer holds what it held.
+pub fails_unwritten : (words : List (List ℕ)) (input old new : Option (List ℕ)) (why : ProgramFault) → IsFaultOn words input why → Keeps old new
+    → FailsBy words input old new why
+fails_unwritten words input old new (CommandLine text) h kept = (h, kept)
+fails_unwritten words input old new NotUtf8 h kept = absurd h
+fails_unwritten words input old new (Value name what found) h kept = (h, kept)
+fails_unwritten words input old new (Seed found) h kept = (h, kept)
+fails_unwritten words input old new (Params what found) h kept = (h, kept)
+fails_unwritten words input old new (Row number what found) h kept = (h, kept)
+fails_unwritten words input old new Memory h kept = (h, kept)
+fails_unwritten words input old new Write h kept = absurd h
 
 -- of the words
 pub words_fail : (texts : Texts) (input : Option (List ℕ)) (why : ProgramFault) → IsWordsFault texts why → IsRunFault texts input why

@@ -141,6 +141,13 @@ impl From<AllocError> for ProgramFault {
 
 /// Why the words can't be had.
 impl From<io::Error> for ProgramFault {
+    ghost use Rattle.std.specs.Prelude.{◌≢◌};
+    ghost use Rattle.std.specs.IoError.{error_kind};
+    ghost use Rattle.std.specs.declared.io.ErrorKind.TheVariants.{OutOfMemory};
+
+    ghost from_gives = { λ error e. (error_kind error ≡ OutOfMemory → e ≡ program_fault.Memory)
+        × (error_kind error ≢ OutOfMemory → e ≡ program_fault.NotUtf8) };
+
     fn from(error: io::Error) -> ProgramFault {
         match error.kind() {
             ErrorKind::OutOfMemory => ProgramFault::Memory,

@@ -6,7 +6,9 @@ ghost use Rattle.std.specs.Io.KnownBytes.{Appends, Keeps};
 ghost use Rattle.link_core.specs.Arrivals.{AreArrivals};
 ghost use Rattle.link_core.specs.LinkRuns.{HasRunLink};
 ghost use Rattle.link_command.specs.CommandLine.{texts_of};
-ghost use Rattle.link_command.specs.Runs.{Answers, IsAsked, IsFaultOn, IsJournalOf, IsJournalText, AreManyEvents, IsComparedFault, IsComparedText, IsRunFault, IsTooMany, IsTableFault, IsTableFor, IsTableOf, IsTraceOf};
+ghost use Rattle.link_command.specs.Faults.{status_of};
+ghost use Rattle.link_command.specs.declared.faults.ProgramFault.{ProgramFault};
+ghost use Rattle.link_command.specs.Runs.{Answers, FailsBy, IsAsked, IsFaultOn, IsJournalOf, IsJournalText, AreManyEvents, IsComparedFault, IsComparedText, IsRunFault, IsTooMany, IsTableFault, IsTableFor, IsTableOf, IsTraceOf};
 ghost use Rattle.link_command.specs.RunsSaid.{parts_of};
 ghost use Rattle.link_report.specs.Packets.{known_of};
 
@@ -50,6 +52,13 @@ pub fn program<R: Read, W: Write, F: Write>(
     // With the status 0 nothing is reported where no stream is a terminal.
     ensures quiet { result ≡ 0 → terminals.input ≡ false → terminals.faults ≡ false
         → Keeps (F.contents faults.old) (F.contents faults.new) }
+
+    // Any other status is that of a fault that these words and this input have, by which the writer came from what it
+    // held to what it holds: a front of the table or of the text where a write failed, else what it held.
+    ensures fault { (result ≢ 0) → (fault : ProgramFault)
+        × FailsBy (map (λ w. w.now) words.now) (R.remaining reader.old)
+        (W.contents writer.old) (W.contents writer.new) fault
+        × (result ≡ status_of fault) }
 
     // With the status 2, where something that was given is wrong, nothing was written.
     ensures input_fault { result ≡ 2 → Keeps (W.contents writer.old) (W.contents writer.new) }
