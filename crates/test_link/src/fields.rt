@@ -1,7 +1,7 @@
 //! Which links and which arrivals there may be.
 
 use crate::runs::arrival;
-use link_core::{Arrival, Link, LinkFields, LinkName, MAX_ARRIVAL_MOMENT};
+use link_core::{Arrival, Link, LinkFields, LinkName, MAX_ARRIVAL_MOMENT, MAX_ARRIVALS};
 
 /// Each field at both ends of its range, and one beyond. The first field that is out of range is named.
 #[test]
@@ -43,4 +43,6 @@ fn arrivals(rt: HostRuntime) {
     assert!(rt; Arrival::may_come(&[at(5), at(5), at(MAX_ARRIVAL_MOMENT - 1)]));
     assert!(rt; !Arrival::may_come(&[at(5), at(4)]));
     assert!(rt; !Arrival::may_come(&[at(5), at(MAX_ARRIVAL_MOMENT)]));
+    assert_eq!(rt; MAX_ARRIVAL_MOMENT, 576_460_752_303_423_488);
+    assert_eq!(rt; MAX_ARRIVALS, 1_073_741_824);
 }

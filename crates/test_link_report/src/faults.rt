@@ -28,6 +28,15 @@ four numbers joined by dots, or after a row version,2 also 32 hexadecimal digits
 address of the kind of SRC; wanted is four numbers joined by dots, or after a row version,2 also 32 hexadecimal digits\n",
         ),
         (
+            "version,2\nenq,0,6,10.0.0.300,10.0.0.9,5000,443,1514,2\n",
+            "maltlink: row 2: BadAddress\n  row 2, field 4 (SRC): \"10.0.0.300\" is no address; wanted is \
+four numbers joined by dots, or after a row version,2 also 32 hexadecimal digits\n",
+        ),
+        (
+            "enq,0,256,10.0.0.1,10.0.0.9,5000,443,1514,2\n",
+            "maltlink: row 1: BadNumber\n  row 1, field 3 (PROTO): \"256\" is no such number; wanted is 0 to 255\n",
+        ),
+        (
             "enq,0,6,10.0.0.1,10.0.0.9,5000,65536,1514,2\r\n",
             "maltlink: row 1: BadNumber\n  row 1, field 7 (DPORT): \"65536\" is no such number; wanted is 0 to 65535\n",
         ),

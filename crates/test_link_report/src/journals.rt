@@ -83,3 +83,24 @@ pub(crate) fn late_journal<R: Abort>(rt: &R) -> [Event; 4] {
         sent(1, LATE + 1, Ecn::Ect0, Mark::NoMark),
     ]
 }
+
+/// A packet that waits through four bins of a millisecond, and the close.
+pub(crate) fn closed_journal<R: Abort>(rt: &R) -> [Event; 3] {
+    [
+        accepted(rt, 0, 0, web(), 1_000, Ecn::Ect0),
+        sent(0, 5_500, Ecn::Ect0, Mark::NoMark),
+        Event::Closed { moment: 6_000 },
+    ]
+}
+
+/// So many packets come at once, each of another five-tuple.
+pub(crate) fn crowd<R: Abort + AllocGlobal>(rt: &R, count: u16) -> Vec<Event> {
+    let mut events = Vec::new(rt.alloc());
+    for number in 0..count {
+        let mut tuple = web();
+        tuple.sport = number;
+        let event = accepted(rt, u64::from(number), 0, tuple, 100, Ecn::NotEct);
+        events.push(event).ok().expect(rt, "memory");
+    }
+    events
+}

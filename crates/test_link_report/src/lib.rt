@@ -5,9 +5,13 @@
 #[cfg(test)]
 mod calls;
 #[cfg(test)]
+mod explanations;
+#[cfg(test)]
 mod faults;
 #[cfg(test)]
 mod journals;
+#[cfg(test)]
+mod notes;
 #[cfg(test)]
 mod rows;
 #[cfg(test)]

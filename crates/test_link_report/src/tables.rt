@@ -1,6 +1,6 @@
 //! The tables of a journal.
 
-use crate::journals::{journal, late_journal};
+use crate::journals::{closed_journal, crowd, journal, late_journal};
 use journal_core::{Event, Keeps, Step};
 use link_report::{
     Gathered, MAX_EVENTS, Packets, flows_text, flows_text_of, packets_text, packets_text_of,
@@ -121,6 +121,62 @@ fq_codel,1700000000000000,0,1,500,1,500,0,0,1,1,0,0\n",
     );
 }
 
+/// A five-tuple has a row for each bin through which its packet waits. A close falls in no bin.
+#[test]
+fn series_of_a_long_wait(rt: HostRuntime) {
+    let events = closed_journal(&rt);
+    let text = series_text(rt.alloc(), 1_000, &events, None).expect(&rt, "memory");
+    are(
+        &rt,
+        &text,
+        "queue,from,tuple,packets,bytes,sent,sent_bytes,dropped,marked,delay_mean,delay_max,waiting,waiting_bytes\n\
+fq_codel,0,0,1,1000,0,0,0,0,,,1,1000\n\
+fq_codel,1000,0,0,0,0,0,0,0,,,1,1000\n\
+fq_codel,2000,0,0,0,0,0,0,0,,,1,1000\n\
+fq_codel,3000,0,0,0,0,0,0,0,,,1,1000\n\
+fq_codel,4000,0,0,0,0,0,0,0,,,1,1000\n\
+fq_codel,5000,0,0,0,1,1000,0,0,5500,5500,0,0\n",
+    );
+}
+
+/// Where bins have no width, all of either queue is in one.
+#[test]
+fn series_of_one_bin_for_each_queue(rt: HostRuntime) {
+    let events = journal(&rt);
+    let text = series_text(rt.alloc(), 0, &events[..3], Some(&events[..7])).expect(&rt, "memory");
+    are(
+        &rt,
+        &text,
+        "queue,from,tuple,packets,bytes,sent,sent_bytes,dropped,marked,delay_mean,delay_max,waiting,waiting_bytes\n\
+fq_codel,0,0,2,2000,1,1000,0,0,0,0,1,1000\n\
+fifo,0,0,3,2100,1,1000,1,0,0,0,1,100\n\
+fifo,0,1,1,200,1,200,0,1,500,500,0,0\n",
+    );
+}
+
+/// A bin has a row for each of its five-tuples, however many they are.
+#[test]
+fn series_of_a_crowd(rt: HostRuntime) {
+    let events = crowd(&rt, 3_000);
+    let text = series_text(rt.alloc(), 1_000, &events, None).expect(&rt, "memory");
+    let text = str::from_utf8(&text).unwrap_or("");
+    assert_eq!(rt; text.lines().count(), 3_001);
+}
+
+/// A journal with a close has the tables of the one without it.
+#[test]
+fn tables_of_a_closed_journal(rt: HostRuntime) {
+    let events = closed_journal(&rt);
+    let flows = flows_text(rt.alloc(), &events, None).expect(&rt, "memory");
+    let open = flows_text(rt.alloc(), &events[..2], None).expect(&rt, "memory");
+    assert_eq!(rt; flows.as_slice(), open.as_slice());
+    let rows = packets_text(rt.alloc(), &events, None).expect(&rt, "memory");
+    let open = packets_text(rt.alloc(), &events[..2], None).expect(&rt, "memory");
+    assert_eq!(rt; rows.as_slice(), open.as_slice());
+    assert!(rt; told(&rt, &events, 3).packets().is_some());
+    assert!(rt; packets_text(rt.alloc(), &journal(&rt)[5..], None).is_ok());
+}
+
 /// A keeper that was told these events, and makes packets of so many.
 fn told<R: Abort + AllocGlobal>(rt: &R, events: &[Event], most: u64) -> Gathered {
     let mut gathered = Gathered::new(rt.alloc(), &Seed([0; 16]), most);
@@ -210,4 +266,10 @@ fn steps_of_ipv6(rt: HostRuntime) {
 enq,7,17,20010db8000000000000000000000001,20010db8000000000000000000000002,1,53,60,1\n\
 deq,7\n",
     );
+}
+
+/// 2^25 events: a trace of a million rows has two million at most.
+#[test]
+fn most_events(rt: HostRuntime) {
+    assert_eq!(rt; MAX_EVENTS, 33_554_432);
 }

@@ -3,6 +3,7 @@
 
 use crate::journals::Fate::{Lost, Sent};
 use crate::journals::{Given, has_all, journal, picture};
+use link_picture::picture_text;
 use std::process::Abort;
 
 /// Each element that is opened is closed, in the reverse order, and no bracket stands alone.
@@ -156,4 +157,66 @@ fn late_start(rt: HostRuntime) {
             ">3000 us</text>",
         ],
     );
+}
+
+/// A wait of a second or more is written in seconds. Of a flow of which nothing was sent the losses are told.
+#[test]
+fn long_waits_and_lost_flows(rt: HostRuntime) {
+    let packets = [
+        Given(0, 443, 100, Sent(1_500_000)),
+        Given(0, 53, 100, Lost(5)),
+        Given(0, 53, 100, Lost(6)),
+    ];
+    let parts = [
+        ">fq_codel: p50 1.5 s, p99 1.5 s, 0 lost</text>",
+        ">fq_codel: none sent, 2 lost</text>",
+    ];
+    has_all(&rt, &picture(&rt, &journal(&rt, &packets), None), &parts);
+}
+
+/// A scale ends near the greatest rate, and not at that of the link: 100 bytes in a millisecond are 800,000 bits a second.
+#[test]
+fn hardly_used(rt: HostRuntime) {
+    let packets = [Given(0, 443, 100, Sent(0)), Given(0, 443, 10, Sent(1_000))];
+    let text = picture(&rt, &journal(&rt, &packets), None);
+    has_all(&rt, &text, &[">800 kbit/s</text>", ">600 kbit/s</text>"]);
+    assert!(rt; !text.contains("1000 kbit/s"));
+}
+
+/// Seven steps of time end at the last bin, and each has its text.
+#[test]
+fn seven_steps_of_time(rt: HostRuntime) {
+    let packets = [Given(0, 443, 100, Sent(0)), Given(0, 443, 100, Sent(7_500))];
+    let text = picture(&rt, &journal(&rt, &packets), None);
+    has_all(
+        &rt,
+        &text,
+        &[">1 ms</text>", ">6 ms</text>", ">7 ms</text>"],
+    );
+}
+
+/// The rate of a link in the greatest unit in which it is whole.
+#[test]
+fn rates_of_links(rt: HostRuntime) {
+    for (rate, wanted) in [
+        (
+            1_001,
+            "<title>fq_codel before a link of 1001 bit/s: 0 packets</title>",
+        ),
+        (
+            512_000,
+            "<title>fq_codel before a link of 512 kbit/s: 0 packets</title>",
+        ),
+        (
+            64_000_000,
+            "<title>fq_codel before a link of 64 Mbit/s: 0 packets</title>",
+        ),
+        (
+            2_000_000_000,
+            "<title>fq_codel before a link of 2 Gbit/s: 0 packets</title>",
+        ),
+    ] {
+        let text = picture_text(rt.alloc(), rate, 1_000, &[], None).expect(&rt, "memory");
+        has_all(&rt, str::from_utf8(&text).unwrap_or(""), &[wanted]);
+    }
 }

@@ -54,6 +54,8 @@ fn scales_of_rates(rt: HostRuntime) {
         (6, 6, 2),
         (10_000_000, 10_000_000, 2_000_000),
         (12_112_000, 15_000_000, 5_000_000),
+        (40_000_000_000, 40_000_000_000, 10_000_000_000),
+        (1_000_000_000_000, 1_000_000_000_000, 200_000_000_000),
     ] {
         let scale = RateScale::upto(most);
         assert_eq!(rt; scale.top, top, "for {most}");
@@ -74,5 +76,21 @@ fn marks_of_waits(rt: HostRuntime) {
     assert_eq!(rt;
         long.as_slice(),
         [100, 1_000, 10_000, 100_000, 1_000_000].as_slice()
+    );
+    let longer = WaitScale::upto(300_000_000)
+        .marks(rt.alloc())
+        .expect(&rt, "memory");
+    assert_eq!(rt;
+        longer.as_slice(),
+        [
+            100,
+            1_000,
+            10_000,
+            100_000,
+            1_000_000,
+            10_000_000,
+            100_000_000
+        ]
+        .as_slice()
     );
 }

@@ -173,3 +173,33 @@ fn places_of_a_chooser_follow_the_packets(rt: HostRuntime) -> Result<(), Fail> {
     }
     Ok(())
 }
+
+/// How many times five-tuples of these tests stand in a table, as it is shown.
+fn remembered_in(shown: &str) -> usize {
+    shown.split("sport: 5000").skip(1).count()
+}
+
+/// A chooser remembers the five-tuples that come, each once, so that a later packet of theirs takes no digest. Of eight
+/// in 128 places no three share one.
+#[test]
+fn a_chooser_remembers_five_tuples(rt: HostRuntime) -> Result<(), Fail> {
+    let mut fields = ParamFields::standard();
+    fields.flows = 64;
+    fields.classify = Classify::Hash;
+    let params = params_of(&rt, fields);
+    let mut chooser = FlowChooser::try_new_for(rt.alloc(), params, SEED, 1_024).expect(
+        &rt,
+        "a chooser",
+    );
+    let shown = format!(in rt.alloc(); "{chooser:?}")?;
+    assert_eq!(&rt; remembered_in(&shown), 0);
+    for _ in 0..TIMES {
+        for number in 0..8 {
+            let packet = packet_of(&rt, five_tuple(number), 100, Ecn::NotEct);
+            assert!(&rt; chooser.flow_of(&packet) < 64);
+        }
+        let shown = format!(in rt.alloc(); "{chooser:?}")?;
+        assert_eq!(&rt; remembered_in(&shown), 8);
+    }
+    Ok(())
+}

@@ -2,7 +2,7 @@
 
 use crate::schedulers::{SEED, come, four_flows, packet, params_of, scheduler};
 use packet_core::{Packet, Waiting};
-use sched_core::{Event, GhostList, Keeps, Memory, Sched, Totals, Unstored};
+use sched_core::{Event, GhostList, Keeps, MAX_ACCEPTED, Memory, Sched, Totals, Unstored};
 use std::process::Abort;
 
 /// How many buffers there are. A packet's tag is the number of its buffer, from 0.
@@ -157,4 +157,68 @@ fn agree<R: Abort>(rt: &R, unstored: &Totals, stored: &Totals) {
     assert!(rt; *unstored == *stored);
     assert!(rt; unstored.accepted == 750_000);
     assert!(rt; unstored.dropped_codel > 0 && unstored.dropped_overflow > 0);
+}
+
+/// A keeper that notes for how many events it was asked for memory last.
+#[derive(Debug, Drop)]
+struct Asked {
+    last: usize,
+    told: GhostList<Event>,
+    lost: GhostList<Waiting>,
+}
+
+impl Keeps<Event> for Asked {
+    ghost told = { λ asked. asked.told.items };
+
+    ghost lost = { λ asked. asked.lost.items };
+
+    ghost room = { λ asked. asked.told.room };
+
+    fn tell(&mut self, event: Event) {
+        self.told = self.told.and(&event);
+    }
+
+    fn tell_loss(&mut self, event: Event, packet: &Waiting) {
+        self.tell(event);
+        self.lost = self.lost.and(packet);
+    }
+
+    fn reserve(&mut self, more: usize) -> Result<(), Memory> {
+        self.last = more;
+        self.told = self.told.with_room(more);
+        Ok(())
+    }
+}
+
+/// A new scheduler with four flows, over a keeper that wasn't asked for memory.
+fn asking(rt: &(impl Abort + AllocGlobal)) -> Sched<Asked> {
+    let params = params_of(rt, four_flows());
+    let asked = Asked {
+        last: 0,
+        told: GhostList::new(),
+        lost: GhostList::new(),
+    };
+    Sched::try_with_keeper(rt.alloc(), params, SEED, asked).expect(rt, "a scheduler")
+}
+
+/// Memory for so many enqueues is reserved, for which the keeper is asked for memory for so many events.
+fn asks<R: Abort>(rt: &R, sched: &mut Sched<Asked>, enqueues: u64, events: usize) {
+    assert!(rt; enqueues <= MAX_ACCEPTED);
+    sched.reserve(enqueues).expect(rt, "memory");
+    assert_eq!(rt; sched.keeper().last, events);
+}
+
+/// A keeper is asked for memory for two events of each packet that may come, for one of each that waits, and for the
+/// close. The first packet that comes asks for memory for 64.
+#[test]
+fn memory_for_as_many_events_as_may_come(rt: HostRuntime) {
+    let mut sched = asking(&rt);
+    come(&rt, &mut sched, 1, 0, packet(&rt, 0, 1_000));
+    assert_eq!(&rt; sched.keeper().last, 129);
+    come(&rt, &mut sched, 2, 0, packet(&rt, 0, 1_000));
+    assert_eq!(&rt; sched.keeper().last, 129);
+    asks(&rt, &mut sched, 100, 204);
+    asks(&rt, &mut sched, 1_000, 2_004);
+    assert!(&rt; sched.dequeue(0).is_ok());
+    asks(&rt, &mut sched, 2_000, 4_003);
 }

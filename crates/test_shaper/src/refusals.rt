@@ -72,3 +72,36 @@ fn refusals_in_order(rt: HostRuntime) {
     let mut shaper = shaper(&rt, 1);
     tests_in_order(&rt, &mut shaper);
 }
+
+/// What a person reads of each refusal.
+#[test]
+fn texts_of_refusals(rt: HostRuntime) -> Result<(), std::test::Fail> {
+    let late = MomentFault::Backwards { last: 5 };
+    for (fault, wanted) in [
+        (EnqueueFault::Unread, "drops of earlier calls were not read"),
+        (
+            EnqueueFault::Refused(Refusal::Moment(late)),
+            "the moment is before 5 microseconds, that of the last step",
+        ),
+        (
+            EnqueueFault::Refused(Refusal::Moment(MomentFault::TooLarge)),
+            "the moment is 2^60 microseconds or more",
+        ),
+        (
+            EnqueueFault::Refused(Refusal::ClosedAlready),
+            "there was a close already",
+        ),
+        (
+            EnqueueFault::Refused(Refusal::Exhausted),
+            "2^40 packets were accepted",
+        ),
+        (
+            EnqueueFault::Refused(Refusal::Memory),
+            "a growth was refused",
+        ),
+    ] {
+        let text = format!(in rt.alloc(); "{fault}")?;
+        assert_eq!(rt; text.as_str(), wanted);
+    }
+    Ok(())
+}

@@ -95,3 +95,9 @@ fn closed_shaper_stays_closed(rt: HostRuntime) {
     assert!(rt; refused == Err(EnqueueFault::Refused(Refusal::ClosedAlready)));
     assert!(rt; shaper.is_closed() && credits_of(&rt, &shaper, 2) == 1_028);
 }
+
+/// A scheduler has ids for 2^40 packets, and is renewed after half of them.
+#[test]
+fn renewed_after_half_of_the_ids(rt: HostRuntime) {
+    assert_eq!(rt; RENEW_AFTER, 549_755_813_888);
+}

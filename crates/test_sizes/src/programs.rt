@@ -47,6 +47,20 @@ fn arrivals_at_a_link(rt: HostRuntime) {
     }
 }
 
+/// A trace of the most rows is run.
+#[test]
+fn trace_of_the_most_rows(rt: HostRuntime) {
+    let text = rows(rt.alloc(), ROWS).expect(&rt, "memory");
+    fqsim(&rt, &["trace"], &text);
+}
+
+/// As many arrivals come to a link.
+#[test]
+fn the_most_arrivals_at_a_link(rt: HostRuntime) {
+    let text = rows(rt.alloc(), ROWS).expect(&rt, "memory");
+    maltlink(&rt, &["--rate", "10gbit"], &text);
+}
+
 /// So many packets come, each of another five-tuple.
 fn rows(alloc: Global, number: usize) -> Result<String, AllocError> {
     let mut text = String::new(alloc);
