@@ -11,6 +11,7 @@ use Rattle.link_report.specs.FlowTables.{flows_text, known_flows_text}
 use Rattle.link_report.specs.Packets.{Known, known_of}
 use Rattle.link_report.specs.declared.summary.TheConstants.{MAX_EVENTS}
 use Rattle.link_report.proofs.PacketLemmas.{few_packets}
+use Rattle.link_report.specs.SeriesTables.{series_text}
 use Rattle.link_report.specs.StepTables.{steps_text}
 use Rattle.link_command.specs.ArrivalTexts.{IsArrivalText}
 use Rattle.link_command.specs.CommandLine.{AsksForRun, IsMistake, Texts}
@@ -136,10 +137,10 @@ pub beside_fifo : (has_fifo : Bool) (run : RunParts) (arrivals : List Arrival) (
     → IsBeside has_fifo run arrivals (Some fifo)
 beside_fifo has_fifo run arrivals fifo asked is = rw asked is
 
--- a table of bins is one of any text
+-- a table of bins
 pub bins_table : (table : TableName) (has_fifo : Bool) (run : RunParts) (arrivals : List Arrival) (steps : List Step) (events : List Event) (fifo : Option (List Event)) (text : List ℕ)
-    → table ≡ Series → IsBeside has_fifo run arrivals fifo → IsTable table has_fifo run arrivals steps events text
-bins_table table has_fifo run arrivals steps events fifo text same beside = rw same (record { fifo = fifo; beside = beside; journals = tt })
+    → table ≡ Series → IsBeside has_fifo run arrivals fifo → text ≡ series_text run.every events fifo → IsTable table has_fifo run arrivals steps events text
+bins_table table has_fifo run arrivals steps events fifo text same beside told = rw same (record { fifo = fifo; beside = beside; journals = told })
 
 -- the tables of packets are those of the journals whose packets they are
 pub flows_of_packets : {B : Type 0} (journal : B → List Event) (events : List Event) (fifo : Option B)

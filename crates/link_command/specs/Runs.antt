@@ -13,6 +13,7 @@ use Rattle.link_core.specs.LinkRuns.{IsLinkRun}
 use Rattle.link_core.specs.declared.arrival.Arrival.{Arrival}
 use Rattle.link_report.specs.FlowTables.{flows_text}
 use Rattle.link_report.specs.PacketTables.{packets_text}
+use Rattle.link_report.specs.SeriesTables.{series_text}
 use Rattle.link_report.specs.StepTables.{steps_text}
 use Rattle.link_report.specs.declared.summary.TheConstants.{MAX_EVENTS}
 use Rattle.link_command.specs.ArrivalTexts.{IsArrivalText}
@@ -40,11 +41,11 @@ IsBeside false run arrivals (Some events) = ⊥
 IsBeside true run arrivals None = ⊥
 IsBeside true run arrivals (Some events) = IsFifoJournal run.params run.seed run.link arrivals events
 
--- The text is that of the table of journals. Of the table of bins and of the picture no more is said.
+-- The text is that of the table of journals. Of the picture no more is said.
 abbrev pub IsJournalText : TableName → ℕ → List Event → Option (List Event) → List ℕ → Type 0
 IsJournalText Flows every events fifo text = text ≡ flows_text events fifo
 IsJournalText Packets every events fifo text = text ≡ packets_text events fifo
-IsJournalText Series every events fifo text = Unit {0}
+IsJournalText Series every events fifo text = text ≡ series_text every events fifo
 IsJournalText Steps every events fifo text = ⊥
 IsJournalText Svg every events fifo text = Unit {0}
 
