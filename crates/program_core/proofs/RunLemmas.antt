@@ -1,5 +1,5 @@
 -- What a run by senders comes to, where it wrote a journal and where it failed.
-use Rattle.std.proofs.Common.{◌≡◌, ◌≢◌, ℕ, List, Option, Some, None, Result, Ok, Err, refl, rules, subst}
+use Rattle.std.proofs.Common.{◌≡◌, ◌≢◌, ◌∙◌, ℕ, List, Option, Some, None, Result, Ok, Err, codes, refl, rules, subst, sym}
 use Rattle.std.specs.Prelude.{IfErr, IfSome, IsErrAnd, OnOk}
 use Rattle.std.specs.Io.KnownBytes.{Appends, Keeps}
 use Rattle.packet_core.specs.Words.{params_of_words}
@@ -12,10 +12,11 @@ use Rattle.row_core.specs.Traces.{trace_of}
 use Rattle.trace_core.specs.declared.journal_report.SenderRow.{SenderRow}
 use Rattle.trace_core.specs.declared.trace_run.RunFault.{RunFault}
 use Rattle.trace_core.specs.declared.trace_run.RunFault.TheVariants as run_fault
-use Rattle.command_core.specs.CommandLine.{IsSenderCount, parameter_words, seed_text, senders_text}
+use Rattle.command_core.specs.CommandLine.{AsksForHelp, AsksForLanes, AsksForLocked, AsksForTrace, IsMonitorCount, IsSenderCount, monitors_text, parameter_words, seed_text, senders_text}
 use Rattle.program_core.specs.Faults.{IsLanesFault, IsLockedFault, run_fault_told}
 use Rattle.run_core.specs.Journals.{AreLanesJournal, AreLockedJournal, Journals}
-use Rattle.program_core.specs.Runs.{AnswersSenders, BeginsJournal, IsJournalOf, IsSendersRunFor}
+use Rattle.program_core.specs.Runs.{AnswersSenders, AnswersWatched, BeginsJournal, IsJournalOf, IsSendersRunFor}
+use Rattle.program_core.specs.Watched.{TellsSeenOf}
 use Rattle.command_core.specs.Seeds.{seed_given}
 
 -- a journal was made and written so
@@ -73,6 +74,33 @@ answers_senders Are words input old new (Ok x) seed_words given n seed_is given_
       (subst (λ ps. IsSendersRunFor Are seed_words ps n input (λ text. Appends old new text)) given_is made),
 )
 answers_senders Are words input old new (Err e) seed_words given n seed_is given_is count made = tt
+
+-- the same with what monitors saw
+pub answers_watched : {X E : Type 0} (words : List (List ℕ)) (input old new told_old told_new : Option (List ℕ)) (r : Result X E) (seed_words : Option (List ℕ))
+    (given : List (List ℕ)) (n monitors : ℕ) → seed_words ≡ seed_text words → given ≡ parameter_words words
+    → IsSenderCount (senders_text words) n → IsMonitorCount (monitors_text words) monitors
+    → OnOk r (IsSendersRunFor AreLanesJournal seed_words given n input (λ text. Appends old new text × TellsSeenOf monitors text told_old told_new))
+    → OnOk r (AsksForLanes words → AnswersWatched words input old new told_old told_new)
+answers_watched words input old new told_old told_new (Ok x) seed_words given n monitors seed_is given_is count counted made = λ asked. (
+  n,
+  count,
+  monitors,
+  counted,
+  subst (λ s. IsSendersRunFor AreLanesJournal s (parameter_words words) n input (λ text. Appends old new text × TellsSeenOf monitors text told_old told_new)) seed_is
+      (subst (λ ps. IsSendersRunFor AreLanesJournal seed_words ps n input (λ text. Appends old new text × TellsSeenOf monitors text told_old told_new)) given_is made),
+)
+answers_watched words input old new told_old told_new (Err e) seed_words given n monitors seed_is given_is count counted made = tt
+
+-- words that ask for something else ask for no lanes
+pub trace_has_no_lanes : (words : List (List ℕ)) → AsksForTrace words → AsksForLanes words → ⊥
+trace_has_no_lanes words trace lanes = trace.2 lanes.1
+
+pub locked_has_no_lanes : (words : List (List ℕ)) → AsksForLocked words → AsksForLanes words → ⊥
+locked_has_no_lanes words locked lanes =
+    let same : Some (codes "locked") ≡ Some (codes "lanes") = sym locked.1 ∙ lanes.1 in absurd (search (rules, same))
+
+pub help_has_no_lanes : (words : List (List ℕ)) → AsksForHelp words → AsksForLanes words → ⊥
+help_has_no_lanes words help lanes = rw lanes.0 at help
 
 -- an answer to words that ask for one of the four
 pub answers_so : {X E : Type 0} (r : Result X E) (A B : Type 0) → (A → B) → OnOk r A → OnOk r B

@@ -1,15 +1,15 @@
 -- The lines of what monitors saw, one line later.
-use Rattle.std.proofs.Common.{◌≡◌, ◌∙◌, ℕ, ◌+◌, ◌<◌, ◌≤◌, List, [], ◌∷◌, ◌++◌, append-nil, append_assoc, ap, arith, count_by, get_or, length, refl, length-take, subst, sym, take}
+use Rattle.std.proofs.Common.{◌≡◌, ◌∙◌, ℕ, ◌+◌, ◌<◌, ◌≤◌, All, List, [], ◌∷◌, ◌++◌, Option, append-nil, append_assoc, ap, arith, count_by, get_or, length, refl, length-take, subst, sym, take}
 use Rattle.std.proofs.lemmas.Grind.{common_steps}
-use Rattle.std.proofs.lemmas.List.{take_more}
+use Rattle.std.proofs.lemmas.List.{length-take-le, take_more}
 use Rattle.journal_core.specs.Statistics.{is_codel_drop, is_overflow_drop}
 use Rattle.journal_core.specs.declared.event.Event.{Event}
 use Rattle.journal_core.specs.declared.event.Event.TheVariants.{Accepted, Sent, Dropped, Closed}
 use Rattle.journal_core.specs.declared.event.Cause.TheVariants.{Codel, Overflow}
 use Rattle.journal_core.specs.declared.totals.Totals.{Totals}
 use Rattle.monitor_core.specs.declared.monitor.Seen.{Seen}
-use Rattle.run_core.specs.Seeing.{IsSeen}
-use Rattle.program_core.specs.Watched.{AreFronts, dropped_of, seen_line}
+use Rattle.run_core.specs.Seeing.{IsSeen, IsSeenOf}
+use Rattle.program_core.specs.Watched.{AreFronts, TellsLines, TellsSeen, dropped_of, seen_line}
 
 -- an event drops by one cause at most
 drops_few : (events : List Event) → count_by is_codel_drop events + count_by is_overflow_drop events ≤ length events
@@ -26,6 +26,27 @@ seen_drops_few seen is =
     let codel = ap (λ (t : Totals). t.dropped_codel) is.totals in
     let overflow = ap (λ (t : Totals). t.dropped_overflow) is.totals in
     omega (arith, few, codel, overflow, is.count)
+
+-- what was seen of a journal was seen
+seen_some : (journal : List Event) (seen : Seen) → IsSeenOf journal seen → IsSeen seen
+seen_some journal seen is = record {
+  events = take seen.events journal;
+  totals = is.first;
+  count = sym (length-take-le seen.events journal is.within);
+}
+
+pub all_seen_some : (journal : List Event) (seen : List Seen) → All (IsSeenOf journal) seen → All IsSeen seen
+all_seen_some journal seen all k d less = seen_some journal (get_or seen k d) (all k d less)
+
+-- the lines of what was seen are those of monitors of the journal
+pub told_of_lines : (journal : List Event) (monitors : ℕ) (shown seen : List Seen) (old new : Option (List ℕ)) → shown ≡ seen → length seen ≡ monitors
+    → All (IsSeenOf journal) seen → TellsLines shown old new → TellsSeen monitors journal old new
+told_of_lines journal monitors shown seen old new same number each lines = record {
+  seen = shown;
+  number = ap length same ∙ number;
+  each = subst (λ s. All (IsSeenOf journal) s) (sym same) each;
+  lines = lines;
+}
 
 -- a monitor more
 fronts_next : (monitor : ℕ) (seen : List Seen) (one : Seen) (count : ℕ) (text : List ℕ) → AreFronts monitor seen text

@@ -36,6 +36,18 @@ status_of program_fault.Write = 1
 status_of program_fault.Settle = 1
 status_of (program_fault.Lane lane) = 1
 
+-- The fault is one of the words of a run: of the seed or of a parameter.
+abbrev pub IsOfWords : ProgramFault → Type 0
+IsOfWords program_fault.Seed = Unit {0}
+IsOfWords (program_fault.Params fault) = Unit {0}
+IsOfWords (program_fault.CommandLine text) = ⊥
+IsOfWords program_fault.NotUtf8 = ⊥
+IsOfWords (program_fault.Trace fault) = ⊥
+IsOfWords program_fault.Memory = ⊥
+IsOfWords program_fault.Write = ⊥
+IsOfWords program_fault.Settle = ⊥
+IsOfWords (program_fault.Lane lane) = ⊥
+
 -- The fault is one of a run of the input, with the seed of that text and the parameters of those words, by which the
 -- writer came from what it held to what it holds. The seed is looked at first, then the parameters, then the input.
 -- With a failed write it holds a front of the report more, and with any other fault what it held. That memory was

@@ -12,6 +12,7 @@ use Rattle.journal_core.specs.declared.event.Event.{Event}
 use Rattle.journal_core.specs.declared.step.Step.{Step}
 use Rattle.trace_core.specs.declared.journal_report.SenderRow.{SenderRow}
 use Rattle.command_core.specs.Seeds.{seed_given}
+use Rattle.program_core.specs.Watched.{TellsSeenOf}
 
 -- The text of the seed and the parameter words are good, and of the report of the input with that seed and those
 -- parameters this holds.
@@ -71,6 +72,16 @@ abbrev pub AnswersSenders : Journals → List (List ℕ) → Option (List ℕ) �
 AnswersSenders Are words input old new =
     (senders : ℕ) × IsSenderCount (senders_text words) senders
     × IsSendersRunFor Are (seed_text words) (parameter_words words) senders input (λ text. Appends old new text)
+
+-- The words say how many senders and monitors there are. A journal of a run by these senders through lanes was written
+-- behind what was there, and the lines of what the monitors saw of it behind what was told before.
+abbrev pub AnswersWatched : List (List ℕ) → Option (List ℕ) → Option (List ℕ) → Option (List ℕ) → Option (List ℕ)
+    → Option (List ℕ) → Type 0
+AnswersWatched words input old new told_old told_new =
+    (senders : ℕ) × IsSenderCount (senders_text words) senders
+    × (monitors : ℕ) × IsMonitorCount (monitors_text words) monitors
+    × IsSendersRunFor AreLanesJournal (seed_text words) (parameter_words words) senders input
+    (λ text. Appends old new text × TellsSeenOf monitors text told_old told_new)
 
 -- The words say how many senders there are, and a front of a journal of a run by them was written behind what was
 -- there.

@@ -1,10 +1,10 @@
 //! The run of a trace by senders that are threads, through lanes into a device.
-ghost use Rattle.std.specs.Prelude.{◌≡◌, ◌≢◌, ◌≤◌, ◌<◌, IfErr, OnOk, map, option_map};
+ghost use Rattle.std.specs.Prelude.{◌≡◌, ◌≢◌, ◌≤◌, ◌<◌, IfErr, OnErr, OnOk, map, option_map};
 ghost use Rattle.std.specs.Io.KnownBytes.{Appends, Keeps};
 ghost use Rattle.command_core.specs.declared.command_line.TheConstants.{MAX_MONITORS, MAX_SENDERS};
-ghost use Rattle.program_core.specs.Faults.{IsLanesFault};
+ghost use Rattle.program_core.specs.Faults.{IsLanesFault, IsOfWords};
 ghost use Rattle.program_core.specs.Runs.{IsSendersRunFor};
-ghost use Rattle.program_core.specs.Watched.{TellsSeen};
+ghost use Rattle.program_core.specs.Watched.{TellsSeenOf, TellsSome};
 ghost use Rattle.program_core.specs.declared.program_run.ProgramFault.TheVariants as program_fault;
 ghost use Rattle.run_core.specs.Journals.{AreLanesJournal};
 
@@ -40,7 +40,14 @@ pub fn simulate_lanes<H: Threads + Wait + Sync, R: Read, W: Write, F: Write>(
         (W.contents writer.old) (W.contents writer.new)) }
     ensures untouched { IfErr result (λ fault. (fault ≢ program_fault.Write)
         → Keeps (W.contents writer.old) (W.contents writer.new)) }
-    ensures told { OnOk result (TellsSeen request.now.monitors (F.contents told.old) (F.contents told.new)) }
+    ensures told { OnOk result (TellsSome request.now.monitors (F.contents told.old) (F.contents told.new)) }
+    ensures told_of { OnOk result (IsSendersRunFor AreLanesJournal
+        (option_map (λ s. s.now) request.now.by.run.seed)
+        (map (λ w. w.now) request.now.by.run.parameters.items) request.now.by.senders (R.remaining reader.old)
+        (λ text. Appends (W.contents writer.old) (W.contents writer.new) text
+        × TellsSeenOf request.now.monitors text (F.contents told.old) (F.contents told.new))) }
+    ensures untold { OnErr result (Keeps (F.contents told.old) (F.contents told.new)) }
+    ensures unread { IfErr result (λ fault. IsOfWords fault → reader.new ≡ reader.old) }
     ensures quiet { request.now.monitors ≡ 0 → Keeps (F.contents told.old) (F.contents told.new) }
 {
     let run = &request.by.run;

@@ -2,7 +2,7 @@
 ghost use Rattle.std.specs.Prelude.{◌≡◌, ◌≢◌, ◌≤◌, ◌<◌, IfErr, OnOk, map, option_map};
 ghost use Rattle.std.specs.Io.KnownBytes.{Appends, Keeps};
 ghost use Rattle.command_core.specs.declared.command_line.TheConstants.{MAX_SENDERS};
-ghost use Rattle.program_core.specs.Faults.{IsLockedFault};
+ghost use Rattle.program_core.specs.Faults.{IsLockedFault, IsOfWords};
 ghost use Rattle.program_core.specs.Runs.{IsSendersRunFor};
 ghost use Rattle.program_core.specs.declared.program_run.ProgramFault.TheVariants as program_fault;
 ghost use Rattle.run_core.specs.Journals.{AreLockedJournal};
@@ -33,6 +33,7 @@ pub fn simulate_locked<H: Threads + Wait + Sync, R: Read, W: Write>(
     ensures fault { IfErr result (IsLockedFault (option_map (λ s. s.now) request.now.run.seed)
         (map (λ w. w.now) request.now.run.parameters.items) request.now.senders (R.remaining reader.old)
         (W.contents writer.old) (W.contents writer.new)) }
+    ensures unread { IfErr result (λ fault. IsOfWords fault → reader.new ≡ reader.old) }
     ensures untouched { IfErr result (λ fault. (fault ≢ program_fault.Write)
         → Keeps (W.contents writer.old) (W.contents writer.new)) }
 {

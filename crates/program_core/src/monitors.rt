@@ -2,7 +2,7 @@
 ghost use Rattle.std.specs.Prelude.{◌≡◌, ℕ, All, IfOk, length, string_bytes, take};
 ghost use Rattle.std.specs.Io.KnownBytes.{Appends, Keeps};
 ghost use Rattle.run_core.specs.Seeing.{IsSeen};
-ghost use Rattle.program_core.specs.Watched.{TellsSeen, seen_line};
+ghost use Rattle.program_core.specs.Watched.{TellsLines, seen_line};
 
 use crate::program_run::show;
 use port_core::Seen;
@@ -13,7 +13,7 @@ use std::io::Write;
 /// nowhere left to say so, and it is passed over: a front of it is written, and nothing where memory for it is refused.
 pub(crate) fn tell_seen<F: Write>(alloc: Global, told: &mut F, seen: &[Seen])
     requires { All IsSeen seen.now }
-    ensures told { TellsSeen (length seen.now) (F.contents told.old) (F.contents told.new) }
+    ensures told { TellsLines seen.now (F.contents told.old) (F.contents told.new) }
     ensures quiet { length seen.now ≡ 0 → Keeps (F.contents told.old) (F.contents told.new) }
 {
     for monitor in 0..seen.len() {

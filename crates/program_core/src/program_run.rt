@@ -5,7 +5,8 @@ ghost use Rattle.std.specs.IoError.{error_kind};
 ghost use Rattle.std.specs.Io.KnownBytes.{Appends, Keeps};
 ghost use Rattle.packet_core.specs.Words.{params_of_words};
 ghost use Rattle.program_core.specs.Faults.{IsFaultOn, IsRunFault, command_fault_told, run_fault_told, senders_fault_told, status_of, trace_status};
-ghost use Rattle.program_core.specs.Runs.{Answers, IsRunFor, IsUnwatched};
+ghost use Rattle.program_core.specs.Runs.{Answers, AnswersWatched, IsRunFor, IsUnwatched};
+ghost use Rattle.command_core.specs.CommandLine.{AsksForLanes};
 ghost use Rattle.command_core.specs.Seeds.{seed_given};
 ghost use Rattle.program_core.specs.declared.program_run.ProgramFault.{ProgramFault};
 ghost use Rattle.program_core.specs.declared.program_run.ProgramFault.TheVariants as program_fault;
@@ -189,6 +190,12 @@ pub fn program<H: Threads + Wait + Sync, R: Read, W: Write, F: Write>(
     ensures quiet { result ≡ 0 → IsUnwatched (map (λ w. w.now) words.now)
         → Keeps (F.contents faults.old) (F.contents faults.new) }
 
+    // Where the words ask for lanes, what is told is what their monitors saw of the journal that was written: the
+    // statistics of its first events, of as many as each line says.
+    ensures told { result ≡ 0 → AsksForLanes (map (λ w. w.now) words.now)
+        → AnswersWatched (map (λ w. w.now) words.now) (R.remaining reader.old) (W.contents writer.old)
+        (W.contents writer.new) (F.contents faults.old) (F.contents faults.new) }
+
     // Any other status is that of a fault that these words and this input have, by which the writer came from what it
     // held to what it holds: a front of the report, of a journal or of help where a write failed, else what it held.
     ensures fault { (result ≢ 0) → (fault : ProgramFault)
@@ -223,6 +230,9 @@ fn answer<H: Threads + Wait + Sync, R: Read, W: Write, F: Write>(
         → Keeps (W.contents writer.old) (W.contents writer.new)) }
     ensures quiet { OnOk result (IsUnwatched (map (λ w. w.now) words.now)
         → Keeps (F.contents told.old) (F.contents told.new)) }
+    ensures told { OnOk result (AsksForLanes (map (λ w. w.now) words.now)
+        → AnswersWatched (map (λ w. w.now) words.now) (R.remaining reader.old) (W.contents writer.old)
+        (W.contents writer.new) (F.contents told.old) (F.contents told.new)) }
 {
     match parse(alloc, words)? {
         Request::Trace(trace) => simulate(alloc, trace.seed, &trace.parameters, reader, writer),

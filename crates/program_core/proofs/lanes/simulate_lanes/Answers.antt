@@ -1,8 +1,10 @@
-use Rattle.std.proofs.Common.{◌≡◌, Ok, map, option_map, rules}
+use Rattle.std.proofs.Common.{◌≡◌, All, Ok, map, option_map, refl, rules, subst, sym}
+use Rattle.run_core.specs.Seeing.{IsSeenOf}
 use Rattle.packet_core.specs.Words.{params_of_words}
 use Rattle.program_core.specs.Faults.{run_fault_told}
 use Rattle.run_core.specs.Journals.{AreLanesJournal}
 use Rattle.program_core.proofs.RunLemmas.{err_told, lanes_fault, senders_run}
+use Rattle.program_core.proofs.WatchedLemmas.{all_seen_some, told_of_lines}
 use Rattle.program_core.proofs.lanes.simulate_lanes.Goals as goal
 
 pub returns-in_err-write_journal-clause-fault : goal.returns-in_err-write_journal-clause-fault
@@ -24,3 +26,31 @@ returns-clause-journal g c =
     let made : AreLanesJournal c.in_ok-params.params c.in_ok-seed.seed c.args.request.now.by.senders c.in_ok-steps.steps.items c.in_ok-engine.engine.sched.standing.events c.deref-3.result.now = search rules in
     senders_run AreLanesJournal (option_map (λ s. s.now) c.args.request.now.by.run.seed) _ _ _ _ c.in_ok-seed.seed c.in_ok-params.params c.in_ok-steps.steps.items c.in_ok-engine.engine.sched.standing.events c.deref-3.result.now
     c.in_ok-seed.ensures.ok params_read c.in_ok-steps.ensures.steps made c.in_ok-write_journal.ensures.text
+
+pub tell_seen-requires : goal.tell_seen-requires
+tell_seen-requires g c =
+    all_seen_some c.in_ok-engine.engine.sched.standing.events c.deref-4.result.now
+    (subst (λ s. All (IsSeenOf c.in_ok-engine.engine.sched.standing.events) s) (sym c.deref-4.ensures.value) c.in_ok-engine.ensures.seen.1)
+
+pub returns-clause-told : goal.returns-clause-told
+returns-clause-told g c = (
+  c.in_ok-engine.engine.sched.standing.events,
+  told_of_lines c.in_ok-engine.engine.sched.standing.events c.args.request.now.monitors c.deref-4.result.now c.in_ok-engine.seen.items _ _ c.deref-4.ensures.value
+      c.in_ok-engine.ensures.seen.0 c.in_ok-engine.ensures.seen.1 c.tell_seen.ensures.told,
+)
+
+pub returns-clause-told_of : goal.returns-clause-told_of
+returns-clause-told_of g c =
+    let params_read : params_of_words (map (λ w. w.now) c.args.request.now.by.run.parameters.items) ≡ Ok c.in_ok-params.params = search rules in
+    let made : AreLanesJournal c.in_ok-params.params c.in_ok-seed.seed c.args.request.now.by.senders c.in_ok-steps.steps.items c.in_ok-engine.engine.sched.standing.events c.deref-3.result.now = search rules in
+    senders_run AreLanesJournal (option_map (λ s. s.now) c.args.request.now.by.run.seed) _ _ _ _ c.in_ok-seed.seed c.in_ok-params.params c.in_ok-steps.steps.items c.in_ok-engine.engine.sched.standing.events c.deref-3.result.now
+    c.in_ok-seed.ensures.ok params_read c.in_ok-steps.ensures.steps made (
+      c.in_ok-write_journal.ensures.text,
+      record {
+        journal = c.in_ok-engine.engine.sched.standing.events;
+        rows = c.deref-3.result.now;
+        has_text = refl;
+        tells = told_of_lines c.in_ok-engine.engine.sched.standing.events c.args.request.now.monitors c.deref-4.result.now c.in_ok-engine.seen.items _ _ c.deref-4.ensures.value
+            c.in_ok-engine.ensures.seen.0 c.in_ok-engine.ensures.seen.1 c.tell_seen.ensures.told;
+      },
+    )

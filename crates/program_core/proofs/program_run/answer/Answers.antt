@@ -1,6 +1,6 @@
 use Rattle.std.proofs.Common.{inl, inr, map}
 use Rattle.run_core.specs.Journals.{AreLanesJournal, AreLockedJournal}
-use Rattle.program_core.proofs.RunLemmas.{answers_senders, answers_so, on_ok}
+use Rattle.program_core.proofs.RunLemmas.{answers_senders, answers_so, answers_watched, help_has_no_lanes, locked_has_no_lanes, on_ok, trace_has_no_lanes}
 use Rattle.program_core.proofs.program_run.answer.Goals as goal
 
 pub returns-in-Locked-clause-answer : goal.returns-in-Locked-clause-answer
@@ -27,3 +27,28 @@ pub returns-in-Lanes-clause-quiet : goal.returns-in-Lanes-clause-quiet
 returns-in-Lanes-clause-quiet g c =
     let lanes = c.in-Lanes.lanes in
     on_ok c.simulate_lanes.result _ (λ none. c.simulate_lanes.ensures.quiet (none lanes.monitors (c.in_ok-trace.ensures.monitors lanes c.in-Lanes.is)))
+
+pub returns-in-Trace-clause-told : goal.returns-in-Trace-clause-told
+returns-in-Trace-clause-told g c =
+    let trace = c.in-Trace.trace in
+    on_ok c.simulate.result _ (λ lanes. absurd (trace_has_no_lanes _ (c.in_ok-trace.ensures.trace trace c.in-Trace.is) lanes))
+
+pub returns-in-Locked-clause-told : goal.returns-in-Locked-clause-told
+returns-in-Locked-clause-told g c =
+    let senders = c.in-Locked.senders in
+    on_ok c.simulate_locked.result _ (λ lanes. absurd (locked_has_no_lanes _ (c.in_ok-trace.ensures.locked senders c.in-Locked.is) lanes))
+
+pub returns-in-Lanes-clause-told : goal.returns-in-Lanes-clause-told
+returns-in-Lanes-clause-told g c =
+    let lanes = c.in-Lanes.lanes in
+    let same = c.in-Lanes.is in
+    answers_watched (map (λ w. w.now) c.args.words.now) (g.R.Read.remaining c.args.reader.now) (g.W.Write.contents c.args.writer.now)
+    (g.W.Write.contents c.simulate_lanes.new.writer) (g.F.Write.contents c.args.told.now) (g.F.Write.contents c.simulate_lanes.new.told)
+    c.simulate_lanes.result _ _ lanes.by.senders lanes.monitors
+    (c.in_ok-trace.ensures.lanes_seed lanes same) (c.in_ok-trace.ensures.lanes_parameters lanes same)
+    (c.in_ok-trace.ensures.lanes_senders lanes same) (c.in_ok-trace.ensures.monitors lanes same) c.simulate_lanes.ensures.told_of
+
+pub returns-in-Help-clause-told : goal.returns-in-Help-clause-told
+returns-in-Help-clause-told g c =
+    let text = c.in-Help.text in
+    on_ok c.show.result _ (λ lanes. absurd (help_has_no_lanes _ (c.in_ok-trace.ensures.help text c.in-Help.is) lanes))
