@@ -174,9 +174,9 @@ fn tables_of_a_closed_journal(rt: HostRuntime) {
     let open = packets_text(rt.alloc(), &events[..2], None).expect(&rt, "memory");
     assert_eq!(rt; rows.as_slice(), open.as_slice());
     assert!(rt; told(&rt, &events, 3).packets().is_some());
-    let whole = journal(&rt);
-    let part = &whole[5..];
-    assert!(rt; packets_text(rt.alloc(), part, None).is_ok());
+    let others = journal(&rt);
+    let whole = &others[..];
+    assert!(rt; packets_text(rt.alloc(), &whole[5..], None).is_ok());
 }
 
 /// A keeper that was told these events, and makes packets of so many.
