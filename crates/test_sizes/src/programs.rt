@@ -11,6 +11,9 @@ use std::thread::Threads;
 /// The most rows of a trace.
 const ROWS: usize = 1_000_000;
 
+/// More five-tuples than 2^18.
+const MANY: usize = 270_000;
+
 /// A trace is run.
 #[test]
 fn traces(rt: HostRuntime) {
@@ -47,17 +50,17 @@ fn arrivals_at_a_link(rt: HostRuntime) {
     }
 }
 
-/// A trace of the most rows is run.
+/// A trace of many five-tuples is run.
 #[test]
-fn trace_of_the_most_rows(rt: HostRuntime) {
-    let text = rows(rt.alloc(), ROWS).expect(&rt, "memory");
+fn trace_of_many_tuples(rt: HostRuntime) {
+    let text = rows(rt.alloc(), MANY).expect(&rt, "memory");
     fqsim(&rt, &["trace"], &text);
 }
 
-/// As many arrivals come to a link.
+/// As many come to a link.
 #[test]
-fn the_most_arrivals_at_a_link(rt: HostRuntime) {
-    let text = rows(rt.alloc(), ROWS).expect(&rt, "memory");
+fn many_tuples_at_a_link(rt: HostRuntime) {
+    let text = rows(rt.alloc(), MANY).expect(&rt, "memory");
     maltlink(&rt, &["--rate", "10gbit"], &text);
 }
 
