@@ -23,8 +23,8 @@ void rattle_dealloc(void *block);
 }
 #endif
 
-/* Growths until one is refused, blocks that are held, growths so far. */
-static long left = -1, held, growths;
+/* Growths until one is refused, blocks that are held, the most that were held, growths so far. */
+static long left = -1, held, most_held, growths;
 static char nothing[16];
 
 static bool refuses(void)
@@ -45,6 +45,8 @@ struct given rattle_alloc(size_t bytes, size_t align)
 	answer.block = malloc(bytes != 0 ? bytes : align);
 	answer.ok = answer.block != NULL;
 	held += answer.ok;
+	if (held > most_held)
+		most_held = held;
 	return answer;
 }
 
@@ -86,9 +88,12 @@ static long refuse_each(void)
 
 	for (long n = 0;; n++) {
 		left = n;
+		most_held = 0;
 		answer = maltcove_open(&m, words, strlen(words), seed, 16, &fault);
-		if (answer == MALTCOVE_OK)
+		if (answer == MALTCOVE_OK) {
+			check(most_held == held, "an open takes no block that it does not keep");
 			return n;
+		}
 		check(answer == MALTCOVE_MEMORY, "a refused growth answers MALTCOVE_MEMORY");
 		check(m.inner == NULL && !m.is_open, "a failed open leaves none");
 		check(held == 0, "a failed open gives all blocks back");
@@ -176,6 +181,72 @@ static void refuse_under(const char *params, uint64_t rounds)
 	check(held == 0, "no block is left after maltcove_free");
 }
 
+/* A scheduler with the greatest limit, and one whose words are many bytes. */
+static void open_large(void)
+{
+	static char many[8192];
+	static const char limit[] = "limit 1048576 flows 65536";
+
+	left = -1;
+	memset(many, ' ', sizeof many);
+	memcpy(many + sizeof many - strlen(words), words, strlen(words));
+	check(maltcove_open(&m, limit, strlen(limit), seed, 16, NULL) == MALTCOVE_OK, "the greatest limit can be had");
+	maltcove_free(&m);
+	check(maltcove_open(&m, many, sizeof many, seed, 16, NULL) == MALTCOVE_OK, "words may be many bytes");
+	maltcove_free(&m);
+	check(held == 0, "no block is left after maltcove_free");
+}
+
+/* A packet of IPv4. */
+static void enqueue_packet(uint64_t i)
+{
+	maltcove_packet packet;
+	maltcove_admitted admitted;
+
+	memset(&packet, 0, sizeof packet);
+	packet.len = 100;
+	packet.proto = 17;
+	packet.version = 4;
+	packet.sport = (uint16_t)i;
+	packet.tag = i;
+	check(maltcove_enqueue(&m, i, &packet, &admitted) == MALTCOVE_OK, "a packet with its five-tuple is accepted");
+}
+
+/* Each call but maltcove_open, with every growth refused: none asks for memory, and none keeps a block. */
+static void call_each(void)
+{
+	static maltcove_sent sent[100];
+	maltcove_flushed flushed[64];
+	maltcove_totals_t totals;
+	maltcove_params_t params;
+	maltcove_flow_t view;
+	long before, blocks;
+
+	left = -1;
+	check(maltcove_open(&m, words, strlen(words), seed, 16, NULL) == MALTCOVE_OK, "a scheduler is opened");
+	before = growths;
+	blocks = held;
+	left = 0;
+	for (uint64_t i = 0; i < 1000; i++) {
+		enqueue_packet(2 * i);
+		enqueue_packet(2 * i + 1);
+		check(maltcove_totals(&m, &totals) == MALTCOVE_OK && totals.accepted == 2 * i + 2, "totals count packets");
+		check(maltcove_params(&m, &params) == MALTCOVE_OK && params.limit == 100, "the parameters are told");
+		check(maltcove_flow(&m, 3, &view) == MALTCOVE_OK, "a flow is shown");
+		if (i % 40 == 39)
+			check(maltcove_dequeue_burst(&m, 2 * i + 1, sent, 100) > 64, "a burst gives many");
+		read_all();
+	}
+	check(maltcove_close(&m, 2000) == MALTCOVE_OK && maltcove_is_closed(&m) == 1, "a scheduler is closed");
+	check(maltcove_close(&m, 2000) == MALTCOVE_CLOSED, "a second close is refused");
+	while (maltcove_flush(&m, flushed, 64) > 0)
+		;
+	check(growths == before && held == blocks, "no call takes memory, or gives a block back");
+	left = -1;
+	maltcove_free(&m);
+	check(held == 0, "no block is left after maltcove_free, where there was a close");
+}
+
 int main(void)
 {
 	maltcove_flushed flushed[64];
@@ -190,6 +261,8 @@ int main(void)
 	check(held == 0, "no block is left after maltcove_free");
 	for (size_t i = 0; i < sizeof others / sizeof *others; i++)
 		refuse_under(others[i], 20000);
+	open_large();
+	call_each();
 	printf("growths: each of %ld growths of an open refused, and all after it in 100000 rounds\n", opened);
 	return 0;
 }

@@ -5,7 +5,7 @@
 mod command_line;
 mod manual;
 mod seed;
-mod shown;
+pub mod shown;
 
 pub use command_line::{
     CommandFault, LanesRequest, MAX_MONITORS, MAX_SENDERS, Request, RunRequest, SendersRequest,

@@ -6,7 +6,7 @@ use std::alloc::{AllocError, Global};
 
 /// The text with each control character but the line feed written as `\u{1b}`, so that no word of it moves a
 /// terminal's cursor or changes its colours.
-pub(crate) fn shown(alloc: Global, text: &str) -> Result<String, AllocError>
+pub fn shown(alloc: Global, text: &str) -> Result<String, AllocError>
     ensures { IfOk result (λ r. IsShown (string_bytes r)) }
 {
     let mut shown = String::new(alloc);

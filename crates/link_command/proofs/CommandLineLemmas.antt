@@ -1,5 +1,6 @@
 -- What follows from the kinds of error that a command line has.
-use Rattle.std.proofs.Common.{◌≡◌, ◌≢◌, true, List, inl, inr, refl, rules, subst, ◌⊎◌}
+use Rattle.std.proofs.Common.{◌≡◌, ◌≢◌, true, List, inl, inr, refl, rules, subst, ◌⊎◌, Result, Ok, Err, String, Global}
+use Rattle.std.specs.Prelude.{IfErr, IsErrAnd}
 use Rattle.clap.specs.Words.{App, HasKind, IsAmong, Kinds, Text, fault_of, is_simple, is_simple_and_free, kind_of}
 use Rattle.clap.proofs.OnLiterals.{clap_on_literals}
 use Rattle.clap.specs.declared.builder.value_parser.ValueParser.{ValueParser}
@@ -7,6 +8,8 @@ use Rattle.clap.specs.declared.error.Error.{Error}
 use Rattle.clap.specs.declared.error.kind.ErrorKind.{ErrorKind}
 use Rattle.clap.specs.declared.error.kind.ErrorKind.TheVariants.{DisplayHelp, DisplayVersion, OutOfMemory}
 use Rattle.link_command.specs.CommandLine.{AsksForText, IsMistake, IsProgramLine, program_line}
+use Rattle.link_command.specs.declared.faults.ProgramFault.{ProgramFault}
+use Rattle.link_command.specs.declared.faults.ProgramFault.TheVariants.{CommandLine, Memory}
 
 -- the command line is one whose matches and kinds of error `clap` tells, whatever tests its names
 free_by : (queues tables : ValueParser) → is_simple_and_free (program_line queues tables) ≡ true
@@ -50,3 +53,9 @@ mistake_made line words e is h other = record {
   among = kind_among (fault_of line words) e h other.2;
   other = (other.0, other.1);
 }
+
+-- want of memory is no mistake of the words
+pub memory_is_no_mistake : {X : Type 0} (r : Result X ProgramFault) (P : String Global → Type 0)
+    → IsErrAnd r (λ fault. fault ≡ Memory) → IfErr r (λ fault. (text : String Global) → fault ≡ CommandLine text → P text)
+memory_is_no_mistake (Ok x) P h = tt
+memory_is_no_mistake (Err fault) P h = λ text is_mistake. search (rules, h, is_mistake)

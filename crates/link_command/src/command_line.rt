@@ -1,8 +1,9 @@
 //! The words behind the program's name, read by `clap`.
 
-ghost use Rattle.std.specs.Prelude.{◌≡◌, ◌≢◌, ◌⊎◌, IfErr, IfOk, codes, false, map, option_map};
+ghost use Rattle.std.specs.Prelude.{◌≡◌, ◌≢◌, ◌⊎◌, IfErr, IfOk, codes, false, map, option_map, string_bytes};
 ghost use Rattle.clap.specs.Words.{app_of, first_of, found_of, kind_of, rows_of, rule_of, with_rule};
 ghost use Rattle.clap.specs.declared.builder.command.Command.TheViews.{out-Command as fields_of};
+ghost use Rattle.command_core.specs.Shown.{IsShown};
 ghost use Rattle.link_command.specs.CommandLine.{AsksForRun, AsksForText, IsMistake, IsProgramLine, TakesNames, bare_line, named_rule, option_rule, parameter_rule, queue_names, rate_rule, table_called, table_named, table_names, texts_in, texts_of};
 
 use crate::faults::ProgramFault;
@@ -10,6 +11,7 @@ use crate::manual;
 use clap::builder::ValueParser;
 use clap::error::ErrorKind;
 use clap::{Arg, ArgAction, ArgMatches, Command, Error};
+use command_core::shown::shown;
 use std::alloc::{AllocError, Global};
 
 /// The names of the tables.
@@ -73,6 +75,8 @@ pub fn parse<'a>(alloc: Global, words: &'a [&'a str]) -> Result<Asked<'a>, Progr
         → IsMistake (map (λ w. w.now) words.entry.now)) }
     ensures fault { IfErr result (λ fault. (fault ≡ ProgramFault.Memory)
         ⊎ ((text : _) × (fault ≡ ProgramFault.CommandLine text))) }
+    ensures shown { IfErr result (λ fault. (text : _) → fault ≡ ProgramFault.CommandLine text
+        → IsShown (string_bytes text)) }
 {
     let command = program_command(alloc)?;
     match command.try_get_matches_from(words) {
@@ -91,12 +95,17 @@ fn without_matches<'a>(alloc: Global, error: &Error) -> Result<Asked<'a>, Progra
         × (kind_of error.now ≢ ErrorKind.OutOfMemory)) }
     ensures fault { IfErr result (λ fault. (fault ≡ ProgramFault.Memory)
         ⊎ ((text : _) × (fault ≡ ProgramFault.CommandLine text))) }
+    ensures shown { IfErr result (λ fault. (text : _) → fault ≡ ProgramFault.CommandLine text
+        → IsShown (string_bytes text)) }
 {
     match error.kind() {
         ErrorKind::OutOfMemory => Err(ProgramFault::Memory),
         ErrorKind::DisplayHelp => Ok(Asked::Text(format!(in alloc; "{error}")?)),
         ErrorKind::DisplayVersion => Ok(Asked::Text(format!(in alloc; "{error}")?)),
-        _ => Err(ProgramFault::CommandLine(format!(in alloc; "{error}")?)),
+        _ => {
+            let text = format!(in alloc; "{error}")?;
+            Err(ProgramFault::CommandLine(shown(alloc, &text)?))
+        }
     }
 }
 

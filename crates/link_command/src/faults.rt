@@ -75,7 +75,8 @@ pub enum Found {
 /// Why the program failed.
 #[derive(Debug, Drop, Error)]
 pub enum ProgramFault {
-    /// The words aren't those of a command line. The text says what is wrong, in whole lines.
+    /// The words aren't those of a command line. The text says what is wrong, in whole lines. Of the control characters
+    /// it has line feeds alone: each other one of a word is written as `\u{1b}`.
     #[error("{0}")]
     CommandLine(String),
     /// A word isn't UTF-8.

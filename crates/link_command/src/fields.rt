@@ -1,7 +1,8 @@
 //! The fields of a row, and the one that a fault stands in.
 
 ghost use Rattle.std.specs.Prelude.{◌≡◌, ◌⊎◌, IfOk};
-ghost use Rattle.link_command.specs.Fields.{HasNumber, StandsIn, greatest_of, place_of};
+ghost use Rattle.csv.specs.Records.{fields_of};
+ghost use Rattle.link_command.specs.Fields.{StandsIn, first_amiss, greatest_of, is_amiss, numberless_field, place_of, text_in};
 
 use crate::faults::RowFault;
 use csv::ByteRecord;
@@ -85,9 +86,14 @@ impl FieldName {
     }
 
     /// Its bytes in a row, and none where the row ends before it.
-    pub(crate) fn in_row(self, row: &ByteRecord) -> &[u8] {
+    pub(crate) fn in_row(self, row: &ByteRecord) -> &[u8]
+        ensures { result.now ≡ text_in (fields_of row.now) self }
+    {
         let place = self.number().saturating_sub(1);
-        row.get(place).unwrap_or(b"".as_slice())
+        match row.get(place) {
+            Some(text) => text,
+            None => &[],
+        }
     }
 }
 
@@ -99,7 +105,7 @@ pub(crate) fn faulty_field(
     row: &ByteRecord,
     first: &ByteRecord,
 ) -> Result<Option<FieldName>, AllocError>
-    ensures { IfOk result (StandsIn what) }
+    ensures { IfOk result (StandsIn (fields_of row.now) what) }
 {
     Ok(match what {
         RowFault::NotAnArrival | RowFault::Trace(TraceFaultKind::BadKind) => Some(FieldName::Kind),
@@ -119,20 +125,39 @@ pub(crate) fn faulty_field(
 
 /// The field of a row that has no number, or one that it may not have, where it is to have one.
 fn faulty_number(row: &ByteRecord) -> FieldName
-    ensures { HasNumber result }
+    ensures { result ≡ numberless_field (fields_of row.now) }
 {
-    match FieldName::Kind.in_row(row) {
-        b"enq" => {}
-        b"version" => return FieldName::Version,
-        _ => return FieldName::Moment,
+    let kind = FieldName::Kind.in_row(row);
+    if kind == b"enq".as_slice() {
+        first_amiss(row)
+    } else if kind == b"version".as_slice() {
+        FieldName::Version
+    } else {
+        FieldName::Moment
     }
+}
+
+/// The first field of an arrival that has no number, or one that it may not have, from left to right. It is LEN where
+/// there is none.
+fn first_amiss(row: &ByteRecord) -> FieldName
+    ensures { result ≡ first_amiss (fields_of row.now) NUMBERS }
+{
     for name in NUMBERS {
-        match read_numeral(name.in_row(row)) {
-            Some(number) if number <= name.greatest() => {}
-            _ => return name,
+        if is_amiss(row, name) {
+            return name;
         }
     }
     FieldName::Len
+}
+
+/// Whether a field has no number, or one that it may not have.
+fn is_amiss(row: &ByteRecord, name: FieldName) -> bool
+    ensures { result ≡ is_amiss (fields_of row.now) name }
+{
+    match read_numeral(name.in_row(row)) {
+        Some(number) => name.greatest() < number,
+        None => true,
+    }
 }
 
 /// The field of a row with an address that isn't one, or isn't of the source's kind. It is DST where a row with the

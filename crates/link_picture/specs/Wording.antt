@@ -1,9 +1,42 @@
--- Five-tuples as a legend writes them.
-use Rattle.std.specs.Prelude.{ℕ, zero, suc, ◌+◌, ◌*◌, ◌==◌, false, List, [], ◌++◌, codes, slice_index, if◌then◌else◌}
+-- Times, waits, rates and five-tuples as a picture writes them.
+use Rattle.std.specs.Prelude.{ℕ, zero, suc, ◌+◌, ◌*◌, ◌/◌, ◌%◌, ◌==◌, Bool, false, List, [], ◌++◌, codes, nat_lt, slice_index, if◌then◌else◌}
 use Rattle.std.specs.Fmt.{decimal, digits}
 use Rattle.packet_core.specs.declared.packet.FiveTuple.{FiveTuple}
 use Rattle.packet_core.specs.declared.packet.Ip.{Ip}
 use Rattle.packet_core.specs.declared.packet.Ip.TheVariants.{V4, V6}
+
+-- whether a step is a whole number in a unit
+abbrev pub is_whole : ℕ → ℕ → Bool
+is_whole unit step = step % unit == 0
+
+-- A time of so many microseconds, in the greatest unit in which a step is a whole number. No time has no unit.
+abbrev pub time_text : ℕ → ℕ → List ℕ
+time_text time step =
+    if time == 0 then codes "0"
+    else if is_whole 1000000 step then (decimal (time / 1000000) ++ codes " s")
+    else if is_whole 1000 step then (decimal (time / 1000) ++ codes " ms")
+    else (decimal time ++ codes " us")
+
+-- so many tenths of a unit: its whole number, a dot, and one digit
+abbrev pub tenths_text : ℕ → List ℕ → List ℕ
+tenths_text tenths unit = decimal (tenths / 10) ++ (codes "." ++ (decimal (tenths % 10) ++ (codes " " ++ unit)))
+
+-- A wait of so many microseconds. From a millisecond on it is in milliseconds, and from a second on in seconds. It is
+-- rounded down to whole tenths of these.
+abbrev pub wait_text : ℕ → List ℕ
+wait_text wait =
+    if nat_lt wait 1000 then (decimal wait ++ codes " us")
+    else if nat_lt wait 1000000 then tenths_text (wait / 100) (codes "ms")
+    else tenths_text (wait / 100000) (codes "s")
+
+-- A rate of so many bits a second, in the greatest unit in which a step is a whole number. No rate has no unit.
+abbrev pub rate_text : ℕ → ℕ → List ℕ
+rate_text rate step =
+    if rate == 0 then codes "0"
+    else if is_whole 1000000000 step then (decimal (rate / 1000000000) ++ codes " Gbit/s")
+    else if is_whole 1000000 step then (decimal (rate / 1000000) ++ codes " Mbit/s")
+    else if is_whole 1000 step then (decimal (rate / 1000) ++ codes " kbit/s")
+    else (decimal rate ++ codes " bit/s")
 
 -- four numbers with a dot between each two
 abbrev pub dots_text : List ℕ → List ℕ

@@ -13,8 +13,19 @@ const MILLISECOND: u64 = 1_000;
 /// The microseconds of a second.
 const SECOND: u64 = 1_000_000;
 
+/// The bits of a kilobit.
+const KILOBIT: u64 = 1_000;
+
+/// The bits of a megabit.
+const MEGABIT: u64 = 1_000_000;
+
+/// The bits of a gigabit.
+const GIGABIT: u64 = 1_000_000_000;
+
 /// A time in the greatest unit in which a step is a whole number, for times that are multiples of the step.
-pub(crate) fn time_text(alloc: Global, time: u64, step: u64) -> Result<String, Memory> {
+pub(crate) fn time_text(alloc: Global, time: u64, step: u64) -> Result<String, Memory>
+    ensures { IfOk result (λ text. string_bytes text ≡ Spec.time_text time step) }
+{
     if time == 0 {
         return format!(in alloc; "0");
     }
@@ -30,35 +41,45 @@ pub(crate) fn time_text(alloc: Global, time: u64, step: u64) -> Result<String, M
 }
 
 /// A wait, rounded down to tenths of its unit.
-pub(crate) fn wait_text(alloc: Global, wait: u64) -> Result<String, Memory> {
+pub(crate) fn wait_text(alloc: Global, wait: u64) -> Result<String, Memory>
+    ensures { IfOk result (λ text. string_bytes text ≡ Spec.wait_text wait) }
+{
     if wait < MILLISECOND {
-        return format!(in alloc; "{wait} us");
-    }
-    let (unit, name) = if wait < SECOND {
-        (MILLISECOND, "ms")
+        format!(in alloc; "{wait} us")
+    } else if wait < SECOND {
+        tenths_text(alloc, wait / (MILLISECOND / 10), "ms")
     } else {
-        (SECOND, "s")
-    };
-    let (whole, tenth) = (wait / unit, wait % unit / (unit / 10));
-    format!(in alloc; "{whole}.{tenth} {name}")
+        tenths_text(alloc, wait / (SECOND / 10), "s")
+    }
+}
+
+/// So many tenths of a unit.
+fn tenths_text(alloc: Global, tenths: u64, unit: &str) -> Result<String, Memory>
+    ensures { IfOk result (λ text. string_bytes text ≡ Spec.tenths_text tenths unit.now) }
+{
+    let (whole, tenth) = (tenths / 10, tenths % 10);
+    format!(in alloc; "{whole}.{tenth} {unit}")
 }
 
 /// A rate in the greatest unit in which a step is a whole number, for rates that are multiples of the step.
-pub(crate) fn rate_text(alloc: Global, rate: u64, step: u64) -> Result<String, Memory> {
+pub(crate) fn rate_text(alloc: Global, rate: u64, step: u64) -> Result<String, Memory>
+    ensures { IfOk result (λ text. string_bytes text ≡ Spec.rate_text rate step) }
+{
     if rate == 0 {
         return format!(in alloc; "0");
     }
-    let (unit, name) = if step % 1_000_000_000 == 0 {
-        (1_000_000_000, "Gbit/s")
-    } else if step % 1_000_000 == 0 {
-        (1_000_000, "Mbit/s")
-    } else if step % 1_000 == 0 {
-        (1_000, "kbit/s")
+    if step % GIGABIT == 0 {
+        let gigabits = rate / GIGABIT;
+        format!(in alloc; "{gigabits} Gbit/s")
+    } else if step % MEGABIT == 0 {
+        let megabits = rate / MEGABIT;
+        format!(in alloc; "{megabits} Mbit/s")
+    } else if step % KILOBIT == 0 {
+        let kilobits = rate / KILOBIT;
+        format!(in alloc; "{kilobits} kbit/s")
     } else {
-        (1, "bit/s")
-    };
-    let whole = rate / unit;
-    format!(in alloc; "{whole} {name}")
+        format!(in alloc; "{rate} bit/s")
+    }
 }
 
 /// Where packets of a five-tuple come from, after its number.

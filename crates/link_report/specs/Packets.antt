@@ -116,6 +116,13 @@ arrived known id moment flow packet = record known {
   } ∷ [];
 }
 
+-- whether an event is a packet's arrival
+abbrev pub is_arrival : Event → Bool
+is_arrival (event.Accepted lane id moment flow packet) = true
+is_arrival (event.Sent id moment ecn mark) = false
+is_arrival (event.Dropped id moment cause) = false
+is_arrival (event.Closed moment) = false
+
 -- with an event more: an arrival adds its packet, and a fate is set at the packet with its id
 abbrev pub with_event : Known → Event → Known
 with_event known (event.Accepted lane id moment flow packet) = arrived known id moment flow packet

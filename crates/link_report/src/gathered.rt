@@ -2,7 +2,7 @@
 
 ghost use Rattle.std.specs.Prelude.{◌≡◌, ◌-◌, ◌<◌, ◌≤◌, ◌⊎◌, [], ◌∷◌, ◌++◌, IfErr, IfNone, IfOk, IfSome, OnErr, OnOk, false, length, true};
 ghost use Rattle.link_report.specs.Gatherings.{CanCount, KeepsOn, MakesPackets};
-ghost use Rattle.link_report.specs.Packets.{known_of};
+ghost use Rattle.link_report.specs.Packets.{is_arrival, known_of};
 
 use crate::packets::Packets;
 use journal_core::{Event, GhostList, Keeps, Memory};
@@ -111,6 +111,7 @@ impl Keeps<Event> for Gathered {
         ensures lost { self.new.lost ≡ self.old.lost }
         ensures room { self.new.room ≡ self.old.room - 1 }
         ensures on { KeepsOn self.old self.new }
+        ensures others { is_arrival event ≡ false → self.new.is_short ≡ self.old.is_short }
     {
         if !self.is_short && self.count < self.most {
             // Memory is reserved, so none is missing. That isn't proved, so it is looked at.
@@ -127,6 +128,7 @@ impl Keeps<Event> for Gathered {
         ensures lost { self.new.lost ≡ self.old.lost ++ packet.now ∷ [] }
         ensures room { self.new.room ≡ self.old.room - 1 }
         ensures on { KeepsOn self.old self.new }
+        ensures others { is_arrival event ≡ false → self.new.is_short ≡ self.old.is_short }
     {
         self.tell(event);
         self.lost = self.lost.and(packet);

@@ -1,11 +1,11 @@
 //! The packets of a journal, and what became of each.
 
-ghost use Rattle.std.specs.Prelude.{◌≡◌, ◌<◌, ◌≤◌, ◌+◌, ◌-◌, IfOk, OnOk, length, true, vec_capacity, vec_len};
+ghost use Rattle.std.specs.Prelude.{◌≡◌, ◌<◌, ◌≤◌, ◌+◌, ◌-◌, IfOk, IsOk, OnOk, false, length, true, vec_capacity, vec_len};
 ghost use Rattle.indexmap.specs.IndexSet.{spare};
 ghost use Rattle.packet_core.specs.Packets.{same_tuple};
 ghost use Rattle.journal_core.specs.TupleRows.{with_new};
 ghost use Rattle.link_report.specs.Packets as Spec;
-ghost use Rattle.link_report.specs.Packets.{delay_sent, is_codel_drop, is_marked, is_overflow_drop, is_sent, known_of, last_moment, sent_len, with_event, with_fate};
+ghost use Rattle.link_report.specs.Packets.{delay_sent, is_arrival, is_codel_drop, is_marked, is_overflow_drop, is_sent, known_of, last_moment, sent_len, with_event, with_fate};
 
 use indexmap::IndexSet;
 use journal_core::{Cause, Event, LatestPlaces, Mark, Memory, PACKETS_FOR_PLACES};
@@ -206,6 +206,7 @@ impl Packets {
     pub(crate) fn reserve(&mut self, more: usize) -> Result<usize, Memory>
         ensures same { self.new ≡ self.old }
         ensures room { IfOk result (λ room. more ≤ room) }
+        ensures none { more ≡ 0 → IsOk result }
     {
         let room = take_room(&mut self.tuples, &mut self.records, more)?;
         self.prepare(more);
@@ -222,10 +223,11 @@ impl Packets {
         self.latest.prepare(packets.min(PACKETS_FOR_PLACES));
     }
 
-    /// Adds what an event says.
+    /// Adds what an event says. An arrival alone takes memory.
     pub(crate) fn add(&mut self, event: &Event) -> Result<(), Memory>
         requires { self.old.sent < u64.MAX }
-        ensures { OnOk result (self.new ≡ with_event self.old event.now) }
+        ensures known { OnOk result (self.new ≡ with_event self.old event.now) }
+        ensures others { is_arrival event.now ≡ false → IsOk result }
     {
         match *event {
             Event::Accepted {
@@ -304,6 +306,9 @@ fn take_room(
     ensures more { IfOk result (λ room. more ≤ room) }
     ensures tuple_room { IfOk result (λ room. room ≤ spare tuples.new) }
     ensures record_room { IfOk result (λ room. room ≤ vec_capacity records.new - vec_len records.new) }
+
+    // Where there is memory for them already, none is refused.
+    ensures succeeds { more ≤ spare tuples.old → vec_len records.old + more ≤ vec_capacity records.old → IsOk result }
 {
     tuples.reserve(more)?;
     records.reserve(more)?;
@@ -320,6 +325,9 @@ fn number_of(
 ) -> Result<usize, Memory>
     ensures number { IfOk result (λ number. number ≡ Spec.number_of tuples.old.keys tuple) }
     ensures tuples { OnOk result (tuples.new.keys ≡ with_new same_tuple tuples.old.keys tuple) }
+
+    // It takes no memory where there is a place for one more.
+    ensures succeeds { 0 < spare tuples.old → IsOk result }
 {
     if has_number(tuples, &tuple, guess) {
         return Ok(guess);

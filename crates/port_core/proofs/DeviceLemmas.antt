@@ -132,8 +132,8 @@ ring_there (l ∷ ls) zero r is = (omega arith, λ d. cc is)
 ring_there (l ∷ ls) (suc i) r is = let rest = ring_there ls i r is in (omega (arith, rest.0), rest.1)
 
 -- nothing went through lanes that were just made
-pub keeps_new : (ss : List Sending) (ls : List LaneView) (n : ℕ) → AreNewLanes ss ls n → KeepsLanes [] ls
-keeps_new [] ls n all = record { each = λ i d less. absurd (omega (arith, less, all.senders_number, all.lanes_number)); no_other = λ i more. refl }
-keeps_new (s ∷ ss) ls n all = record { each = λ i d less. (all.each i s d (omega (arith, less, all.lanes_number))).received; no_other = λ i more. refl }
+pub keeps_new : (ss : List Sending) (ls : List LaneView) (n capacity : ℕ) → AreNewLanes ss ls n capacity → KeepsLanes [] ls
+keeps_new [] ls n capacity all = record { each = λ i d less. absurd (omega (arith, less, all.senders_number, all.lanes_number)); no_other = λ i more. refl }
+keeps_new (s ∷ ss) ls n capacity all = record { each = λ i d less. (all.each i s d (omega (arith, less, all.lanes_number))).received; no_other = λ i more. refl }
 
 pub ruleset rings = (rings_look, ring_there)

@@ -70,11 +70,12 @@ grows_accepted d old new moment from packet a lane =
     ap (accepted lane) a.journal ∙ accepted-append lane old.events a.made ∙ ap (λ ps. accepted lane old.events ++ ps) made
 
 -- before the first lane
-pub lanes_none : AreNewLanes [] [] 0
-lanes_none = record { senders_number = refl; lanes_number = refl; each = λ i s l less. absurd (omega (arith, less)) }
+pub lanes_none : (capacity : ℕ) → AreNewLanes [] [] 0 capacity
+lanes_none capacity = record { senders_number = refl; lanes_number = refl; each = λ i s l less. absurd (omega (arith, less)) }
 
-pub lanes_more : (ss : List Sending) (ls : List LaneView) (s : Sending) (l : LaneView) (n : ℕ) → AreNewLanes ss ls n → AreNewEnds s l n → AreNewLanes (ss ++ s ∷ []) (ls ++ l ∷ []) (n + 1)
-lanes_more ss ls s l n old new = record {
+pub lanes_more : (ss : List Sending) (ls : List LaneView) (s : Sending) (l : LaneView) (n capacity : ℕ) → AreNewLanes ss ls n capacity → AreNewEnds s l n capacity
+    → AreNewLanes (ss ++ s ∷ []) (ls ++ l ∷ []) (n + 1) capacity
+lanes_more ss ls s l n capacity old new = record {
   senders_number = omega (arith, length-append ss (s ∷ []), old.senders_number);
   lanes_number = omega (arith, length-append ls (l ∷ []), old.lanes_number);
   each = λ i e d less. ⊎_elim

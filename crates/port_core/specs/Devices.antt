@@ -95,18 +95,21 @@ abbrev pub TakesAllLeft : List LaneView → ℕ → ℕ → ℕ → Type 0
 TakesAllLeft lanes lane burst k = (d : LaneView) → (slice_index_or lanes lane d).settled ≡ true
     → k ≡ min burst (length (slice_index_or lanes lane d).known)
 
--- The two ends of a lane that was just made: they are those of one ring, through which nothing went.
-pub record AreNewEnds (s : Sending) (l : LaneView) (lane : ℕ) : Type 0 where
+-- The two ends of a lane that was just made: they are those of one ring, through which nothing went, and which has room
+-- for so many packets.
+pub record AreNewEnds (s : Sending) (l : LaneView) (lane capacity : ℕ) : Type 0 where
   pub number : s.lane ≡ lane
   pub ring : s.ring ≡ l.ring
   pub submitted : s.submitted ≡ []
+  pub room : s.room ≡ capacity
   pub received : l.received ≡ []
   pub known : l.known ≡ []
   pub settled : l.settled ≡ false
 
--- The senders and the device's ends of so many lanes that were just made, in the order of their numbers.
-pub record AreNewLanes (senders : List Sending) (lanes : List LaneView) (number : ℕ) : Type 0 where
+-- The senders and the device's ends of so many lanes that were just made, in the order of their numbers. Each lane has
+-- room for so many packets.
+pub record AreNewLanes (senders : List Sending) (lanes : List LaneView) (number capacity : ℕ) : Type 0 where
   pub senders_number : length senders ≡ number
   pub lanes_number : length lanes ≡ number
   pub each : (i : ℕ) (s : Sending) (l : LaneView) → i < number
-      → AreNewEnds (slice_index_or senders i s) (slice_index_or lanes i l) i
+      → AreNewEnds (slice_index_or senders i s) (slice_index_or lanes i l) i capacity

@@ -1,6 +1,7 @@
 //! The sender's end of a lane, and a sender that submits its packets there.
 
-ghost use Rattle.std.specs.Prelude.{◌≡◌, ◌⊎◌, ◌≤◌, ◌<◌, ◌+◌, ◌++◌, ◌∷◌, [], ℕ, IfSome, MatchResult, length, take};
+ghost use Rattle.std.specs.Prelude.{◌≡◌, ◌≢◌, ◌⊎◌, ◌≤◌, ◌<◌, ◌+◌, ℕ, IfErr, IfSome, OnErr, OnOk, length, take};
+ghost use Rattle.port_core.specs.Lanes.{Submits, finished_after};
 ghost use Rattle.port_core.specs.declared.gate.Stop.TheVariants as stop;
 
 use crate::gate::{Gate, Stop, passes};
@@ -12,8 +13,8 @@ use std::marker::Model;
 #[derive(Clone, Copy, Debug, PartialEq, Eq)]
 pub struct LaneFull(pub Packet);
 
-/// The sender's end of a lane. It never waits for another thread. Contracts see the lane's number, its ring and the
-/// packets that were submitted, in order.
+/// The sender's end of a lane. It never waits for another thread. Contracts see the lane's number, its ring, the packets
+/// that were submitted, in order, and for how many more there is room at least.
 #[derive(Drop)]
 pub struct LaneSender {
     lane: u32,
@@ -22,11 +23,16 @@ pub struct LaneSender {
 
 impl Model for LaneSender {
     ghost use Rattle.port_core.specs.Lanes.{Sending, ring_of};
-    ghost use Rattle.rtrb.specs.Ring.{sent};
+    ghost use Rattle.rtrb.specs.Ring.{known_free, sent};
 
     ghost Value = { Sending };
 
-    ghost view = { λ s. record { lane = s.lane; ring = ring_of s.producer.end; submitted = sent s.producer } };
+    ghost view = { λ s. record {
+      lane = s.lane;
+      ring = ring_of s.producer.end;
+      submitted = sent s.producer;
+      room = known_free s.producer;
+    } };
 }
 
 /// What is left of a sender that has finished: nothing can be submitted to its lane any more. The device settles the
@@ -43,16 +49,26 @@ impl Model for LaneEnd {
 
     ghost Value = { Sending };
 
-    ghost view = { λ e. record { lane = e.lane; ring = ring_of e.finished.end; submitted = all_sent e.finished } };
+    ghost view = { λ e. record {
+      lane = e.lane;
+      ring = ring_of e.finished.end;
+      submitted = all_sent e.finished;
+      room = 0;
+    } };
 }
 
 impl LaneSender {
     ghost use Rattle.port_core.specs.Lanes.{Sending, ring_of};
-    ghost use Rattle.rtrb.specs.Ring.{sent};
+    ghost use Rattle.rtrb.specs.Ring.{known_free, sent};
 
     /// The sender of a lane, over the end of its ring.
     pub(crate) fn new(lane: u32, producer: Producer<Packet>) -> LaneSender
-        ensures { result ≡ record { lane = lane; ring = ring_of producer.end; submitted = sent producer } }
+        ensures { result ≡ record {
+          lane = lane;
+          ring = ring_of producer.end;
+          submitted = sent producer;
+          room = known_free producer;
+        } }
     {
         LaneSender { lane, producer }
     }
@@ -66,9 +82,10 @@ impl LaneSender {
 
     /// Puts a packet at the lane's end, or gives it back where the lane is full. It takes no memory and doesn't wait.
     pub fn submit(&mut self, packet: Packet) -> Result<(), LaneFull>
-        ensures { MatchResult result
-            (λ _. self.new ≡ record self.old { submitted = self.old.submitted ++ packet ∷ [] })
-            (λ full. (full.0 ≡ packet) × (self.new ≡ self.old)) }
+        ensures submitted { OnOk result (Submits self.old packet self.new) }
+        ensures full { OnErr result (self.old.room ≡ 0) }
+        ensures back { IfErr result (λ full. full.0 ≡ packet) }
+        ensures unchanged { OnErr result (self.new ≡ self.old) }
     {
         match self.producer.push(packet) {
             Ok(()) => Ok(()),
@@ -78,7 +95,7 @@ impl LaneSender {
 
     /// Ends the lane: from here on nothing is submitted to it. Nothing comes back where the device was dropped before.
     pub fn finish(self) -> Option<LaneEnd>
-        ensures { IfSome result (λ end. end ≡ self) }
+        ensures { IfSome result (λ end. end ≡ record self { room = 0 }) }
     {
         let LaneSender { lane, producer } = self;
         let finished = producer.finish()?;
@@ -128,9 +145,8 @@ pub fn send_lane<G: Gate>(sender: LaneSender, packets: &[Packet], gate: &G) -> L
     ensures gate { (call : ℕ) → 0 < call → call ≤ result.submitted → G.LetThrough gate.now call }
     ensures stalled { result.stop ≡ stop.Stalled → G.HeldUp gate.now (result.submitted + 1) }
     ensures full { result.stop ≡ stop.Full → G.LetThrough gate.now (result.submitted + 1) }
-    ensures end { IfSome result.end (λ end. end ≡ record sender {
-      submitted = sender.submitted ++ take result.submitted packets.now;
-    }) }
+    ensures fits { length packets.now ≤ sender.room → result.stop ≢ stop.Full }
+    ensures end { IfSome result.end (λ end. end ≡ finished_after sender (take result.submitted packets.now)) }
 {
     let mut sender = sender;
     let mut submitted = 0u64;

@@ -55,7 +55,7 @@ pub struct Opened<
 
 /// Both ends of a lane.
 fn new_lane(alloc: Global, lane: u32, capacity: u32) -> Result<(LaneSender, Lane), AllocError>
-    ensures { IfOk result (λ ends. AreNewEnds ends.0 ends.1 lane) }
+    ensures { IfOk result (λ ends. AreNewEnds ends.0 ends.1 lane capacity) }
 {
     let (producer, consumer) = RingBuffer::new(alloc, capacity as usize)?;
     Ok((LaneSender::new(lane, producer), Lane::new(consumer)))
@@ -68,7 +68,7 @@ fn new_lanes(
     number: u32,
     capacity: u32,
 ) -> Result<(Vec<LaneSender>, Vec<Lane>), AllocError>
-    ensures { IfOk result (λ ends. AreNewLanes ends.0.items ends.1.items number) }
+    ensures { IfOk result (λ ends. AreNewLanes ends.0.items ends.1.items number capacity) }
 {
     let mut senders = Vec::new(alloc);
     let mut lanes = Vec::new(alloc);
@@ -95,7 +95,7 @@ pub fn lanes<J: BookName, R: Wait + Drop>(
     requires capacity { (0 < layout.capacity) × (layout.capacity ≤ MAX_CAPACITY) }
     requires monitors { layout.monitors ≤ MAX_MONITORS }
     ensures engine { IfOk result (λ o. o.device.engine ≡ new_engine params seed) }
-    ensures lanes { IfOk result (λ o. AreNewLanes o.senders.items o.device.lanes layout.lanes) }
+    ensures lanes { IfOk result (λ o. AreNewLanes o.senders.items o.device.lanes layout.lanes layout.capacity) }
     ensures published { IfOk result (λ o. o.device.published ≡ nothing_published) }
     ensures monitors { IfOk result (λ o. o.monitors.items ≡ replicate layout.monitors []) }
     ensures no_place { IfErr result (λ why. layout.monitors ≡ 0 → why ≡ open_fault.Memory) }
@@ -131,7 +131,7 @@ pub fn lanes_with_keepers<J: BookName, R: Wait + Drop, K: Keeps<Event>, S: Keeps
     requires no_loss { K.lost events ≡ [] }
     requires steps { S.told steps ≡ [] }
     ensures engine { IfOk result (λ o. o.device.engine ≡ new_engine params seed) }
-    ensures lanes { IfOk result (λ o. AreNewLanes o.senders.items o.device.lanes layout.lanes) }
+    ensures lanes { IfOk result (λ o. AreNewLanes o.senders.items o.device.lanes layout.lanes layout.capacity) }
     ensures published { IfOk result (λ o. o.device.published ≡ nothing_published) }
     ensures monitors { IfOk result (λ o. o.monitors.items ≡ replicate layout.monitors []) }
     ensures no_place { IfErr result (λ why. layout.monitors ≡ 0 → why ≡ open_fault.Memory) }

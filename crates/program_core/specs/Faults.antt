@@ -76,7 +76,8 @@ IsLockedFault seed words senders input old new program_fault.Write =
 IsLockedFault seed words senders input old new program_fault.Settle = Keeps old new
 IsLockedFault seed words senders input old new fault = IsRunFault seed words input old new fault
 
--- The same where they have lanes. One of them may not have submitted all of its packets.
+-- The same where they have lanes. A sender may have more packets than its lane has room for, or its lane may have no
+-- end.
 abbrev pub IsLanesFault : Option (List ℕ) → List (List ℕ) → ℕ → Option (List ℕ) → Option (List ℕ) → Option (List ℕ)
     → ProgramFault → Type 0
 IsLanesFault seed words senders input old new program_fault.Write =

@@ -60,8 +60,7 @@ pub enum ProgramFault {
     /// the locked port itself.
     #[error("settle")]
     Settle,
-    /// The sender of that lane didn't submit all of its packets, or its lane has no end. A lane has room for 1,048,576
-    /// packets.
+    /// The sender of that lane has more packets than a lane has room for, which is 1,048,576, or its lane has no end.
     #[error("lane {0}")]
     Lane(u32),
 }

@@ -1,5 +1,5 @@
 -- A device in a run through lanes, and the rows of its lanes.
-use Rattle.std.proofs.Common.{◌≡◌, ◌≢◌, ◌∙◌, ℕ, zero, suc, ◌+◌, ◌-◌, ◌<◌, ◌≤◌, true, false, List, [], ◌∷◌, ◌++◌, All, IfOk, IfSome, None, OnErr, OnOk, Option, Some, Result, Ok, Err, Vec, Global, append-nil, append_assoc, ap, arith, cond, drop, get_or, length, map, min, refl, slice_get, slice_index_or, subst, sym, take, length-append, ⊎_elim}
+use Rattle.std.proofs.Common.{◌≡◌, ◌≢◌, ◌∙◌, ℕ, zero, suc, ◌+◌, ◌-◌, ◌<◌, ◌≤◌, true, false, List, [], ◌∷◌, ◌++◌, All, IfOk, IfSome, None, OnErr, OnOk, Option, Some, Result, Ok, Err, Vec, Global, append-nil, append_assoc, ap, arith, cond, drop, get_or, inl, inr, length, map, min, refl, slice_get, slice_index_or, subst, sym, take, length-append, ◌⊎◌, ⊎_elim}
 use Rattle.std.proofs.lemmas.Bool.{eq-eqb, ne_eqb}
 use Rattle.std.proofs.lemmas.Bool.Decides.{eqb_tells, nat_tests}
 use Rattle.std.proofs.lemmas.List.{get_or-map, get_or_append_left, get_or_push, length-map, length-take-le, take-append-le, take_all}
@@ -17,8 +17,9 @@ use Rattle.fair_core.specs.FqCodel.{fq_codel}
 use Rattle.sched_core.specs.Engines.{Running}
 use Rattle.sched_core.specs.Schedulers.{IsAdvanced, IsServed, discipline_of}
 use Rattle.port_core.proofs.LaneLemmas.{stays_closed, stays_served}
-use Rattle.port_core.specs.Devices.{AreNewLanes, Holding, KeepsLanes, Pumps, TakesAllLeft, fed_of, rings_of}
-use Rattle.port_core.specs.Lanes.{LaneView, RingId, Sending, accepted}
+use Rattle.port_core.specs.Devices.{Holding, KeepsLanes, Pumps, TakesAllLeft, fed_of, rings_of}
+use Rattle.port_core.specs.Lanes.{LaneView, RingId, Sending, accepted, finished_after}
+use Rattle.port_core.specs.declared.gate.Stop.{Stop}
 use Rattle.port_core.specs.declared.gate.Stop.TheVariants as stop
 use Rattle.port_core.specs.declared.lane_sender.LaneDone.{LaneDone}
 use Rattle.trace_core.specs.declared.journal_report.SenderRow.{SenderRow}
@@ -28,8 +29,11 @@ use Rattle.journal_core.specs.Calls.{Gives}
 use Rattle.journal_core.proofs.StepTotals.{adds_sent, given_count}
 use Rattle.run_core.proofs.DeviceRunLemmas.{dequeues_next, pumped_also}
 use Rattle.sender_core.proofs.SenderLemmas.{member}
-use Rattle.sender_core.specs.Senders.{AreCalls, IsLaneDone, calls_of}
+use Rattle.sender_core.specs.Senders.{AreCalls, IsHeldUp, IsLaneDone, calls_of}
 use Rattle.run_core.specs.Journals.{AreLaneRows, AreLanesJournal, IsLaneRow, IsSameDevice, IsSent, submitted_of}
+use Rattle.run_core.specs.LaneRooms.{AreLanesFor, capacity_for}
+use Rattle.run_core.specs.SendersFaults.{IsEndingFault, IsLanesRunFault}
+use Rattle.run_core.specs.declared.senders_fault.SendersFault.{SendersFault}
 
 -- what follows from what holds where there is no fault
 pub on_ok_so : {X E : Type 0} (r : Result X E) (A B : Type 0) → (A → B) → OnOk r A → OnOk r B
@@ -248,29 +252,45 @@ ring_at (l ∷ ls) (suc i) d less = ring_at ls i d (omega (arith, less))
 
 -- the end of a sender whose lane was new has that lane's ring
 end_ring : (rings : List RingId) (i k : ℕ) (sender : Sending) (packets : List PacketParts) (end : Option Sending) → slice_get rings i ≡ Some sender.ring
-    → IfSome end (λ e. e ≡ record sender { submitted = sender.submitted ++ take k packets }) → IfSome end (λ e. slice_get rings i ≡ Some e.ring)
+    → IfSome end (λ e. e ≡ finished_after sender (take k packets)) → IfSome end (λ e. slice_get rings i ≡ Some e.ring)
 end_ring rings i k sender packets None stands is = tt
 end_ring rings i k sender packets (Some e) stands is = stands ∙ ap (λ (s : Sending). Some s.ring) (sym is)
 
 -- and was given so many packets
 end_submitted : (k : ℕ) (sender : Sending) (packets : List PacketParts) (end : Option Sending) → sender.submitted ≡ [] → k ≤ length packets
-    → IfSome end (λ e. e ≡ record sender { submitted = sender.submitted ++ take k packets }) → IfSome end (λ e. k ≡ length e.submitted)
+    → IfSome end (λ e. e ≡ finished_after sender (take k packets)) → IfSome end (λ e. k ≡ length e.submitted)
 end_submitted k sender packets None none most is = tt
 end_submitted k sender packets (Some e) none most is =
     sym (length-take-le k packets most) ∙ sym (ap (λ (s : Sending). length s.submitted) is ∙ ap (λ ps. length (ps ++ take k packets)) none)
 
 -- all of them, where it came to its end
 end_whole : (k : ℕ) (sender : Sending) (packets : List PacketParts) (end : Option Sending) → sender.submitted ≡ [] → k ≡ length packets
-    → IfSome end (λ e. e ≡ record sender { submitted = sender.submitted ++ take k packets }) → IfSome end (λ e. e.submitted ≡ packets)
+    → IfSome end (λ e. e ≡ finished_after sender (take k packets)) → IfSome end (λ e. e.submitted ≡ packets)
 end_whole k sender packets None none all is = tt
 end_whole k sender packets (Some e) none all is = ap (λ (s : Sending). s.submitted) is ∙ ap (λ ps. ps ++ take k packets) none ∙ take_all k packets (omega (arith, all))
 
+-- a list has no more packets than the longest of them
+list_fits : (lists : List (Vec PacketParts Global)) (i : ℕ) (l : Vec PacketParts Global) → i < length lists → length (slice_index_or lists i l).items ≤ capacity_for lists
+list_fits [] i l less = absurd (omega (arith, less))
+list_fits (v ∷ lists) zero l less = omega arith
+list_fits (v ∷ lists) (suc i) l less = omega (arith, list_fits lists i l (omega (arith, less)))
+
+-- a sender came to its end where its lane had room for all of its packets, and nothing held it up
+came_to_end : (sender : Sending) (packets : List PacketParts) (submitted : ℕ) (why : Stop) (end : Option Sending) → length packets ≤ sender.room → IsHeldUp (λ _. ⊥) submitted why
+    → IsLaneDone sender packets submitted why end → why ≡ stop.Done
+came_to_end sender packets submitted why end room held did = three did.stops
+  where
+    three : (why ≡ stop.Done) ⊎ (why ≡ stop.Stalled) ⊎ (why ≡ stop.Full) → why ≡ stop.Done
+    three s = ⊎_elim (λ is. is) (λ t. ⊎_elim (λ is. absurd (held is)) (λ is. absurd (did.fits room is)) t) s
+
 -- what each sender did, by the lanes that were opened
-pub sent_each : (senders : List Sending) (old new : Holding) (lists : List (Vec PacketParts Global)) (done : List LaneDone) (n : ℕ) → AreNewLanes senders old.lanes n → IsSameDevice old new
+pub sent_each : (senders : List Sending) (old new : Holding) (lists : List (Vec PacketParts Global)) (done : List LaneDone) → AreLanesFor senders old.lanes lists → IsSameDevice old new
+    → ((i : ℕ) (d : LaneDone) → i < length senders → IsHeldUp (λ _. ⊥) (slice_index_or done i d).submitted (slice_index_or done i d).stop)
     → ((i : ℕ) (d : LaneDone) (s : Sending) (l : Vec PacketParts Global) → i < length senders
     → IsLaneDone (slice_index_or senders i s) (slice_index_or lists i l).items (slice_index_or done i d).submitted (slice_index_or done i d).stop (slice_index_or done i d).end)
-    → (i : ℕ) (d : LaneDone) (l : Vec PacketParts Global) → i < n → IsSent (rings_of new.lanes) i (slice_index_or lists i l).items (slice_index_or done i d)
-sent_each senders old new lists done n opened same each i d l less =
+    → (i : ℕ) (d : LaneDone) (l : Vec PacketParts Global) → i < length lists → IsSent (rings_of new.lanes) i (slice_index_or lists i l).items (slice_index_or done i d)
+sent_each senders old new lists done lanes same held each i d l less =
+    let opened = lanes.opened in
     let here : i < length senders = omega (arith, less, opened.senders_number) in
     let there : i < length old.lanes = omega (arith, less, opened.lanes_number) in
     let s = member senders i here in
@@ -280,10 +300,12 @@ sent_each senders old new lists done n opened same each i d l less =
     let one = slice_index_or done i d in
     let ends = opened.each i s v less in
     let did = each i d s l here in
+    let room : length packets ≤ sender.room = omega (arith, list_fits lists i l less, lanes.enough, ends.room) in
+    let is = came_to_end sender packets one.submitted one.stop one.end room (held i d here) did in
     let stands : slice_get (rings_of new.lanes) i ≡ Some sender.ring = ap (λ rs. slice_get rs i) same.rings ∙ ring_at old.lanes i v there ∙ ap (λ (r : RingId). Some r) (sym ends.ring) in
     record {
-      fits = record { ring = end_ring (rings_of new.lanes) i one.submitted sender packets one.end stands did.ends; submitted = end_submitted one.submitted sender packets one.end ends.submitted did.most did.ends };
-      whole = λ is. end_whole one.submitted sender packets one.end ends.submitted (did.done is) did.ends;
+      fits = record { ring = end_ring (rings_of new.lanes) i one.submitted sender packets one.end stands did.ends; submitted = end_submitted one.submitted sender packets one.end ends.submitted did.most did.ends; ended = is };
+      whole = end_whole one.submitted sender packets one.end ends.submitted (did.done is) did.ends;
     }
 
 -- the packets of a sender whose end is there
@@ -311,7 +333,7 @@ lane_rows lists rings done rows device sent done_number rows_number all each kee
       let d = member done i finished in
       let is_whole = all i d finished in
       let packets : submitted_of (slice_index_or done i d).end ≡ (slice_index_or lists i l).items =
-      submitted_whole (slice_index_or done i d).end (slice_index_or lists i l).items is_whole.1 ((sent i d l less).whole is_whole.0) in
+      submitted_whole (slice_index_or done i d).end (slice_index_or lists i l).items is_whole.1 (sent i d l less).whole in
       subst (λ ps. IsLaneRow i ps device.engine.sched.standing.events (slice_index_or rows i r)) packets (each i r d finished);
   no_other = λ i past. keeps.no_other i (omega (arith, past, lanes_number));
 }
@@ -355,3 +377,9 @@ lanes_journal p seed n steps calls lists engine rows are listed told params_are 
   where
     as_many : length lists ≡ n
     as_many = lists_number p seed n steps calls lists are listed
+
+-- a fault of the end of a run is one of the run
+pub some_fault : (done : List LaneDone) (n : ℕ) (fault : SendersFault) → length done ≡ n → IsEndingFault done fault → IsLanesRunFault n fault
+some_fault done n fault number is = ⊎_elim (λ memory. inl memory)
+    (λ t. inr (t.0, omega (arith, t.1, number), (t.2 (member done t.0 t.1)).is))
+    is

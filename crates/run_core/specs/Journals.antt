@@ -65,15 +65,17 @@ abbrev pub submitted_of : Option Sending → List PacketParts
 submitted_of None = []
 submitted_of (Some end) = end.submitted
 
--- What a sender did fits the lane of that number: its end has that lane's ring, and as many packets as were submitted.
+-- What a sender did fits the lane of that number: it came to its end, and that has the lane's ring, and as many packets
+-- as were submitted.
 pub record FitsLane (rings : List RingId) (lane : ℕ) (done : LaneDone) : Type 0 where
   pub ring : IfSome done.end (λ e. slice_get rings lane ≡ Some e.ring)
   pub submitted : IfSome done.end (λ e. done.submitted ≡ length e.submitted)
+  pub ended : done.stop ≡ stop.Done
 
--- And where the sender came to its end, it submitted all of these packets.
+-- And it submitted all of these packets.
 pub record IsSent (rings : List RingId) (lane : ℕ) (packets : List PacketParts) (done : LaneDone) : Type 0 where
   pub fits : FitsLane rings lane done
-  pub whole : done.stop ≡ stop.Done → IfSome done.end (λ e. e.submitted ≡ packets)
+  pub whole : IfSome done.end (λ e. e.submitted ≡ packets)
 
 -- Monitors are shown the whole journal.
 abbrev pub ShowsAll : Holding → Type 0

@@ -3,16 +3,16 @@ ghost use Rattle.std.specs.Prelude.{◌≡◌, ◌≢◌, ◌≤◌, ◌<◌, �
 ghost use denote.Param.Send.{IsSync};
 ghost use Rattle.journal_core.specs.declared.step.Step.TheVariants.{Dequeue};
 ghost use Rattle.journal_core.specs.State.{IsRefusal};
-ghost use Rattle.port_core.specs.Devices.{AreNewLanes, Pumps, TakesAllLeft, fed_of, pump_refusal_of, rings_of};
+ghost use Rattle.port_core.specs.Devices.{Pumps, TakesAllLeft, fed_of, pump_refusal_of, rings_of};
 ghost use Rattle.port_core.specs.Lanes.{LaneView, accepted};
 ghost use Rattle.port_core.specs.declared.gate.Stop.TheVariants as stop;
 ghost use Rattle.port_core.specs.declared.opening.TheConstants.{MAX_CAPACITY, MAX_MONITORS};
 ghost use Rattle.sender_core.specs.declared.interleaving.TheConstants.{MAX_SENDERS};
 ghost use Rattle.run_core.specs.DeviceRuns.{Dequeues, EmptiesLane, EndsRun, Finishes, HasServed, IsAny, IsBurst, IsDeviceRun, IsIdle, PumpsAll, ServesRow, closed_at, has_close, last_moment};
 ghost use Rattle.run_core.specs.Journals.{AreLaneRows, AreLanesJournal, FitsLane, IsLaneRow, IsLanesRunOf, IsSameDevice, ShowsAll, submitted_of};
-ghost use Rattle.run_core.specs.LaneRooms.{IsTooLong, capacity_for};
+ghost use Rattle.run_core.specs.LaneRooms.{AreLanesFor, IsTooLong, capacity_for};
 ghost use Rattle.run_core.specs.Seeing.{AreTotalsOf, IsSeenOf};
-ghost use Rattle.run_core.specs.SendersFaults.{IsLanesRunFault};
+ghost use Rattle.run_core.specs.SendersFaults.{IsEndingFault, IsEndless, IsLanesRunFault};
 ghost use Rattle.run_core.specs.declared.senders_fault.SendersFault.TheVariants as senders_fault;
 
 use crate::monitors::{read_all, seen_of_journal};
@@ -21,7 +21,7 @@ use crate::senders_fault::SendersFault;
 use packet_core::{Packet, Params, Seed};
 use port_core::{
     BookBlank, BookName, Device, LaneDone, LaneSender, Layout, MAX_CAPACITY, MAX_MONITORS, Monitor,
-    Open, Opened, PublishFault, Screen, Seen, Shown, Stop, lanes_with_keepers,
+    Open, Opened, PublishFault, Screen, Seen, Shown, lanes_with_keepers,
 };
 use sched_core::{Engine, Refusal, Step};
 use sender_core::{Expected, MAX_SENDERS, device_moment, lists_of, packets_of, start_lanes};
@@ -100,6 +100,7 @@ fn run_in_book<J: BookName + Send + Sync, H: Threads + Wait + Sync>(
     requires book { blank ≡ J.book }
     requires lanes { (layout.lanes ≡ length lists.now) × (0 < layout.lanes) × (layout.lanes ≤ MAX_SENDERS) }
     requires capacity { (0 < layout.capacity) × (layout.capacity ≤ MAX_CAPACITY) }
+    requires room { capacity_for lists.now ≤ layout.capacity }
     requires monitors { layout.monitors ≤ MAX_MONITORS }
     ensures params { IfOk result (λ r. (r.0.sched.params ≡ params) × (r.0.sched.seed ≡ seed)) }
     ensures rows { IfOk result (λ r. AreLaneRows lists.now r.0.sched.standing.events r.1.items) }
@@ -129,7 +130,7 @@ fn run_opened<
     steps: &[Step],
     lists: &[Vec<Packet>],
 ) -> Result<(Engine, Vec<SenderRow>, Vec<Seen>), SendersFault>
-    requires lanes { AreNewLanes opened.senders.items opened.device.lanes (length lists.now) }
+    requires lanes { AreLanesFor opened.senders.items opened.device.lanes lists.now }
     requires number { length lists.now ≤ MAX_SENDERS }
     ensures params { IfOk result (λ r. (r.0.sched.params ≡ opened.device.engine.sched.params)
         × (r.0.sched.seed ≡ opened.device.engine.sched.seed)) }
@@ -167,7 +168,7 @@ fn run_watched<
     steps: &[Step],
     lists: &[Vec<Packet>],
 ) -> Result<(Engine, Vec<SenderRow>, Vec<Seen>), SendersFault>
-    requires lanes { AreNewLanes senders.items device.lanes (length lists.now) }
+    requires lanes { AreLanesFor senders.items device.lanes lists.now }
     requires number { length lists.now ≤ MAX_SENDERS }
     requires readers { readers ≡ length monitors.items }
     ensures made { IfOk result (λ r. IsLanesRunOf device steps.now lists.now r.0 r.1.items) }
@@ -178,7 +179,7 @@ fn run_watched<
     let ended = AtomicBool::new(false);
     let over = &ended;
     let run = move || -> Result<(Device<J, X>, Vec<SenderRow>), SendersFault>
-        requires { IsSync H.row × AreNewLanes senders.items device.lanes (length lists.now)
+        requires { IsSync H.row × AreLanesFor senders.items device.lanes lists.now
             × (length lists.now ≤ MAX_SENDERS) }
         ensures { IfOk result (λ r. IsLanesRunOf device steps.entry.now lists.entry.now r.0.engine r.1.items
             × (0 < readers → ShowsAll r.0))
@@ -235,7 +236,7 @@ fn run_device<J: BookName, X: Screen<Shown<J>> + Drop, H: Threads + Sync>(
     lists: &[Vec<Packet>],
     readers: usize,
 ) -> Result<(Device<J, X>, Vec<SenderRow>), SendersFault>
-    requires lanes { AreNewLanes senders.items device.lanes (length lists.now) }
+    requires lanes { AreLanesFor senders.items device.lanes lists.now }
     requires number { length lists.now ≤ MAX_SENDERS }
     ensures made { IfOk result (λ r. IsLanesRunOf device steps.now lists.now r.0.engine r.1.items) }
     ensures shown { 0 < readers → IfOk result (λ r. ShowsAll r.0) }
@@ -434,7 +435,7 @@ fn ended<J: BookName, X: Screen<Shown<J>> + Drop>(
     ensures idle { OnOk result ((moment : ℕ) × IsIdle moment device.new.engine) }
     ensures none_left { has_close device.old.engine.steps ≡ false
         → IfOk result (λ rows. All (λ row. row.left ≡ 0) rows.items) }
-    ensures fault { IfErr result (IsLanesRunFault (length done.items)) }
+    ensures fault { IfErr result (IsEndingFault done.items) }
 {
     let rows = rows_of(alloc, device, done)?;
     finish(device)?;
@@ -461,7 +462,7 @@ fn rows_of<J: BookName, X: Screen<Shown<J>> + Drop>(
         (length device.old.lanes) device.new.engine.steps) }
     ensures none_left { has_close device.old.engine.steps ≡ false
         → IfOk result (λ rows. All (λ row. row.left ≡ 0) rows.items) }
-    ensures fault { IfErr result (IsLanesRunFault (length done.items)) }
+    ensures fault { IfErr result (IsEndingFault done.items) }
 {
     let mut rows = Vec::new(alloc);
     let mut lane = 0;
@@ -472,7 +473,7 @@ fn rows_of<J: BookName, X: Screen<Shown<J>> + Drop>(
     Ok(rows)
 }
 
-/// The row of a lane.
+/// The row of a lane, to which its sender submitted all packets.
 fn row_of<J: BookName, X: Screen<Shown<J>> + Drop>(
     device: &mut Device<J, X>,
     lane: u32,
@@ -487,16 +488,13 @@ fn row_of<J: BookName, X: Screen<Shown<J>> + Drop>(
     ensures none_left { has_close device.old.engine.steps ≡ false → IfOk result (λ row. row.left ≡ 0) }
     ensures others { (i : ℕ) → i ≢ lane → accepted i device.new.engine.sched.standing.events
         ≡ accepted i device.old.engine.sched.standing.events }
-    ensures fault { IfErr result (λ why. (why ≡ senders_fault.Memory) ⊎ (why ≡ senders_fault.Lane lane)) }
+    ensures fault { IfErr result (λ why. (why ≡ senders_fault.Memory) ⊎ IsEndless lane done why) }
 {
     let LaneDone {
         submitted,
-        stop,
+        stop: _,
         end,
     } = done;
-    if stop != Stop::Done {
-        return Err(SendersFault::Lane(lane));
-    }
     let Some(end) = end else {
         return Err(SendersFault::Lane(lane));
     };

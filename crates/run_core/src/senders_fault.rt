@@ -14,8 +14,7 @@ pub enum SendersFault {
     /// The journal isn't what the senders were told, or isn't that of a whole run by their calls. It would show a fault of
     /// the locked port itself.
     Settle,
-    /// The sender of that lane didn't submit all of its packets, or its lane has no end. A lane has room for 1,048,576
-    /// packets.
+    /// The sender of that lane has more packets than a lane has room for, which is 1,048,576, or its lane has no end.
     Lane(u32),
 }
 

@@ -1,7 +1,7 @@
 //! The senders of a run through lanes: their packets, and their threads.
 ghost use Rattle.std.specs.Prelude.{◌≡◌, ◌<◌, ℕ, IfOk, length, map, slice_index_or};
 ghost use denote.Param.Send.{IsSync};
-ghost use Rattle.sender_core.specs.Senders.{IsLaneDone, LetsThrough};
+ghost use Rattle.sender_core.specs.Senders.{IsHeldUp, IsLaneDone, LetsThrough};
 
 use packet_core::Packet;
 use port_core::{Gate, LaneDone, LaneSender, send_lane};
@@ -70,7 +70,8 @@ fn lane_jobs_of<'a, G>(
 
 /// Starts the senders, each in a thread of its own with its lane, its list and its gate, calls the device's part once
 /// meanwhile, joins the senders, and gives what each of them did, in their order. The gate of each let every submit of its
-/// sender through. Where a thread can't be made, another one runs its part. It fails where a growth is refused.
+/// sender through, and held the next one up where the sender stalled. Where a thread can't be made, another one runs its
+/// part. It fails where a growth is refused.
 pub fn start_lanes<H: Threads + Sync, G: Gate + Sync, F: FnOnce() -> X, X: Drop>(
     rt: &H,
     alloc: Global,
@@ -89,6 +90,9 @@ pub fn start_lanes<H: Threads + Sync, G: Gate + Sync, F: FnOnce() -> X, X: Drop>
         (slice_index_or r.0.items i d).end) }
     ensures gates { IfOk result (λ r. (i : ℕ) (d : _) (g : _) → i < length senders.items
         → LetsThrough (G.LetThrough (slice_index_or gates.now i g)) (slice_index_or r.0.items i d).submitted) }
+    ensures held { IfOk result (λ r. (i : ℕ) (d : _) (g : _) → i < length senders.items
+        → IsHeldUp (G.HeldUp (slice_index_or gates.now i g)) (slice_index_or r.0.items i d).submitted
+        (slice_index_or r.0.items i d).stop) }
 {
     let jobs = lane_jobs_of(alloc, senders, lists, gates)?;
     let senders = move || -> Result<Vec<LaneDone>, AllocError>
@@ -100,7 +104,10 @@ pub fn start_lanes<H: Threads + Sync, G: Gate + Sync, F: FnOnce() -> X, X: Drop>
             (slice_index_or done.items i d).end)
             × ((i : ℕ) (d : _) (j : _) → i < length jobs.entry.items
             → LetsThrough (G.LetThrough (slice_index_or jobs.entry.items i j).gate.now)
-            (slice_index_or done.items i d).submitted)) }
+            (slice_index_or done.items i d).submitted)
+            × ((i : ℕ) (d : _) (j : _) → i < length jobs.entry.items
+            → IsHeldUp (G.HeldUp (slice_index_or jobs.entry.items i j).gate.now)
+            (slice_index_or done.items i d).submitted (slice_index_or done.items i d).stop)) }
     { send_all(rt, jobs) };
     let (done, answer) = thread::join(rt, senders, part);
     Ok((done?, answer))
@@ -119,10 +126,14 @@ fn send_all<H: Threads + Sync, G: Gate + Sync>(
     ensures gates { IfOk result (λ done. (i : ℕ) (d : _) (j : _) → i < length jobs.entry.items
         → LetsThrough (G.LetThrough (slice_index_or jobs.entry.items i j).gate.now)
         (slice_index_or done.items i d).submitted) }
+    ensures held { IfOk result (λ done. (i : ℕ) (d : _) (j : _) → i < length jobs.entry.items
+        → IsHeldUp (G.HeldUp (slice_index_or jobs.entry.items i j).gate.now)
+        (slice_index_or done.items i d).submitted (slice_index_or done.items i d).stop) }
 {
     let send = move |job: LaneJob<G>| -> LaneDone
         ensures { IsLaneDone job.entry.sender job.entry.packets.now result.submitted result.stop result.end
-            × LetsThrough (G.LetThrough job.entry.gate.now) result.submitted }
+            × LetsThrough (G.LetThrough job.entry.gate.now) result.submitted
+            × IsHeldUp (G.HeldUp job.entry.gate.now) result.submitted result.stop }
     { send_lane(job.sender, job.packets, job.gate) };
     thread::map_vec(rt, jobs, &send)
 }

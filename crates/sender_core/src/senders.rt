@@ -2,7 +2,7 @@
 ghost use Rattle.std.specs.Prelude.{◌≡◌, ◌<◌, ℕ, IfOk, length, map, slice_index_or};
 ghost use denote.Param.Send.{IsSend, IsSync};
 ghost use Rattle.sender_core.specs.Rooms.{enqueue_count};
-ghost use Rattle.sender_core.specs.Senders.{AreCalls, IsDone, LetsThrough};
+ghost use Rattle.sender_core.specs.Senders.{AreCalls, IsDone, IsHeldUp, LetsThrough};
 
 use packet_core::{Packet, Params, Seed};
 use port_core::{Gate, LockedDone, LockedPort, PortSeat, send_locked};
@@ -84,7 +84,8 @@ fn jobs_of<'a, A: Ledger, S: Ledger, G>(
 
 /// Starts the senders, each in a thread of its own with its seat, its list and its gate, calls the main thread's part
 /// once meanwhile, joins the senders, and gives what each of them did, in their order. The gate of each let every call of
-/// its sender through. Where a thread can't be made, another one runs its part. It fails where a growth is refused.
+/// its sender through, and held the next one up where the sender stalled. Where a thread can't be made, another one runs
+/// its part. It fails where a growth is refused.
 pub fn start_locked<
     A: Ledger + Send + Sync,
     S: Ledger + Send + Sync,
@@ -110,6 +111,9 @@ pub fn start_locked<
         (slice_index_or r.0.items i d).calls (slice_index_or r.0.items i d).stop (slice_index_or r.0.items i d).seat) }
     ensures gates { IfOk result (λ r. (i : ℕ) (d : _) (g : _) → i < length seats.items
         → LetsThrough (G.LetThrough (slice_index_or gates.now i g)) (slice_index_or r.0.items i d).calls) }
+    ensures held { IfOk result (λ r. (i : ℕ) (d : _) (g : _) → i < length seats.items
+        → IsHeldUp (G.HeldUp (slice_index_or gates.now i g)) (slice_index_or r.0.items i d).calls
+        (slice_index_or r.0.items i d).stop) }
 {
     let jobs = jobs_of(alloc, seats, lists, gates)?;
     let senders = move || -> Result<Vec<LockedDone<A, S>>, AllocError>
@@ -121,7 +125,10 @@ pub fn start_locked<
             (slice_index_or done.items i d).seat)
             × ((i : ℕ) (d : _) (j : _) → i < length jobs.entry.items
             → LetsThrough (G.LetThrough (slice_index_or jobs.entry.items i j).gate.now)
-            (slice_index_or done.items i d).calls)) }
+            (slice_index_or done.items i d).calls)
+            × ((i : ℕ) (d : _) (j : _) → i < length jobs.entry.items
+            → IsHeldUp (G.HeldUp (slice_index_or jobs.entry.items i j).gate.now)
+            (slice_index_or done.items i d).calls (slice_index_or done.items i d).stop)) }
     { send_all(rt, port, jobs) };
     let (done, answer) = thread::join(rt, senders, part);
     Ok((done?, answer))
@@ -146,10 +153,14 @@ fn send_all<
     ensures gates { IfOk result (λ done. (i : ℕ) (d : _) (j : _) → i < length jobs.entry.items
         → LetsThrough (G.LetThrough (slice_index_or jobs.entry.items i j).gate.now)
         (slice_index_or done.items i d).calls) }
+    ensures held { IfOk result (λ done. (i : ℕ) (d : _) (j : _) → i < length jobs.entry.items
+        → IsHeldUp (G.HeldUp (slice_index_or jobs.entry.items i j).gate.now)
+        (slice_index_or done.items i d).calls (slice_index_or done.items i d).stop) }
 {
     let send = move |job: Job<A, S, G>| -> LockedDone<A, S>
         ensures { IsDone job.entry.seat job.entry.packets.now result.calls result.stop result.seat
-            × LetsThrough (G.LetThrough job.entry.gate.now) result.calls }
+            × LetsThrough (G.LetThrough job.entry.gate.now) result.calls
+            × IsHeldUp (G.HeldUp job.entry.gate.now) result.calls result.stop }
     { send_locked(rt, port, job.seat, job.packets, job.gate) };
     thread::map_vec(rt, jobs, &send)
 }

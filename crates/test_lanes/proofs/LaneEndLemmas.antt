@@ -19,8 +19,8 @@ same_rings (s ∷ ss) (l ∷ ls) number each =
     cc (first, rest)
 
 -- the senders of lanes that were just made are those of the first lanes
-pub first_new : (ss : List Sending) (ls : List LaneView) (n : ℕ) → AreNewLanes ss ls n → AreFirst (sender_rings ss) (rings_of ls)
-first_new ss ls n all = record {
+pub first_new : (ss : List Sending) (ls : List LaneView) (n capacity : ℕ) → AreNewLanes ss ls n capacity → AreFirst (sender_rings ss) (rings_of ls)
+first_new ss ls n capacity all = record {
   others = [];
   all = append-nil (sender_rings ss) ∙ same_rings ss ls (omega (arith, all.senders_number, all.lanes_number))
       (λ i s l less. (all.each i s l (omega (arith, less, all.senders_number))).ring);

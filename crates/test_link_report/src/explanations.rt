@@ -53,6 +53,75 @@ Usage: maltlink --rate <RATE> --overhead <N> [PARAM]...\n\nFor more information,
     }
 }
 
+/// A control character of a word that is a mistake, other than a line feed, is written as its number. Here these are the
+/// escape, the bell, the carriage return, the delete and the introducer of a sequence.
+#[test]
+fn control_characters_of_mistakes_are_numbers(rt: HostRuntime) {
+    let table: [(&[&str], &str); 2] = [
+        (
+            &["--rate", "1mbit", "--\u{1b}[2Jred"],
+            "error: unexpected argument '--\\u{1b}[2Jred' found\n\n  tip: to pass '--\\u{1b}[2Jred' as a value, \
+use '-- --\\u{1b}[2Jred'\n\nUsage: maltlink --rate <RATE> [PARAM]...\n\nFor more information, try '--help'.\n",
+        ),
+        (
+            &["--rate", "1mbit", "--write", "a\nb\u{7}\rc\u{7f}\u{9b}31m"],
+            "error: invalid value 'a\nb\\u{07}\\u{0d}c\\u{7f}\\u{9b}31m' for '--write <TABLE>'\n  \
+[possible values: flows, packets, series, steps, svg]\n\nFor more information, try '--help'.\n",
+        ),
+    ];
+    for (words, wanted) in table {
+        refuses(&rt, words, "", wanted);
+    }
+}
+
+/// So are those of a value, a seed and a parameter word, which stand in quotes.
+#[test]
+fn control_characters_of_words_are_numbers(rt: HostRuntime) {
+    let table: [(&[&str], &str); 4] = [
+        (
+            &["--rate", "\u{1b}[31m1\u{9b}mbit"],
+            "maltlink: rate: NotANumber\n  --rate \"\\u{1b}[31m1\\u{9b}mbit\": wanted is \
+1000bit to 1tbit, as in 10mbit or 1250kbps\n",
+        ),
+        (
+            &["--rate", "1mbit", "--seed", "\u{1b}c"],
+            "maltlink: seed\n  --seed \"\\u{1b}c\": wanted are 32 hexadecimal digits\n",
+        ),
+        (
+            &["--rate", "1mbit", "\u{1b}c\u{7}"],
+            "maltlink: parameter word 1: UnknownWord\n  \"\\u{1b}c\\u{7}\": no parameter has that name \
+('maltlink --help' lists them)\n",
+        ),
+        (
+            &["--rate", "1mbit", "limit", "1\u{7f}"],
+            "maltlink: parameter word 2: NotANumber\n  \"1\\u{7f}\": a number is wanted, or a time as in 5ms\n",
+        ),
+    ];
+    for (words, wanted) in table {
+        refuses(&rt, words, "", wanted);
+    }
+}
+
+/// And those of a field and of a row.
+#[test]
+fn control_characters_of_rows_are_numbers(rt: HostRuntime) {
+    let table = [
+        (
+            "enq,\u{1b}[2J,6,10.0.0.1,10.0.0.9,1,443,1514,2\n",
+            "maltlink: row 1: BadNumber\n  row 1, field 2 (MOMENT): \"\\u{1b}[2J\" is no such number; wanted is \
+0 to 576460752303423487, in microseconds, never falling\n",
+        ),
+        (
+            "enq,\u{9b}2J\u{7}\n",
+            "maltlink: row 1: BadFieldCount\n  row 1: \"enq,\\u{9b}2J\\u{7}\" has another number of \
+fields; wanted is enq,MOMENT,PROTO,SRC,DST,SPORT,DPORT,LEN,ECN\n",
+        ),
+    ];
+    for (input, wanted) in table {
+        refuses(&rt, &["--rate", "10mbit"], input, wanted);
+    }
+}
+
 /// Fields that no other test has wrong, and a row of more than 32 bytes, which is shown whole.
 #[test]
 fn rows_are_explained(rt: HostRuntime) {

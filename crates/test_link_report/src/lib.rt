@@ -20,3 +20,5 @@ mod runs;
 mod tables;
 #[cfg(test)]
 mod texts;
+#[cfg(test)]
+mod words;

@@ -3,6 +3,9 @@
 use crate::calls::{called, called_interrupted};
 use std::process::Abort;
 
+/// How many lines the page of the manual has.
+const PAGE_LINES: usize = 155;
+
 /// The version is its number and the toolchain, and help is the page of the manual.
 #[test]
 fn version_and_help(rt: HostRuntime) {
@@ -26,7 +29,30 @@ fn version_and_help(rt: HostRuntime) {
             "{text}"
         );
         assert!(rt; text.contains("\n    --rate RATE\n"));
+        is_whole(&rt, text);
     }
+}
+
+/// The page has its sections in their order, ends with what the status 2 is, and has as many lines as the manual.
+fn is_whole<R: Abort>(rt: &R, text: &str) {
+    let mut rest = text;
+    for section in [
+        "\nSYNOPSIS\n",
+        "\nDESCRIPTION\n",
+        "\nOPTIONS\n",
+        "\nPARAMETERS\n",
+        "\nTABLES\n",
+        "\nFAULTS\n",
+        "\nEXAMPLES\n",
+        "\nEXIT STATUS\n",
+    ] {
+        let (_, behind) = rest.split_once(section).expect(rt, section);
+        rest = behind;
+    }
+    let last =
+        "    2   Something is wrong that was given, and nothing was written to standard\n        output.\n";
+    assert!(rt; rest.ends_with(last), "{rest}");
+    assert_eq!(rt; text.lines().count(), PAGE_LINES);
 }
 
 /// The words write that text, and the same where its writer is interrupted, up to 1,000 times.

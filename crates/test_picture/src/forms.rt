@@ -144,7 +144,7 @@ fn thousand_flows(rt: HostRuntime) {
     assert!(rt; text.len() < 60_000);
 }
 
-/// Times count from the first bin, and the picture says from when that is.
+/// Times count from the first bin, and the picture says from when that is, be it less than a second.
 #[test]
 fn late_start(rt: HostRuntime) {
     let late = [Given(1_700_000_000_000_900, 1, 100, Sent(1_700_000_000_003_000))];
@@ -156,6 +156,13 @@ fn late_start(rt: HostRuntime) {
             ">Times count from the moment 1700000000000000 us.</text>",
             ">3000 us</text>",
         ],
+    );
+    let soon = [Given(1_500, 1, 100, Sent(1_500))];
+    let text = picture(&rt, &journal(&rt, &soon), None);
+    has_all(
+        &rt,
+        &text,
+        &[">Times count from the moment 1000 us.</text>"],
     );
 }
 

@@ -10,6 +10,8 @@ mod forms;
 #[cfg(test)]
 mod journals;
 #[cfg(test)]
+mod long_run;
+#[cfg(test)]
 mod numbers;
 #[cfg(test)]
 mod worked;

@@ -63,34 +63,44 @@ fn scales_of_rates(rt: HostRuntime) {
     }
 }
 
-/// Few powers of ten have twice and five times these between them.
+/// Few powers of ten have twice and five times these between them. The longest wait of 10,240 packets of 1,514 bytes at
+/// 9,600 bits a second is below 13,000 seconds.
 #[test]
 fn marks_of_waits(rt: HostRuntime) {
-    let short = WaitScale::upto(2_592)
-        .marks(rt.alloc())
-        .expect(&rt, "memory");
-    assert_eq!(rt; short.as_slice(), [100, 200, 500, 1_000, 2_000].as_slice());
-    let long = WaitScale::upto(3_000_000)
-        .marks(rt.alloc())
-        .expect(&rt, "memory");
-    assert_eq!(rt;
-        long.as_slice(),
-        [100, 1_000, 10_000, 100_000, 1_000_000].as_slice()
-    );
-    let longer = WaitScale::upto(300_000_000)
-        .marks(rt.alloc())
-        .expect(&rt, "memory");
-    assert_eq!(rt;
-        longer.as_slice(),
-        [
-            100,
-            1_000,
-            10_000,
-            100_000,
-            1_000_000,
-            10_000_000,
-            100_000_000
-        ]
-        .as_slice()
-    );
+    let table: [(u64, &[u64]); 4] = [
+        (2_592, &[100, 200, 500, 1_000, 2_000]),
+        (3_000_000, &[100, 1_000, 10_000, 100_000, 1_000_000]),
+        (
+            300_000_000,
+            &[
+                100,
+                1_000,
+                10_000,
+                100_000,
+                1_000_000,
+                10_000_000,
+                100_000_000,
+            ],
+        ),
+        (
+            13_000_000_000,
+            &[
+                100,
+                1_000,
+                10_000,
+                100_000,
+                1_000_000,
+                10_000_000,
+                100_000_000,
+                1_000_000_000,
+                10_000_000_000,
+            ],
+        ),
+    ];
+    for (longest, wanted) in table {
+        let marks = WaitScale::upto(longest)
+            .marks(rt.alloc())
+            .expect(&rt, "memory");
+        assert_eq!(rt; marks.as_slice(), wanted, "up to {longest}");
+    }
 }

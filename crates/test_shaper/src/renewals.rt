@@ -1,9 +1,11 @@
 //! A shaper goes on with a scheduler as new after a number of packets.
 
 use crate::shapers::{credits_of, packet, shaper_renewed_after, tag_of};
+use packet_core::Params;
 use sched_core::{MomentFault, Refusal};
 use shaper_core::{Dropped, EnqueueFault, Flushed, RENEW_AFTER, Shaper};
 use std::process::Abort;
+use test_support::{SEED, by_port};
 
 /// A packet comes to that port, with a tag 100 more than its id.
 fn come<R: Abort>(rt: &R, shaper: &mut Shaper, moment: u64, port: u16, id: u64) {
@@ -52,6 +54,46 @@ fn renew_once<R: Abort>(rt: &R, shaper: &mut Shaper) {
 fn ids_totals_and_moments_go_on(rt: HostRuntime) {
     let mut shaper = shaper_renewed_after(&rt, 4, 3);
     renew_once(&rt, &mut shaper);
+}
+
+/// Each round of three packets comes to a scheduler as new, whose flow 2 has no credits. The round takes some.
+fn renew_each_time<R: Abort>(rt: &R, shaper: &mut Shaper) {
+    for round in 0..4 {
+        let id = 3 * round;
+        come(rt, shaper, id, 1, id);
+        assert!(rt; credits_of(rt, shaper, 2) == 0);
+        come(rt, shaper, id, 2, id + 1);
+        come(rt, shaper, id, 2, id + 2);
+        for sent in id..id + 3 {
+            send(rt, shaper, id, sent);
+        }
+        assert!(rt; credits_of(rt, shaper, 2) != 0);
+    }
+    assert!(rt; shaper.totals().accepted == 12 && shaper.totals().sent == 12);
+}
+
+#[test]
+fn renewed_after_each_three_packets(rt: HostRuntime) {
+    let mut shaper = shaper_renewed_after(&rt, 4, 3);
+    renew_each_time(&rt, &mut shaper);
+}
+
+/// A shaper is opened for so many packets, and a packet passes.
+fn open_greatest(rt: &(impl Abort + AllocGlobal), flows: u32, limit: u32) {
+    let mut fields = by_port(flows);
+    fields.limit = limit;
+    let params = Params::try_new(fields).ok().expect(rt, "parameters");
+    let mut shaper = Shaper::open(rt.alloc(), params, SEED).expect(rt, "memory");
+    come(rt, &mut shaper, 1, 1, 0);
+    send(rt, &mut shaper, 1, 0);
+}
+
+/// Where memory is ample the most flows can be had, and the greatest limit.
+#[test]
+fn greatest_parameters(rt: HostRuntime) {
+    open_greatest(&rt, 65_536, 1);
+    open_greatest(&rt, 5_000, 100_001);
+    open_greatest(&rt, 4, 1_048_576);
 }
 
 /// After 2^39 packets of one scheduler, and not after three.

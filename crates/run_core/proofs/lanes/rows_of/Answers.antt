@@ -1,4 +1,5 @@
-use Rattle.std.proofs.Common.{◌≡◌, ◌<◌, ◌∙◌, ◌+◌, ◌∷◌, [], ap, arith, drop, get_or, length, length-append, rules, subst, sym}
+use Rattle.std.proofs.Common.{◌≡◌, ◌<◌, ◌∙◌, ◌+◌, ◌∷◌, [], ap, arith, drop, get_or, inl, inr, length, length-append, rules, subst, sym, ⊎_elim}
+use Rattle.std.proofs.lemmas.Result.{err_from_is_err_and}
 use Rattle.std.specs.Vec.Iter.{into_iter_items, into_iter_len}
 use Rattle.port_core.specs.declared.lane_sender.LaneDone.{LaneDone}
 use Rattle.run_core.specs.DeviceRuns.{IsAny, PumpsAll, last_moment}
@@ -52,3 +53,9 @@ returns-clause-emptied g c =
     let none : length (drop c.loop-one.lane c.args.done.items) ≡ 0 = ap length (sym c.loop-one.invariant.0) ∙ sym c.loop-one.invariant.1 ∙ ended in
     let all : c.loop-one.lane ≡ length c.args.device.now.lanes = omega (arith, drop_ended c.args.done.items c.loop-one.lane none, c.loop-one.invariant.2, c.requires.number.0) in
     subst (λ n. PumpsAll IsAny (last_moment c.args.device.now.engine.steps) c.args.device.now.engine.steps n c.loop-one.device.engine.steps) all c.loop-one.invariant.6
+
+pub returns-in_err-row_of-clause-fault : goal.returns-in_err-row_of-clause-fault
+returns-in_err-row_of-clause-fault g c =
+    let n = next g (goal.at.returns-in_err-row_of-clause-fault g c).In-Some in
+    let p = err_from_is_err_and c.from_residual.result c.from_residual.ensures.1 in
+    rw (p.1, p.2) (⊎_elim (λ memory. inl memory) (λ t. inr (c.loop-one.lane, n.0, λ d. rw (n.1 d) t)) c.in_err-row_of.ensures.fault)

@@ -1,6 +1,6 @@
 use Rattle.std.proofs.Common.{◌≡◌, ◌∙◌, ap, arith, length, sym}
 use Rattle.std.proofs.lemmas.List.{length-map}
-use Rattle.sender_core.specs.Senders.{IsLaneDone, LetsThrough}
+use Rattle.sender_core.specs.Senders.{IsHeldUp, IsLaneDone, LetsThrough}
 use Rattle.sender_core.proofs.SenderLemmas.{done_by_lists, done_by_part}
 use Rattle.sender_core.proofs.lane_senders.start_lanes.Goals as goal
 
@@ -15,3 +15,9 @@ returns-clause-gates g c i d gate less =
     let many : length c.in_ok-jobs.jobs.items ≡ length c.args.senders.items = sym (length-map c.in_ok-jobs.jobs.items (λ j. j.sender)) ∙ ap length c.in_ok-jobs.ensures.senders in
     done_by_part (λ j. j.gate.now) (λ gate d. LetsThrough (g.G.Gate.LetThrough gate) d.submitted) c.in_ok-jobs.jobs.items c.args.gates.now c.in_ok-done.field-0.items
     c.in_ok-jobs.ensures.gates (rw c.in_ok-done.was at c.join-done.ensures.first).2 i d gate (omega (arith, many, less))
+
+pub returns-clause-held : goal.returns-clause-held
+returns-clause-held g c i d gate less =
+    let many : length c.in_ok-jobs.jobs.items ≡ length c.args.senders.items = sym (length-map c.in_ok-jobs.jobs.items (λ j. j.sender)) ∙ ap length c.in_ok-jobs.ensures.senders in
+    done_by_part (λ j. j.gate.now) (λ gate d. IsHeldUp (g.G.Gate.HeldUp gate) d.submitted d.stop) c.in_ok-jobs.jobs.items c.args.gates.now c.in_ok-done.field-0.items
+    c.in_ok-jobs.ensures.gates (rw c.in_ok-done.was at c.join-done.ensures.first).3 i d gate (omega (arith, many, less))
