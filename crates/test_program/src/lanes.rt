@@ -23,7 +23,8 @@ fn gate_lanes(rt: HostRuntime) {
     by_gates::<Brand, _>(&rt, rt.alloc(), BookBlank::new(), 2);
 }
 
-/// The same with 62 other senders, which are held as sender 0 is.
+/// The same with 62 other senders, which are held as sender 0 is. Each of them has a packet for which its lane has no
+/// room: what all senders did is given back all the same.
 #[test]
 fn gate_lanes_of_64_senders(rt: HostRuntime) {
     by_gates::<Brand, _>(&rt, rt.alloc(), BookBlank::new(), 64);
@@ -48,12 +49,15 @@ fn by_gates<J: BookName, R: Threads + Wait + Abort + Sync>(
     send_by_gates(rt, alloc, opened);
 }
 
-/// Two packets for each of so many senders.
+/// Two packets for each of so many senders, and three from the third sender on.
 fn lists<R: Abort>(rt: &R, alloc: Global, senders: usize) -> Vec<Vec<Packet>> {
     let mut lists = Vec::new(alloc);
-    for _ in 0..senders {
-        let two = vec![in alloc; packet(rt, 1), packet(rt, 2)].expect(rt, "memory");
-        lists.push(two).expect(rt, "memory");
+    for sender in 0..senders {
+        let mut packets = vec![in alloc; packet(rt, 1), packet(rt, 2)].expect(rt, "memory");
+        if sender >= 2 {
+            packets.push(packet(rt, 3)).expect(rt, "memory");
+        }
+        lists.push(packets).expect(rt, "memory");
     }
     lists
 }
@@ -166,11 +170,13 @@ fn pumps<J: BookName, X: Screen<Shown<J>> + Drop>(
     lane < device.lanes() && device.pump(lane, 0, 2) == Ok(wanted)
 }
 
-/// Each of so many senders submitted both of its packets, and its lane has an end.
+/// Each of so many senders submitted two packets, and its lane has an end. From the third sender on the lane was full
+/// then.
 fn are_done<R: Abort>(rt: &R, senders: usize, done: Vec<LaneDone>) {
     assert_eq!(rt; done.len(), senders);
-    for sender in done {
-        assert_eq!(rt; (sender.submitted, sender.stop), (2, Stop::Done));
+    for (number, sender) in done.iter().enumerate() {
+        let stop = if number < 2 { Stop::Done } else { Stop::Full };
+        assert_eq!(rt; (sender.submitted, sender.stop), (2, stop));
         assert!(rt; sender.end.is_some());
     }
 }

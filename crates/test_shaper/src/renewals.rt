@@ -78,6 +78,36 @@ fn renewed_after_each_three_packets(rt: HostRuntime) {
     renew_each_time(&rt, &mut shaper);
 }
 
+/// So many packets come to each scheduler of a long run.
+const MANY: u64 = 400_000;
+
+/// Packets of flow 2 pass, one after another, until so many came to the scheduler.
+fn pass_many<R: Abort>(rt: &R, shaper: &mut Shaper, first: u64) {
+    for id in first.saturating_add(1)..first.saturating_add(MANY) {
+        come(rt, shaper, id, 2, id);
+        send(rt, shaper, id, id);
+    }
+}
+
+/// The next packet comes to a scheduler as new, whose flow 2 has no credits, however many came before.
+fn renew_after_many<R: Abort>(rt: &R, shaper: &mut Shaper) {
+    for round in 0..4 {
+        let first = MANY * round;
+        come(rt, shaper, first, 1, first);
+        assert!(rt; credits_of(rt, shaper, 2) == 0);
+        send(rt, shaper, first, first);
+        pass_many(rt, shaper, first);
+        assert!(rt; credits_of(rt, shaper, 2) != 0);
+    }
+    assert!(rt; shaper.totals().sent == 4 * MANY);
+}
+
+#[test]
+fn renewed_after_more_than_a_million_packets(rt: HostRuntime) {
+    let mut shaper = shaper_renewed_after(&rt, 4, MANY);
+    renew_after_many(&rt, &mut shaper);
+}
+
 /// A shaper is opened for so many packets, and a packet passes.
 fn open_greatest(rt: &(impl Abort + AllocGlobal), flows: u32, limit: u32) {
     let mut fields = by_port(flows);
