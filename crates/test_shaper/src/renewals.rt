@@ -78,8 +78,8 @@ fn renewed_after_each_three_packets(rt: HostRuntime) {
     renew_each_time(&rt, &mut shaper);
 }
 
-/// So many packets come to each scheduler of a long run.
-const MANY: u64 = 400_000;
+/// So many packets come to each scheduler of a long run. Twice as many are more than 2^20.
+const MANY: u64 = 525_000;
 
 /// Packets of flow 2 pass, one after another, until so many came to the scheduler.
 fn pass_many<R: Abort>(rt: &R, shaper: &mut Shaper, first: u64) {
@@ -96,10 +96,12 @@ fn renew_after_many<R: Abort>(rt: &R, shaper: &mut Shaper) {
         come(rt, shaper, first, 1, first);
         assert!(rt; credits_of(rt, shaper, 2) == 0);
         send(rt, shaper, first, first);
-        pass_many(rt, shaper, first);
-        assert!(rt; credits_of(rt, shaper, 2) != 0);
+        if round < 3 {
+            pass_many(rt, shaper, first);
+            assert!(rt; credits_of(rt, shaper, 2) != 0);
+        }
     }
-    assert!(rt; shaper.totals().sent == 4 * MANY);
+    assert!(rt; shaper.totals().sent == 3 * MANY + 1);
 }
 
 #[test]
