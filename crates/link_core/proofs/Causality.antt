@@ -5,10 +5,7 @@ use Rattle.std.proofs.Math.Seq.{get_or-append_seam}
 use Rattle.std.proofs.lemmas.Bool.{cases_lt}
 use Rattle.std.proofs.lemmas.List.{length-map, map-append}
 use Rattle.std.proofs.lemmas.List.Elements.{All-from_recursion, filter_map-append, recursion_from_All}
-use Rattle.packet_core.specs.FlowNumber.{flow_number}
-use Rattle.packet_core.specs.declared.flow.Seed.{Seed}
 use Rattle.packet_core.specs.declared.packet.Waiting.{Waiting}
-use Rattle.packet_core.specs.declared.params.ParamFields.{ParamFields}
 use Rattle.journal_core.specs.declared.event.Cause.{Cause}
 use Rattle.journal_core.specs.declared.event.Cause.TheVariants as cause
 use Rattle.journal_core.specs.declared.event.Event.{Event}
@@ -17,25 +14,20 @@ use Rattle.journal_core.specs.declared.outcome.Answer.TheVariants as answer
 use Rattle.journal_core.specs.declared.step.Refusal.{Refusal}
 use Rattle.journal_core.specs.declared.step.Step.{Step}
 use Rattle.journal_core.specs.declared.step.Step.TheVariants.{Enqueue, Dequeue}
-use Rattle.journal_core.specs.Disciplines.{Given}
+use Rattle.journal_core.specs.Disciplines.{Discipline, Given}
 use Rattle.journal_core.specs.Happened.{fate_ids, fate_of}
-use Rattle.journal_core.specs.History.{IsHistory}
 use Rattle.journal_core.specs.Runs.{Made, Runs, is_refused, journal_of}
 use Rattle.journal_core.specs.State.{State, opening_state, refusal_of}
 use Rattle.journal_core.specs.Steps.{Makes, Steps, drop_event, sent_events}
-use Rattle.journal_core.proofs.HistoryRuns.{keeps_opening, keeps_steps}
 use Rattle.journal_core.proofs.ListLemmas.{ByRecursion-append, ByRecursion-parts}
 use Rattle.journal_core.proofs.RefusalLemmas.{dequeue_next, enqueue_open}
-use Rattle.fair_core.specs.FairQueues.{FairQueues, no_queues, queue_of}
-use Rattle.fair_core.specs.FqCodel.{fq_codel, fq_codel_policy}
-use Rattle.fair_core.proofs.FairFifo.{fair_is_fifo}
-use Rattle.fair_core.proofs.FqCodelPolicy.{policy_drops}
 use Rattle.link_core.specs.declared.arrival.Arrival.{Arrival}
 use Rattle.link_core.specs.declared.link.LinkFields.{LinkFields}
 use Rattle.link_core.specs.Arrivals.{arrival_moment, moment_at}
 use Rattle.link_core.specs.LinkLaw.{Follows, LinkPoint, LinkState, MovesFrom}
 use Rattle.link_core.specs.LinkLaw.LinkState.{idle, asks, free}
 use Rattle.link_core.specs.LinkLaws.{FollowsArrival}
+use Rattle.link_core.specs.LinkRuns.{IsLinkRunOf}
 use Rattle.link_core.proofs.SentIds.{fates_behind}
 
 -- a step of a link is one of two kinds
@@ -81,7 +73,7 @@ module _ (arrivals : List Arrival) where
       ByRecursion-append (FollowsArrival arrivals) (map (drop_event moment cause.Codel) gone) (sent_events moment given) (drops_follow n moment cause.Codel gone came parts.0) (sent_follows n moment given came parts.1)
 
   -- what has come of the arrivals, where that is still to come
-  pub record IsMet (coming : List Arrival) (s : State FairQueues) : Type 0 where
+  pub record IsMet {Q : Type 0} (coming : List Arrival) (s : State Q) : Type 0 where
     pub met : List Arrival
     pub split : arrivals ≡ met ++ coming
     pub ids : length met ≡ s.next_id
@@ -108,23 +100,21 @@ module _ (arrivals : List Arrival) where
   met_later : (n last moment : ℕ) → last ≤ moment → Came n last → Came n moment
   met_later n last moment later came id below = let early = came id below in omega arith
 
-module _ (p : ParamFields) (seed : Seed) (link : LinkFields) (arrivals : List Arrival) where
-  abbrev Keeps : State FairQueues → List Event → Type 0
-  Keeps s events = IsHistory (fq_codel p seed).flow_of (queue_of s.queues) events s.next_id s.last s.closed
-
+-- whatever the discipline is
+module _ {Q : Type 0} (d : Discipline Q) (arrivals : List Arrival) where
   -- behind a step
-  record IsMetBy (new : State FairQueues) (made : List Event) (point : LinkPoint) : Type 0 where
+  record IsMetBy (new : State Q) (made : List Event) (point : LinkPoint) : Type 0 where
     pub follow : AllByRecursion (FollowsArrival arrivals) made
     pub is_met : IsMet arrivals point.coming new
 
-  makes_met : (old new : State FairQueues) (coming : List Arrival) (step : Step) (said : Answer) (made : List Event) (point : LinkPoint)
-      → refusal_of old step ≡ None → Makes (fq_codel p seed) old step said made new → BringsNext coming step point ⊎ AsksNext coming step point
+  makes_met : (old new : State Q) (coming : List Arrival) (step : Step) (said : Answer) (made : List Event) (point : LinkPoint)
+      → refusal_of old step ≡ None → Makes d old step said made new → BringsNext coming step point ⊎ AsksNext coming step point
       → AllByRecursion (λ id. id < new.next_id) (fate_ids made) → IsMet arrivals coming old → IsMetBy new made point
   makes_met old new coming step said made point fits makes (inl b) known met =
       let a = b.next in
       let fits' = subst (λ (x : Step). refusal_of old x ≡ None) b.enqueues fits in
       let later = (enqueue_open old a.moment 0 a.packet fits').0.next.later in
-      let m = subst (λ (x : Step). Makes (fq_codel p seed) old x said made new) b.enqueues makes in
+      let m = subst (λ (x : Step). Makes d old x said made new) b.enqueues makes in
       let split : arrivals ≡ met.met ++ a ∷ b.rest = met.split ∙ ap (λ l. met.met ++ l) b.first in
       let came : Came arrivals (old.next_id + 1) a.moment = met_more arrivals met.met a b.rest old.next_id old.last split met.ids later met.came in
       let told = m.1.told in
@@ -142,7 +132,7 @@ module _ (p : ParamFields) (seed : Seed) (link : LinkFields) (arrivals : List Ar
   makes_met old new coming step said made point fits makes (inr q) known met =
       let fits' = subst (λ (x : Step). refusal_of old x ≡ None) q.dequeues fits in
       let later = (dequeue_next old q.moment fits').later in
-      let m = subst (λ (x : Step). Makes (fq_codel p seed) old x said made new) q.dequeues makes in
+      let m = subst (λ (x : Step). Makes d old x said made new) q.dequeues makes in
       let s = m.2 in
       let came : Came arrivals old.next_id q.moment = met_later arrivals old.next_id old.last q.moment later met.came in
       let known' = subst (λ n. AllByRecursion (λ id. id < n) (fate_ids made)) s.next_id known in
@@ -156,34 +146,36 @@ module _ (p : ParamFields) (seed : Seed) (link : LinkFields) (arrivals : List Ar
         };
       }
 
-  step_met : (old new : State FairQueues) (coming : List Arrival) (step : Step) (said : Answer) (made : List Event) (point : LinkPoint)
-      → Steps (fq_codel p seed) old step said made new → is_refused said ≡ false → BringsNext coming step point ⊎ AsksNext coming step point
+  step_met : (old new : State Q) (coming : List Arrival) (step : Step) (said : Answer) (made : List Event) (point : LinkPoint)
+      → Steps d old step said made new → is_refused said ≡ false → BringsNext coming step point ⊎ AsksNext coming step point
       → AllByRecursion (λ id. id < new.next_id) (fate_ids made) → IsMet arrivals coming old → IsMetBy new made point
   step_met old new coming step said made point s accepted kind known met = go (refusal_of old step) refl s
     where
-      go : (o : Option Refusal) → refusal_of old step ≡ o → MatchOption o (Makes (fq_codel p seed) old step said made new) (λ r. (said ≡ answer.Refused r) × (made ≡ []) × (new ≡ old)) → IsMetBy new made point
+      go : (o : Option Refusal) → refusal_of old step ≡ o → MatchOption o (Makes d old step said made new) (λ r. (said ≡ answer.Refused r) × (made ≡ []) × (new ≡ old)) → IsMetBy new made point
       go None fits m = makes_met old new coming step said made point fits m kind known met
       go (Some r) fits m = let t : true ≡ false = sym (ap is_refused m.0) ∙ accepted in absurd cc
 
-  follow_all : (steps : List Step) (made : List Made) (point end : LinkPoint) (old new : State FairQueues) (events : List Event)
-      → Follows link arrivals point steps made end → Runs (fq_codel p seed) old steps made new → AllByRecursion (λ (m : Made). is_refused m.answer ≡ false) made
+-- A fact of the state and the journal that each step keeps, and by which only packets that came have a fate.
+module _ {Q : Type 0} (d : Discipline Q) (Keeps : State Q → List Event → Type 0)
+    (keeps : (old new : State Q) (step : Step) (said : Answer) (made events : List Event) → Steps d old step said made new → Keeps old events → Keeps new (events ++ made))
+    (known_of : (s : State Q) (events : List Event) → Keeps s events → AllByRecursion (λ id. id < s.next_id) (fate_ids events))
+    (link : LinkFields) (arrivals : List Arrival) where
+  follow_all : (steps : List Step) (made : List Made) (point end : LinkPoint) (old new : State Q) (events : List Event)
+      → Follows link arrivals point steps made end → Runs d old steps made new → AllByRecursion (λ (m : Made). is_refused m.answer ≡ false) made
       → Keeps old events → IsMet arrivals point.coming old → AllByRecursion (FollowsArrival arrivals) (journal_of made)
   follow_all [] [] point end old new events f r accepted h met = tt
   follow_all [] (m ∷ made) point end old new events f r accepted h met = absurd f
   follow_all (step ∷ steps) [] point end old new events f r accepted h met = absurd f
   follow_all (step ∷ steps) (m ∷ made) point end old new events f r accepted h met =
-      let fifo = fair_is_fifo (fq_codel_policy p) (policy_drops p) p.flows (flow_number p.classify p.flows seed) in
-      let h' = keeps_steps (fq_codel p seed) queue_of fifo old r.0 step m.answer m.events events r.1 h in
-      let known = fates_behind (λ id. id < r.0.next_id) events m.events (recursion_from_All (λ id. id < r.0.next_id) (fate_ids (events ++ m.events)) h'.known) in
-      let next = step_met old r.0 point.coming step m.answer m.events f.0 r.1 accepted.0 (kind_of link arrivals point.state point.coming step m.events f.0 f.1) known met in
+      let h' = keeps old r.0 step m.answer m.events events r.1 h in
+      let known = fates_behind (λ id. id < r.0.next_id) events m.events (known_of r.0 (events ++ m.events) h') in
+      let next = step_met d arrivals old r.0 point.coming step m.answer m.events f.0 r.1 accepted.0 (kind_of link arrivals point.state point.coming step m.events f.0 f.1) known met in
       ByRecursion-append (FollowsArrival arrivals) m.events (journal_of made) next.follow
       (follow_all steps made f.0 end r.0 new (events ++ m.events) f.2 r.2 accepted.1 h' next.is_met)
 
-  pub run_follows : (steps : List Step) (made : List Made) (end : LinkPoint) (new : State FairQueues)
-      → Follows link arrivals (record { state = idle; coming = arrivals }) steps made end → Runs (fq_codel p seed) (opening_state (no_queues p.flows)) steps made new → All (λ (m : Made). is_refused m.answer ≡ false) made
-      → All (FollowsArrival arrivals) (journal_of made)
-  run_follows steps made end new f r accepted =
-      let fifo = fair_is_fifo (fq_codel_policy p) (policy_drops p) p.flows (flow_number p.classify p.flows seed) in
+  -- a whole run
+  pub run_follows : (steps : List Step) (made : List Made) (last : State Q) → Keeps (opening_state d.opening) [] → IsLinkRunOf d link arrivals steps made last → All (FollowsArrival arrivals) (journal_of made)
+  run_follows steps made last opens run =
       All-from_recursion (FollowsArrival arrivals) (journal_of made)
-      (follow_all steps made (record { state = idle; coming = arrivals }) end (opening_state (no_queues p.flows)) new [] f r (recursion_from_All (λ (m : Made). is_refused m.answer ≡ false) made accepted)
-      (keeps_opening (fq_codel p seed) queue_of fifo) (record { met = []; split = refl; ids = refl; came = λ id below. absurd (omega arith) }))
+      (follow_all steps made (record { state = idle; coming = arrivals }) (record { state = idle; coming = [] }) (opening_state d.opening) last [] run.law run.runs (recursion_from_All (λ (m : Made). is_refused m.answer ≡ false) made run.none_refused)
+      opens (record { met = []; split = refl; ids = refl; came = λ id below. absurd (omega arith) }))

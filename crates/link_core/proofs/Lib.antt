@@ -3,8 +3,11 @@ pub mod LinkTimes
 pub mod SentIds
 pub mod LinkEngines
 pub mod LineLemmas
+pub mod OneRun
 pub mod OneLinkRun
 pub mod IdleLinks
 pub mod Causality
 pub mod Throughput
 pub mod LinkRunLaws
+pub mod FifoQueues
+pub mod FifoRunLaws

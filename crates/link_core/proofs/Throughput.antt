@@ -19,17 +19,13 @@ use Rattle.journal_core.specs.Runs.{Made, Runs, is_refused, journal_of}
 use Rattle.journal_core.specs.State.{State, opening_state, refusal_of}
 use Rattle.journal_core.specs.Statistics.{sent_of}
 use Rattle.journal_core.specs.Steps.{Makes, Steps, drop_event, sent_events}
-use Rattle.packet_core.specs.declared.flow.Seed.{Seed}
-use Rattle.packet_core.specs.declared.params.ParamFields.{ParamFields}
-use Rattle.fair_core.specs.FairQueues.{FairQueues, no_queues}
-use Rattle.fair_core.specs.FqCodel.{fq_codel}
 use Rattle.link_core.specs.declared.arrival.Arrival.{Arrival}
 use Rattle.link_core.specs.declared.link.LinkFields.{LinkFields}
 use Rattle.link_core.specs.LinkLaw.{Follows, LinkPoint, LinkState, MovesFrom, after_ids}
 use Rattle.link_core.specs.LinkLaw.LinkState.{idle, asks, free}
 use Rattle.link_core.specs.LinkLaws.{AreApart, Sending, sending_of, sendings, work_of}
 use Rattle.link_core.specs.Arrivals.{AreArrivals}
-use Rattle.link_core.specs.LinkRuns.{IsLinkRun}
+use Rattle.link_core.specs.LinkRuns.{IsLinkRunOf}
 use Rattle.link_core.specs.Links.{IsLink}
 use Rattle.link_core.specs.Underway.{AreComing}
 use Rattle.link_core.proofs.LinkTimes.{all_come}
@@ -189,11 +185,12 @@ module _ (link : LinkFields) (some : 0 < link.rate) (arrivals : List Arrival) wh
       let high = floor_high link.rate later.moment last.0 some last_at in
       omega arith
 
-pub link_apart : (p : ParamFields) (seed : Seed) (link : LinkFields) → IsLink link → (arrivals : List Arrival) → AreArrivals arrivals → (steps : List Step) (made : List Made) (last : State FairQueues) → IsLinkRun p seed link arrivals steps made last
+-- whatever the discipline is
+pub link_apart : {Q : Type 0} (d : Discipline Q) (link : LinkFields) → IsLink link → (arrivals : List Arrival) → AreArrivals arrivals → (steps : List Step) (made : List Made) (last : State Q) → IsLinkRunOf d link arrivals steps made last
     → AreApart link arrivals 0 (sendings (journal_of made))
-link_apart p seed link range arrivals are steps made last run =
+link_apart d link range arrivals are steps made last run =
     let some : 0 < link.rate = let r = range.rate in omega arith in
-    run_apart link some arrivals (fq_codel p seed) steps made (record { state = idle; coming = arrivals }) (record { state = idle; coming = [] }) (opening_state (no_queues p.flows)) last 0 0 run.law run.runs
+    run_apart link some arrivals d steps made (record { state = idle; coming = arrivals }) (record { state = idle; coming = [] }) (opening_state d.opening) last 0 0 run.law run.runs
     (recursion_from_All (λ (m : Made). is_refused m.answer ≡ false) made run.none_refused) (all_come arrivals are) (first arrivals)
   where
     first : (coming : List Arrival) → StartsFrom link (let r = range.rate in omega arith) arrivals 0 idle coming 0

@@ -5,6 +5,7 @@
 
 mod arrival;
 mod fifo;
+mod fifo_laws;
 mod free_at;
 pub mod laws;
 mod line;
@@ -13,5 +14,6 @@ mod run;
 
 pub use arrival::{Arrival, MAX_ARRIVAL_MOMENT, MAX_ARRIVALS};
 pub use fifo::{run_fifo, run_fifo_with_keeper};
+pub use fifo_laws::{fifo_causal, fifo_one_run, fifo_throughput, fifo_works};
 pub use link::{Link, LinkFields, LinkName};
 pub use run::{run_link, run_link_with_keepers};
