@@ -1,4 +1,5 @@
 pub mod Packets
+pub mod Fates
 pub mod Percentiles
 pub mod Summaries
 pub mod QueueNames

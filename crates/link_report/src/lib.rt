@@ -6,6 +6,7 @@ mod decimal;
 mod flows;
 mod gathered;
 mod groups;
+mod laws;
 mod packet_rows;
 mod packets;
 mod percentiles;
@@ -16,6 +17,7 @@ mod table;
 
 pub use flows::{flows_text, flows_text_of};
 pub use gathered::Gathered;
+pub use laws::one_fate_each;
 pub use packet_rows::{packets_text, packets_text_of};
 pub use packets::{Fate, PacketRecord, Packets};
 pub use percentiles::percentile;
