@@ -1,5 +1,5 @@
 -- The laws of a link's runs over a plain queue.
-use Rattle.std.proofs.Common.{◌≡◌, ℕ, ◌<◌, true, All, List, [], ◌∷◌, map, Option, None, refl, sym, ap, subst, ◌∙◌, inl, inr, arith}
+use Rattle.std.proofs.Common.{◌≡◌, ℕ, ◌<◌, ◌≤◌, ◌+◌, ◌*◌, true, All, List, [], ◌∷◌, length, length-append, map, Option, None, refl, sym, ap, subst, ◌∙◌, inl, inr, arith}
 use Rattle.std.specs.List.{AllByRecursion}
 use Rattle.std.proofs.lemmas.List.{append-nil}
 use Rattle.packet_core.specs.declared.flow.Seed.{Seed}
@@ -9,6 +9,7 @@ use Rattle.journal_core.specs.declared.event.Event.{Event}
 use Rattle.journal_core.specs.declared.step.Step.{Step}
 use Rattle.journal_core.specs.Disciplines.{Given}
 use Rattle.journal_core.specs.Happened.{Acceptance, acceptances, fate_ids, is_among, without_fate}
+use Rattle.journal_core.specs.JournalLaws.{AreDistinct, FatesFollow, IdsInOrder}
 use Rattle.journal_core.specs.Runs.{Made, journal_of}
 use Rattle.journal_core.specs.State.{State, opening_state}
 use Rattle.journal_core.proofs.ListLemmas.{ByRecursion-all, ByRecursion-parts}
@@ -22,6 +23,8 @@ use Rattle.link_core.specs.LinkLaws.{AreApart, FollowsArrival, sendings}
 use Rattle.link_core.specs.LinkRuns.{IsLinkRunOf, IsLinkRunTo}
 use Rattle.link_core.specs.Links.{IsLink}
 use Rattle.link_core.proofs.Causality.{run_follows}
+use Rattle.link_core.proofs.EventCounts.{few_in_run}
+use Rattle.link_core.proofs.FatesInOrder.{distinct_front, ids_in_order, none_in_order}
 use Rattle.link_core.proofs.FifoQueues.{IsTracked, none_left, runs_tracked, steps_tracked, tracked}
 use Rattle.link_core.proofs.IdleLinks.{idle_run_empty}
 use Rattle.link_core.proofs.OneLinkRun.{link_run_once}
@@ -47,9 +50,30 @@ gives_once (w ∷ rest) new new' dropped dropped' given given' g g' = (g.0 ∙ s
 
 -- before the first packet
 opening_tracked : IsTracked (opening_state []) []
-opening_tracked = record { known = tt; held = tt }
+opening_tracked = record { known = tt; held = tt; order = none_in_order; once = tt; many = refl }
 
 module _ (p : ParamFields) (seed : Seed) (link : LinkFields) (arrivals : List Arrival) where
+  -- what is kept up to a journal's end
+  fifo_tracked : (events : List Event) (h : IsFifoJournal p seed link arrivals events) → IsTracked h.last events
+  fifo_tracked events h = subst (IsTracked h.last) (sym h.journal) (runs_tracked p seed (opening_state []) h.last h.steps h.made [] h.run.runs opening_tracked)
+
+  -- ids are in order, each fate follows its acceptance, and no id has two
+  pub fifo_ids : (events : List Event) → IsFifoJournal p seed link arrivals events → IdsInOrder events
+  fifo_ids events h = ids_in_order h.last.next_id events (fifo_tracked events h).order.ids
+
+  pub fifo_follow : (events : List Event) → IsFifoJournal p seed link arrivals events → FatesFollow events
+  fifo_follow events h = (fifo_tracked events h).order.follow
+
+  pub fifo_once : (events : List Event) → IsFifoJournal p seed link arrivals events → AreDistinct (fate_ids events)
+  fifo_once events h = distinct_front (fate_ids events) (map (λ (w : Waiting). w.id) h.last.queues) (fifo_tracked events h).once
+
+  -- two events at most for each arrival
+  pub fifo_few : (events : List Event) → IsFifoJournal p seed link arrivals events → length events ≤ 2 * length arrivals
+  fifo_few events h =
+      let t = subst (IsTracked h.last) h.journal (fifo_tracked events h) in
+      let all : length (fate_ids (journal_of h.made)) + length (map (λ (w : Waiting). w.id) h.last.queues) ≡ h.last.next_id = sym (length-append (fate_ids (journal_of h.made)) (map (λ (w : Waiting). w.id) h.last.queues)) ∙ t.many in
+      subst (λ (es : List Event). length es ≤ 2 * length arrivals) (sym h.journal) (few_in_run (fifo p seed) link arrivals h.steps h.made h.last h.run (omega arith))
+
   -- where the link is idle, each packet that came has its fate
   pub fifo_none_waits : (steps : List Step) (made : List Made) (point : LinkPoint) (at : State (List Waiting)) → IsLinkRunTo (fifo p seed) link arrivals steps made point at → point.state ≡ idle → without_fate (journal_of made) ≡ []
   fifo_none_waits steps made point at run is =

@@ -9,5 +9,7 @@ pub mod IdleLinks
 pub mod Causality
 pub mod Throughput
 pub mod LinkRunLaws
+pub mod EventCounts
+pub mod FatesInOrder
 pub mod FifoQueues
 pub mod FifoRunLaws

@@ -1,5 +1,5 @@
 -- The laws of a link's runs over FQ-CoDel.
-use Rattle.std.proofs.Common.{◌≡◌, ◌<◌, ◌≤◌, All, List, [], sym, ◌∙◌}
+use Rattle.std.proofs.Common.{◌≡◌, ◌+◌, ◌*◌, ◌<◌, ◌≤◌, All, List, [], length, sym, ◌∙◌, arith}
 use Rattle.std.proofs.lemmas.List.Elements.{recursion_from_All}
 use Rattle.packet_core.specs.declared.flow.Seed.{Seed}
 use Rattle.packet_core.specs.declared.params.ParamFields.{ParamFields}
@@ -21,7 +21,9 @@ use Rattle.link_core.specs.LinkLaw.LinkState.{idle}
 use Rattle.link_core.specs.LinkLaws.{FollowsArrival}
 use Rattle.link_core.specs.LinkRuns.{IsLinkRun, IsLinkRunTo}
 use Rattle.link_core.proofs.Causality.{run_follows}
+use Rattle.link_core.proofs.EventCounts.{few_in_run}
 use Rattle.link_core.proofs.IdleLinks.{all_fated, fair_idle_empty}
+use Rattle.link_core.proofs.SentIds.{history_of}
 
 -- where the link is idle, each packet that came has its fate
 pub none_waits : (p : ParamFields) (seed : Seed) (link : LinkFields) (arrivals : List Arrival) (steps : List Step) (made : List Made) (point : LinkPoint) (at : State FairQueues)
@@ -39,3 +41,10 @@ none_early p seed link arrivals steps made last run =
     let d = fq_codel p seed in
     let fifo = fair_is_fifo (fq_codel_policy p) (policy_drops p) p.flows (flow_number p.classify p.flows seed) in
     run_follows d (Keeps d queue_of fifo) (keeps_steps d queue_of fifo) (λ s events h. recursion_from_All (λ id. id < s.next_id) (fate_ids events) h.known) link arrivals steps made last (keeps_opening d queue_of fifo) run
+
+-- two events at most for each arrival
+pub few_made : (p : ParamFields) (seed : Seed) (link : LinkFields) (arrivals : List Arrival) (steps : List Step) (made : List Made) (last : State FairQueues) → IsLinkRun p seed link arrivals steps made last
+    → length (journal_of made) ≤ 2 * length arrivals
+few_made p seed link arrivals steps made last run =
+    let left : length (without_fate (journal_of made)) + length (fate_ids (journal_of made)) ≡ last.next_id = (history_of p seed steps made last run.runs).left in
+    few_in_run (fq_codel p seed) link arrivals steps made last run (omega arith)

@@ -1,13 +1,14 @@
 //! What holds of every run of a link over the plain queue, whatever its parameters and its seed, as contracts of
 //! functions that do nothing. A clause that speaks of a journal holds of what `run_fifo` gives.
 
-ghost use Rattle.std.specs.Prelude.{◌≡◌, ℕ, ◌+◌, ◌*◌, ◌<◌, ◌++◌, ◌∷◌, All, List, [], sum_by};
+ghost use Rattle.std.specs.Prelude.{◌≡◌, ℕ, ◌+◌, ◌*◌, ◌<◌, ◌≤◌, ◌++◌, ◌∷◌, All, List, [], length, sum_by};
 ghost use Rattle.packet_core.specs.declared.flow.Seed.{Seed};
 ghost use Rattle.packet_core.specs.declared.packet.Waiting.{Waiting};
 ghost use Rattle.packet_core.specs.declared.params.ParamFields.{ParamFields};
 ghost use Rattle.journal_core.specs.declared.event.Event.{Event};
 ghost use Rattle.journal_core.specs.declared.step.Step.{Step};
-ghost use Rattle.journal_core.specs.Happened.{without_fate};
+ghost use Rattle.journal_core.specs.Happened.{fate_ids, without_fate};
+ghost use Rattle.journal_core.specs.JournalLaws.{AreDistinct, FatesFollow, IdsInOrder};
 ghost use Rattle.journal_core.specs.Runs.{Made, journal_of};
 ghost use Rattle.journal_core.specs.State.{State};
 ghost use Rattle.link_core.specs.declared.arrival.Arrival.{Arrival};
@@ -65,4 +66,22 @@ pub fn fifo_throughput()
         → (before between behind : List Sending) (one later : Sending)
         → sendings events ≡ before ++ (one ∷ between ++ later ∷ behind)
         → sum_by (work_of link arrivals) (one ∷ between) + link.rate * one.moment < link.rate * (later.moment + 1) }
+{}
+
+/// A journal's ids are 0, 1, 2 and so on, in the order in which packets came. Each fate names an id that was given
+/// before it, and no id has two fates.
+pub fn fifo_fates()
+    ensures ids { (p : ParamFields) (seed : Seed) (link : LinkFields) (arrivals : List Arrival)
+        → (events : List Event) → IsFifoJournal p seed link arrivals events → IdsInOrder events }
+    ensures follow { (p : ParamFields) (seed : Seed) (link : LinkFields) (arrivals : List Arrival)
+        → (events : List Event) → IsFifoJournal p seed link arrivals events → FatesFollow events }
+    ensures once { (p : ParamFields) (seed : Seed) (link : LinkFields) (arrivals : List Arrival)
+        → (events : List Event) → IsFifoJournal p seed link arrivals events → AreDistinct (fate_ids events) }
+{}
+
+/// A journal has two events at most for each arrival: that it came, and its fate.
+pub fn fifo_few_events()
+    ensures { (p : ParamFields) (seed : Seed) (link : LinkFields) (arrivals : List Arrival)
+        → (events : List Event) → IsFifoJournal p seed link arrivals events
+        → length events ≤ 2 * length arrivals }
 {}

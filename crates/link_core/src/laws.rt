@@ -1,7 +1,7 @@
 //! What holds of every run of a link over FQ-CoDel, whatever its parameters and its seed, as contracts of functions
 //! that do nothing.
 
-ghost use Rattle.std.specs.Prelude.{◌≡◌, ℕ, ◌+◌, ◌*◌, ◌<◌, ◌≤◌, ◌++◌, ◌∷◌, All, List, [], sum_by};
+ghost use Rattle.std.specs.Prelude.{◌≡◌, ℕ, ◌+◌, ◌*◌, ◌<◌, ◌≤◌, ◌++◌, ◌∷◌, All, List, [], length, sum_by};
 ghost use Rattle.packet_core.specs.Params.{AreInRange};
 ghost use Rattle.packet_core.specs.declared.flow.Seed.{Seed};
 ghost use Rattle.packet_core.specs.declared.params.ParamFields.{ParamFields};
@@ -70,4 +70,11 @@ pub fn throughput()
         → (before between behind : List Sending) (one later : Sending)
         → sendings (journal_of made) ≡ before ++ (one ∷ between ++ later ∷ behind)
         → sum_by (work_of link arrivals) (one ∷ between) + link.rate * one.moment < link.rate * (later.moment + 1) }
+{}
+
+/// The journal of a run has two events at most for each arrival: that it came, and its fate.
+pub fn few_events()
+    ensures { (p : ParamFields) (seed : Seed) (link : LinkFields) (arrivals : List Arrival)
+        → (steps : List Step) (made : List Made) (last : State FairQueues)
+        → IsLinkRun p seed link arrivals steps made last → length (journal_of made) ≤ 2 * length arrivals }
 {}
