@@ -4,6 +4,7 @@ pub mod CountLemmas
 pub mod GivenFaults
 pub mod InputLemmas
 pub mod PlainLemmas
+pub mod ReadCounts
 pub mod RequestLemmas
 pub mod RunLemmas
 pub mod TextLemmas

@@ -1,11 +1,17 @@
 -- The faults of a run, by the step that they come from.
-use Rattle.std.proofs.Common.{◌≡◌, ◌≢◌, ◌≤◌, ◌⊎◌, ℕ, Bool, List, Option, Some, None, Result, Ok, Err, true, String, Global, inl, inr, refl, length, arith}
+use Rattle.std.proofs.Common.{◌≡◌, ◌≢◌, ◌≤◌, ◌⊎◌, ℕ, Bool, List, Option, Some, None, Result, Ok, Err, true, String, Global, inl, inr, refl, ap, length, arith, ◌*◌}
 use Rattle.std.specs.Prelude.{IfErr, IfSome, IsErrAnd, option_map}
 use Rattle.journal_core.specs.declared.event.Event.{Event}
 use Rattle.journal_core.specs.declared.step.Step.{Step}
+use Rattle.journal_core.specs.Runs.{Made, journal_of}
+use Rattle.journal_core.specs.State.{State}
+use Rattle.packet_core.specs.declared.flow.Seed.{Seed as SeedOfRun}
+use Rattle.packet_core.specs.declared.params.ParamFields.{ParamFields}
+use Rattle.fair_core.specs.FairQueues.{FairQueues}
 use Rattle.link_core.specs.declared.arrival.Arrival.{Arrival}
 use Rattle.link_core.specs.Fifo.{IsFifoJournal}
-use Rattle.link_core.specs.LinkRuns.{HasRunLink}
+use Rattle.link_core.specs.LinkRuns.{HasRunLink, IsLinkRun}
+use Rattle.link_core.specs.declared.link.LinkFields.{LinkFields}
 use Rattle.sched_core.specs.Engines.{Running}
 use Rattle.link_report.specs.FlowTables.{flows_text, known_flows_text}
 use Rattle.link_report.specs.Packets.{Known, known_of}
@@ -13,12 +19,11 @@ use Rattle.link_report.specs.declared.summary.TheConstants.{MAX_EVENTS}
 use Rattle.link_report.proofs.PacketLemmas.{few_packets}
 use Rattle.link_report.specs.SeriesTables.{series_text}
 use Rattle.link_report.specs.StepTables.{steps_text}
-use Rattle.link_command.specs.ArrivalTexts.{IsArrivalText}
 use Rattle.link_command.specs.CommandLine.{AsksForRun, IsMistake, Texts}
 use Rattle.link_command.specs.FaultsOn.{IsWordsFault}
 use Rattle.link_command.specs.InputFaults.{IsInputFault}
 use Rattle.std.specs.Io.KnownBytes.{Keeps}
-use Rattle.link_command.specs.Runs.{FailsBy, IsBeside, IsComparedFault, IsComparedText, IsFaultOn, IsJournalOf, IsRunFault, IsTable, IsTableFault}
+use Rattle.link_command.specs.Runs.{FailsBy, IsBeside, IsComparedText, IsFaultOn, IsJournalOf, IsRunFault, IsTable}
 use Rattle.link_command.specs.Values.{RunParts, SaysRun}
 use Rattle.link_command.specs.declared.command_line.TableName.{TableName}
 use Rattle.link_command.specs.declared.command_line.TableName.TheVariants.{Flows, Packets, Series, Steps, Svg}
@@ -56,21 +61,13 @@ input_fails texts input run NotUtf8 said h = h
 input_fails texts input run (Value name what found) said h = absurd h
 input_fails texts input run (Seed found) said h = absurd h
 input_fails texts input run (Params what found) said h = absurd h
-input_fails texts input run (Row number what found) said h = inl (record { run = run; said = said; fault = h })
+input_fails texts input run (Row number what found) said h = record { run = run; said = said; fault = h }
 input_fails texts input run Memory said h = tt
 input_fails texts input run Write said h = h
 
--- of the table
-pub table_fails : (texts : Texts) (input : Option (List ℕ)) (run : RunParts) (arrivals : List Arrival) (why : ProgramFault) → SaysRun texts run
-    → IfSome input (λ bytes. IsArrivalText bytes arrivals) → IsTableFault run arrivals why → IsRunFault texts input why
-table_fails texts input run arrivals (CommandLine text) said read h = h
-table_fails texts input run arrivals NotUtf8 said read h = h
-table_fails texts input run arrivals (Value name what found) said read h = absurd h
-table_fails texts input run arrivals (Seed found) said read h = absurd h
-table_fails texts input run arrivals (Params what found) said read h = absurd h
-table_fails texts input run arrivals (Row number what found) said read h = inr (record { run = run; said = said; arrivals = arrivals; read = read; fault = h })
-table_fails texts input run arrivals Memory said read h = tt
-table_fails texts input run arrivals Write said read h = h
+-- of the table, which fails for want of memory alone
+pub table_fails : (texts : Texts) (input : Option (List ℕ)) (why : ProgramFault) → why ≡ Memory → IsRunFault texts input why
+table_fails texts input why memory = rw memory tt
 
 -- of words that ask for a run
 pub run_fails : (words : List (List ℕ)) (texts : Texts) (input : Option (List ℕ)) (why : ProgramFault) → AsksForRun words texts → IsRunFault texts input why
@@ -109,24 +106,6 @@ pub steps_table : (table : TableName) (has_fifo : Bool) (run : RunParts) (arriva
     → table ≡ Steps → text ≡ steps_text steps → IsTable table has_fifo run arrivals steps events text
 steps_table table has_fifo run arrivals steps events text same is = rw same is
 
--- journals with too many events are those of a run
-pub compared_fails : (run : RunParts) (arrivals : List Arrival) (steps : List Step) (events : List Event) (why : ProgramFault) → IsJournalOf run arrivals steps events
-    → IsComparedFault run arrivals events why → IsTableFault run arrivals why
-compared_fails run arrivals steps events (CommandLine text) is h = h
-compared_fails run arrivals steps events NotUtf8 is h = h
-compared_fails run arrivals steps events (Value name what found) is h = h
-compared_fails run arrivals steps events (Seed found) is h = h
-compared_fails run arrivals steps events (Params what found) is h = h
-compared_fails run arrivals steps events (Row number what found) is h = (
-  h.0,
-  elim h.1 [
-    | inl many ↦ record { steps = steps; events = events; journal = inl is; many = many }
-    | inr beside ↦ record { steps = steps; events = beside.0; journal = inr beside.1; many = beside.2 }
-  ],
-)
-compared_fails run arrivals steps events Memory is h = tt
-compared_fails run arrivals steps events Write is h = h
-
 -- the journal of an engine that made a link's steps
 pub journal_of_engine : (run : RunParts) (arrivals : List Arrival) (e : Running) → HasRunLink run.params run.seed run.link arrivals e
     → IsJournalOf run arrivals e.steps e.sched.standing.events
@@ -164,3 +143,12 @@ few_shown view (Some others) few = few
 pub few_others : {A B : Type 0} (view : A → Known) (journal : B → List Event) (others : Option A) (fifo : Option B) → option_map view others ≡ option_map (λ e. known_of (journal e)) fifo
     → IfSome fifo (λ e. length (journal e) ≤ MAX_EVENTS) → IfSome others (λ p. AreFew (view p))
 few_others view journal others fifo same few = few_shown view others (rw same (few_of_journal journal fifo few))
+
+-- the journals of runs have few events where few packets came
+pub few_of_engine : (run : RunParts) (arrivals : List Arrival) (e : Running)
+    → ((p : ParamFields) (seed : SeedOfRun) (link : LinkFields) (all : List Arrival) (steps : List Step) (made : List Made) (last : State FairQueues) → IsLinkRun p seed link all steps made last → length (journal_of made) ≤ 2 * length all)
+    → HasRunLink run.params run.seed run.link arrivals e → length arrivals ≤ 1000000 → length e.sched.standing.events ≤ MAX_EVENTS
+few_of_engine run arrivals e law has few =
+    let made = law run.params run.seed run.link arrivals e.steps has.made e.sched.standing.state has.run in
+    let all = ap length has.journal in
+    omega arith

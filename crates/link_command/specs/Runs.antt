@@ -1,12 +1,11 @@
 -- What the program writes, and what is wrong where it writes nothing.
-use Rattle.std.specs.Prelude.{◌≡◌, ◌<◌, ◌⊎◌, ℕ, Bool, true, false, List, Option, Some, None, IfSome, IsSomeAnd, length, take}
+use Rattle.std.specs.Prelude.{◌≡◌, ◌⊎◌, ℕ, Bool, true, false, List, Option, Some, None, IfSome, take}
 use Rattle.std.specs.Io.KnownBytes.{Appends, Keeps}
 use Rattle.fair_core.specs.FairQueues.{FairQueues}
 use Rattle.journal_core.specs.declared.event.Event.{Event}
 use Rattle.journal_core.specs.declared.step.Step.{Step}
 use Rattle.journal_core.specs.Runs.{Made, journal_of}
 use Rattle.journal_core.specs.State.{State}
-use Rattle.row_core.specs.declared.faults.TraceFaultKind.TheVariants as kind
 use Rattle.link_core.specs.Arrivals.{AreArrivals}
 use Rattle.link_core.specs.Fifo.{IsFifoJournal}
 use Rattle.link_core.specs.LinkRuns.{IsLinkRun}
@@ -15,7 +14,6 @@ use Rattle.link_report.specs.FlowTables.{flows_text}
 use Rattle.link_report.specs.PacketTables.{packets_text}
 use Rattle.link_report.specs.SeriesTables.{series_text}
 use Rattle.link_report.specs.StepTables.{steps_text}
-use Rattle.link_report.specs.declared.summary.TheConstants.{MAX_EVENTS}
 use Rattle.link_command.specs.ArrivalTexts.{IsArrivalText}
 use Rattle.link_command.specs.CommandLine.{AsksForRun, AsksForText, IsMistake, Texts}
 use Rattle.link_command.specs.FaultsOn.{IsWordsFault}
@@ -25,7 +23,6 @@ use Rattle.link_command.specs.declared.command_line.TableName.{TableName}
 use Rattle.link_command.specs.declared.command_line.TableName.TheVariants.{Flows, Packets, Series, Steps, Svg}
 use Rattle.link_command.specs.declared.faults.ProgramFault.{ProgramFault}
 use Rattle.link_command.specs.declared.faults.ProgramFault.TheVariants as fault
-use Rattle.link_command.specs.declared.faults.RowFault.TheVariants as row
 
 -- The events are the journal of the link's run of these arrivals before FQ-CoDel, which makes these steps.
 pub record IsJournalOf (run : RunParts) (arrivals : List Arrival) (steps : List Step) (events : List Event) : Type 0 where
@@ -101,84 +98,16 @@ abbrev pub Begins : List (List ℕ) → Option (List ℕ) → Option (List ℕ) 
 Begins words input old new =
     (text : List ℕ) × IsAsked words input text × (count : ℕ) × Appends old new (take count text)
 
--- The fault for too much input, in no row of its own.
-abbrev pub IsTooMany : ProgramFault → Type 0
-IsTooMany (fault.Row number what found) = (number ≡ 0) × (what ≡ row.Trace kind.TooLarge)
-IsTooMany (fault.CommandLine text) = ⊥
-IsTooMany fault.NotUtf8 = ⊥
-IsTooMany (fault.Value name what found) = ⊥
-IsTooMany (fault.Seed found) = ⊥
-IsTooMany (fault.Params what found) = ⊥
-IsTooMany fault.Memory = ⊥
-IsTooMany fault.Write = ⊥
-
--- More events than the table of five-tuples sums up.
-abbrev pub AreMany : List Event → Type 0
-AreMany events = MAX_EVENTS < length events
-
--- The fault is that one of journals of which one has too many events, or memory was wanting.
-abbrev pub AreManyEvents : List Event → Option (List Event) → ProgramFault → Type 0
-AreManyEvents events fifo fault.Memory = Unit {0}
-AreManyEvents events fifo (fault.Row number what found) =
-    IsTooMany (fault.Row number what found) × (AreMany events ⊎ IsSomeAnd fifo AreMany)
-AreManyEvents events fifo (fault.CommandLine text) = ⊥
-AreManyEvents events fifo fault.NotUtf8 = ⊥
-AreManyEvents events fifo (fault.Value name what found) = ⊥
-AreManyEvents events fifo (fault.Seed found) = ⊥
-AreManyEvents events fifo (fault.Params what found) = ⊥
-AreManyEvents events fifo fault.Write = ⊥
-
--- The link's run of these arrivals, or that through the FIFO, has too many events.
-pub record HasManyEvents (run : RunParts) (arrivals : List Arrival) : Type 0 where
-  pub steps : List Step
-  pub events : List Event
-  pub journal : IsJournalOf run arrivals steps events ⊎ IsFifoJournal run.params run.seed run.link arrivals events
-  pub many : AreMany events
-
--- The fault is that this journal has too many events, or that of the FIFO of these arrivals.
-abbrev pub IsComparedFault : RunParts → List Arrival → List Event → ProgramFault → Type 0
-IsComparedFault run arrivals events fault.Memory = Unit {0}
-IsComparedFault run arrivals events (fault.Row number what found) =
-    IsTooMany (fault.Row number what found)
-    × (AreMany events
-    ⊎ ((fifo : List Event) × IsFifoJournal run.params run.seed run.link arrivals fifo × AreMany fifo))
-IsComparedFault run arrivals events (fault.CommandLine text) = ⊥
-IsComparedFault run arrivals events fault.NotUtf8 = ⊥
-IsComparedFault run arrivals events (fault.Value name what found) = ⊥
-IsComparedFault run arrivals events (fault.Seed found) = ⊥
-IsComparedFault run arrivals events (fault.Params what found) = ⊥
-IsComparedFault run arrivals events fault.Write = ⊥
-
--- The fault is one of that run of these arrivals.
-abbrev pub IsTableFault : RunParts → List Arrival → ProgramFault → Type 0
-IsTableFault run arrivals fault.Memory = Unit {0}
-IsTableFault run arrivals (fault.Row number what found) =
-    IsTooMany (fault.Row number what found) × HasManyEvents run arrivals
-IsTableFault run arrivals (fault.CommandLine text) = ⊥
-IsTableFault run arrivals fault.NotUtf8 = ⊥
-IsTableFault run arrivals (fault.Value name what found) = ⊥
-IsTableFault run arrivals (fault.Seed found) = ⊥
-IsTableFault run arrivals (fault.Params what found) = ⊥
-IsTableFault run arrivals fault.Write = ⊥
-
--- The texts say a run, and of the arrivals of the input the fault is one of the table.
-pub record FailsInRun (texts : Texts) (input : Option (List ℕ)) (why : ProgramFault) : Type 0 where
-  pub run : RunParts
-  pub said : SaysRun texts run
-  pub arrivals : List Arrival
-  pub read : IfSome input (λ bytes. IsArrivalText bytes arrivals)
-  pub fault : IsTableFault run arrivals why
-
 -- The texts say a run, and the fault is one of the input.
 pub record FailsInInput (texts : Texts) (input : Option (List ℕ)) (why : ProgramFault) : Type 0 where
   pub run : RunParts
   pub said : SaysRun texts run
   pub fault : IsInputFault input why
 
--- The fault is one of a run with these texts and this input. The texts are looked at first, then the input.
+-- The fault is one of a run with these texts and this input. The texts are looked at first, then the input. Behind
+-- these a run fails for want of memory alone: it is never too long for its table.
 abbrev pub IsRunFault : Texts → Option (List ℕ) → ProgramFault → Type 0
-IsRunFault texts input (fault.Row number what found) =
-    FailsInInput texts input (fault.Row number what found) ⊎ FailsInRun texts input (fault.Row number what found)
+IsRunFault texts input (fault.Row number what found) = FailsInInput texts input (fault.Row number what found)
 IsRunFault texts input (fault.CommandLine text) = ⊥
 IsRunFault texts input fault.NotUtf8 = ⊥
 IsRunFault texts input (fault.Value name what found) = IsWordsFault texts (fault.Value name what found)

@@ -11,7 +11,7 @@ use crate::fields::{FieldName, faulty_field};
 use csv::{ByteRecord, ErrorKind, ReaderBuilder};
 use journal_core::{GhostList, Step};
 use link_core::{Arrival, MAX_ARRIVAL_MOMENT};
-use row_core::{MAX_BYTES, Next, TraceFault, TraceFaultKind, TraceRows, read_text};
+use row_core::{MAX_BYTES, MAX_ROWS, Next, TraceFault, TraceFaultKind, TraceRows, read_text};
 use std::alloc::{AllocError, Global};
 use std::io::Read;
 
@@ -22,6 +22,7 @@ const MAX_SHOWN: usize = 200;
 /// rows is tested first, and then each row for what arrivals are.
 pub fn read_arrivals<R: Read>(alloc: Global, reader: &mut R) -> Result<Vec<Arrival>, ProgramFault>
     ensures arrivals { IfOk result (λ arrivals. AreArrivals arrivals.items) }
+    ensures few { IfOk result (λ arrivals. length arrivals.items ≤ MAX_ROWS) }
     ensures text { IfOk result (λ arrivals.
         IfSome (R.remaining reader.old) (λ bytes. IsArrivalText bytes arrivals.items)) }
     ensures fault { IfErr result (IsInputFault (R.remaining reader.old)) }
@@ -50,6 +51,7 @@ fn whole_text<R: Read>(alloc: Global, reader: &mut R) -> Result<Vec<u8>, TraceFa
 fn text_arrivals(alloc: Global, text: &[u8]) -> Result<Vec<Arrival>, ProgramFault>
     requires { length text.now ≤ MAX_BYTES }
     ensures arrivals { IfOk result (λ arrivals. AreArrivals arrivals.items) }
+    ensures few { IfOk result (λ arrivals. length arrivals.items ≤ MAX_ROWS) }
     ensures text { IfOk result (λ arrivals. IsArrivalText text.now arrivals.items) }
     ensures fault { IfErr result (IsInputFault (Some text.now)) }
 {

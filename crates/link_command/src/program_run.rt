@@ -1,30 +1,31 @@
 //! The whole program over words and streams: it writes a table of a link's run, or help, and reports a fault with its
 //! status.
 
-ghost use Rattle.std.specs.Prelude.{◌≡◌, ◌≢◌, [], ◌≤◌, ◌<◌, ℕ, IfErr, IfOk, IfSome, OnErr, OnOk, Some, IsSomeAnd, false, true, length, map, option_map, take};
+ghost use Rattle.std.specs.Prelude.{◌≡◌, ◌≢◌, [], ◌≤◌, ◌<◌, ℕ, IfErr, IfOk, IfSome, OnErr, OnOk, Some, false, length, map, option_map, take};
 ghost use Rattle.std.specs.Io.KnownBytes.{Appends, Keeps};
 ghost use Rattle.link_core.specs.Arrivals.{AreArrivals};
 ghost use Rattle.link_core.specs.LinkRuns.{HasRunLink};
 ghost use Rattle.link_command.specs.CommandLine.{texts_of};
 ghost use Rattle.link_command.specs.Faults.{status_of};
 ghost use Rattle.link_command.specs.declared.faults.ProgramFault.{ProgramFault};
-ghost use Rattle.link_command.specs.Runs.{Answers, FailsBy, IsAsked, IsFaultOn, IsJournalOf, IsJournalText, AreManyEvents, IsComparedFault, IsComparedText, IsRunFault, IsTooMany, IsTableFault, IsTableFor, IsTableOf, IsTraceOf};
+ghost use Rattle.link_command.specs.Runs.{Answers, FailsBy, IsAsked, IsFaultOn, IsJournalText, IsComparedText, IsRunFault, IsTableFor, IsTableOf, IsTraceOf};
 ghost use Rattle.link_command.specs.RunsSaid.{parts_of};
 ghost use Rattle.link_report.specs.Packets.{known_of};
 
 use crate::arrivals::read_arrivals;
 use crate::command_line::{Asked, RunRequest, TableName, parse};
-use crate::faults::{Found, ProgramFault, RowFault, tell};
+use crate::faults::{ProgramFault, tell};
 use crate::notes::{Stage, Terminals, note_input, note_stage};
 use crate::values::{Run, run_of};
-use link_core::{Arrival, run_fifo, run_fifo_with_keeper, run_link_with_keepers};
+use link_core::laws::few_events;
+use link_core::{Arrival, fifo_few_events, run_fifo, run_fifo_with_keeper, run_link_with_keepers};
 use link_picture::picture_text_of;
 use link_report::{
     Gathered, MAX_EVENTS, Packets, flows_text_of, packets_text_of, series_text_with_seed,
     steps_text,
 };
 use packet_core::Seed;
-use row_core::TraceFaultKind;
+use row_core::MAX_ROWS;
 use sched_core::{Engine, Event, Keeps, Memory, Step, Stored, Unstored};
 use std::alloc::{AllocError, Global};
 use std::io::{Read, Write};
@@ -122,9 +123,10 @@ fn table_text<F: Write>(
     notes: &mut F,
     terminals: Terminals,
 ) -> Result<Vec<u8>, ProgramFault>
-    requires { AreArrivals arrivals.now }
+    requires arrivals { AreArrivals arrivals.now }
+    requires few { length arrivals.now ≤ MAX_ROWS }
     ensures text { IfOk result (λ text. IsTableOf (texts_of request.now) (parts_of run.now) arrivals.now text.items) }
-    ensures fault { IfErr result (IsTableFault (parts_of run.now) arrivals.now) }
+    ensures fault { IfErr result (λ fault. fault ≡ ProgramFault.Memory) }
     ensures quiet { terminals.faults ≡ false → Keeps (F.contents notes.old) (F.contents notes.new) }
 {
     if request.table == TableName::Steps {
@@ -136,6 +138,8 @@ fn table_text<F: Write>(
     let events = keeper_for(alloc, &run.seed, request.table);
     let engine = run_told(alloc, run, arrivals, events, Unstored::new())?;
     note_stage(notes, terminals, Stage::Run, arrivals.len());
+    // A million arrivals have two million events, and each table takes that many.
+    few_events();
     compared_text(
         alloc,
         request,
@@ -181,7 +185,7 @@ fn most_for(table: TableName) -> u64
     ensures packets { table ≡ TableName.Packets → result ≡ u64.MAX }
     ensures others { MAX_EVENTS ≤ result }
 {
-    // The other tables refuse more events than these.
+    // The other tables take no more events than these, and no run of a trace has more.
     match table {
         TableName::Packets => u64::MAX,
         _ => MAX_EVENTS as u64,
@@ -249,11 +253,13 @@ fn compared_text<F: Write>(
     terminals: Terminals,
 ) -> Result<Vec<u8>, ProgramFault>
     requires arrivals { AreArrivals arrivals.now }
+    requires few { length arrivals.now ≤ MAX_ROWS }
+    requires events_few { length events.now.events ≤ MAX_EVENTS }
     requires steps { request.now.table ≢ TableName.Steps }
     requires series { request.now.table ≢ TableName.Series }
     ensures text { IfOk result (λ text. IsComparedText request.now.table request.now.has_fifo
         (parts_of run.now) arrivals.now events.now.events text.items) }
-    ensures fault { IfErr result (IsComparedFault (parts_of run.now) arrivals.now events.now.events) }
+    ensures fault { IfErr result (λ fault. fault ≡ ProgramFault.Memory) }
     ensures quiet { terminals.faults ≡ false → Keeps (F.contents notes.old) (F.contents notes.new) }
 {
     if !request.has_fifo {
@@ -262,6 +268,8 @@ fn compared_text<F: Write>(
     let told = keeper_for(alloc, &run.seed, request.table);
     let fifo = run_fifo_with_keeper(alloc, run.params, run.seed, &run.link, arrivals, told)?;
     note_stage(notes, terminals, Stage::Compared, arrivals.len());
+    // The FIFO has no more events than that either.
+    fifo_few_events();
     packets_table(alloc, request.table, run, events, Some(&fifo))
 }
 
@@ -274,11 +282,13 @@ fn packets_table(
     events: &Gathered,
     fifo: Option<&Gathered>,
 ) -> Result<Vec<u8>, ProgramFault>
+    requires few { length events.now.events ≤ MAX_EVENTS }
+    requires fifo_few { IfSome fifo (λ e. length e.now.events ≤ MAX_EVENTS) }
     requires steps { table ≢ TableName.Steps }
     requires series { table ≢ TableName.Series }
     ensures text { IfOk result (λ text. IsJournalText table run.now.every
         events.now.events (option_map (λ e. e.now.events) fifo.entry) text.items) }
-    ensures fault { IfErr result (AreManyEvents events.now.events (option_map (λ e. e.now.events) fifo.entry)) }
+    ensures fault { IfErr result (λ fault. fault ≡ ProgramFault.Memory) }
 {
     match table {
         TableName::Packets => {
@@ -286,16 +296,10 @@ fn packets_table(
             Ok(packets_text_of(alloc, packets, others)?)
         }
         TableName::Flows => {
-            if events.event_count() > MAX_EVENTS as u64 || has_many(fifo) {
-                return Err(too_many(alloc));
-            }
             let (packets, others) = (packets_of(events)?, others_of(fifo)?);
             Ok(flows_text_of(alloc, packets, others)?)
         }
         TableName::Svg => {
-            if events.event_count() > MAX_EVENTS as u64 || has_many(fifo) {
-                return Err(too_many(alloc));
-            }
             let (packets, others) = (packets_of(events)?, others_of(fifo)?);
             let rate = run.link.rate();
             Ok(picture_text_of(alloc, rate, run.every, packets, others)?)
@@ -305,7 +309,7 @@ fn packets_table(
     }
 }
 
-/// The packets of a keeper. It takes as many events as its table shows. More were refused before this call.
+/// The packets of a keeper. It takes as many events as its table shows, and was told no more.
 fn packets_of<'a>(events: &'a Gathered) -> Result<&'a Packets, Memory>
     ensures { IfOk result (λ packets. packets.now ≡ known_of events.now.events) }
 {
@@ -323,24 +327,5 @@ fn others_of<'a>(fifo: Option<&'a Gathered>) -> Result<Option<&'a Packets>, Memo
     match fifo {
         Some(fifo) => Ok(Some(packets_of(fifo)?)),
         None => Ok(None),
-    }
-}
-
-/// The fault for more events than the tables of five-tuples and the picture take. A million rows have two million events.
-fn too_many(alloc: Global) -> ProgramFault
-    ensures { IsTooMany result }
-{
-    let none = Found::Row(String::new(alloc));
-    ProgramFault::Row(0, RowFault::Trace(TraceFaultKind::TooLarge), none)
-}
-
-/// Whether there are more events than these take.
-fn has_many(events: Option<&Gathered>) -> bool
-    ensures few { result ≡ false → IfSome events.entry (λ e. length e.now.events ≤ MAX_EVENTS) }
-    ensures many { result ≡ true → IsSomeAnd events.entry (λ e. MAX_EVENTS < length e.now.events) }
-{
-    match events {
-        Some(events) => events.event_count() > MAX_EVENTS as u64,
-        None => false,
     }
 }

@@ -1,4 +1,5 @@
 use Rattle.link_command.proofs.InputLemmas.{told_as}
+use Rattle.link_command.proofs.ReadCounts.{few_arrivals}
 use Rattle.link_command.proofs.arrivals.text_arrivals.Goals as goal
 
 pub returns-clause-fault : goal.returns-clause-fault
@@ -10,3 +11,6 @@ returns-in-Ok-clause-arrivals c = c.in-Ok.ensures.arrivals c.args.text.now c.new
 
 pub returns-in-Ok-clause-text : goal.returns-in-Ok-clause-text
 returns-in-Ok-clause-text c = c.in-Ok.ensures.text c.args.text.now c.new-rows.ensures
+
+pub returns-in-Ok-clause-few : goal.returns-in-Ok-clause-few
+returns-in-Ok-clause-few c = few_arrivals c.args.text.now c.in-Ok.arrivals.items (c.in-Ok.ensures.text c.args.text.now c.new-rows.ensures)

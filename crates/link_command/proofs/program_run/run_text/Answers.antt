@@ -30,7 +30,4 @@ returns-clause-text g c =
 
 pub returns-clause-fault : goal.returns-clause-fault
 returns-clause-fault g c =
-    let fails = rw c.deref.ensures.value at c.table_text.ensures.fault in
-    IfErr-weaker c.table_text.result _ _
-    (λ why h. table_fails (texts_of c.args.request.now) (g.R.Read.remaining c.args.reader.now) (parts_of c.in_ok-run.run') c.in_ok-arrivals.arrivals.items why c.in_ok-run.ensures.run c.in_ok-arrivals.ensures.text h)
-    fails
+    IfErr-weaker c.table_text.result _ _ (λ why memory. table_fails (texts_of c.args.request.now) (g.R.Read.remaining c.args.reader.now) why memory) c.table_text.ensures.fault

@@ -1,11 +1,11 @@
 use denote.Enum.Bare.{same_false, same_true}
 use Rattle.std.proofs.Common.{◌≡◌, ◌≢◌, rules, sym}
 use Rattle.std.proofs.KnownBytes.{Keeps-trans}
-use Rattle.std.proofs.lemmas.Result.{IfErr-weaker, IfOk-weaker}
+use Rattle.std.proofs.lemmas.Result.{IfOk-weaker}
 use Rattle.link_command.specs.RunsSaid.{parts_of}
 use Rattle.link_command.specs.contracts.command_line.TableName.{the_type}
 use Rattle.link_command.specs.declared.command_line.TableName.TheVariants.{Steps}
-use Rattle.link_command.proofs.RunLemmas.{compared_fails, journal_of_engine, journal_table, steps_table}
+use Rattle.link_command.proofs.RunLemmas.{few_of_engine, journal_of_engine, journal_table, steps_table}
 use Rattle.link_command.proofs.program_run.table_text.Goals as goal
 
 pub returns-then-eq-clause-text : goal.returns-then-eq-clause-text
@@ -27,12 +27,9 @@ returns-clause-text g c =
       table = journal_table _ _ _ _ _ _ _ other h;
     }) made
 
-pub returns-clause-fault : goal.returns-clause-fault
-returns-clause-fault g c =
-    let fails = rw c.keeper.ensures.told at c.compared_text.ensures.fault in
-    IfErr-weaker c.compared_text.result _ _
-    (λ why h. compared_fails (parts_of c.args.run.now) c.args.arrivals.now c.in_ok-engine.engine.steps c.in_ok-engine.engine.sched.standing.events why
-    (journal_of_engine (parts_of c.args.run.now) c.args.arrivals.now c.in_ok-engine.engine c.in_ok-engine.ensures) h) fails
+pub compared_text-requires-clause-events_few : goal.compared_text-requires-clause-events_few
+compared_text-requires-clause-events_few g c =
+    rw c.keeper.ensures.told (few_of_engine (parts_of c.args.run.now) c.args.arrivals.now c.in_ok-engine.engine c.few_events.ensures c.in_ok-engine.ensures c.requires.few)
 
 pub returns-clause-quiet : goal.returns-clause-quiet
 returns-clause-quiet g c = λ none. Keeps-trans _ _ _ (c.note_stage.ensures none) (c.compared_text.ensures.quiet none)
