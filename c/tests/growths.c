@@ -25,10 +25,7 @@ void rattle_dealloc(void *block);
 
 /* Growths until one is refused, blocks that are held, the most that were held, growths so far. */
 static long left = -1, held, most_held, growths;
-/* Bytes that are held. A block's own number of bytes stands before it. */
-static size_t bytes_held;
 static char nothing[16];
-#define BEFORE 16
 
 static bool refuses(void)
 {
@@ -39,34 +36,13 @@ static bool refuses(void)
 	return false;
 }
 
-/* The block behind its number of bytes, which count as held. */
-static void *with_size(void *whole, size_t bytes)
-{
-	if (whole == NULL)
-		return NULL;
-	memcpy(whole, &bytes, sizeof bytes);
-	bytes_held += bytes;
-	return (char *)whole + BEFORE;
-}
-
-/* What with_size was given. Its bytes don't count any more. */
-static void *without_size(void *block)
-{
-	void *whole = (char *)block - BEFORE;
-	size_t bytes;
-
-	memcpy(&bytes, whole, sizeof bytes);
-	bytes_held -= bytes;
-	return whole;
-}
-
 struct given rattle_alloc(size_t bytes, size_t align)
 {
 	struct given answer = { false, nothing };
 
 	if (refuses())
 		return answer;
-	answer.block = with_size(malloc(BEFORE + bytes + align), bytes);
+	answer.block = malloc(bytes != 0 ? bytes : align);
 	answer.ok = answer.block != NULL;
 	held += answer.ok;
 	if (held > most_held)
@@ -81,7 +57,7 @@ struct given rattle_realloc(void *block, size_t kept, size_t bytes, size_t align
 	(void)kept;
 	if (refuses())
 		return answer;
-	answer.block = with_size(realloc(without_size(block), BEFORE + bytes + align), bytes);
+	answer.block = realloc(block, bytes != 0 ? bytes : align);
 	answer.ok = answer.block != NULL;
 	return answer;
 }
@@ -89,7 +65,7 @@ struct given rattle_realloc(void *block, size_t kept, size_t bytes, size_t align
 void rattle_dealloc(void *block)
 {
 	held--;
-	free(without_size(block));
+	free(block);
 }
 
 static void check(bool right, const char *what)
