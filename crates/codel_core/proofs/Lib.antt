@@ -1,3 +1,4 @@
+pub mod HeldLemmas
 pub mod RootLemmas
 pub mod ServeLemmas
 pub mod SpacingLemmas

@@ -2,7 +2,7 @@
 use Rattle.std.proofs.Common.{◌≡◌, ℕ, zero, suc, ◌+◌, ◌-◌, ◌<◌, ◌≤◌, ◌↔◌, Bool, true, false, List, [], ◌∷◌, ◌++◌, length, take, drop, Option, Some, None, refl, sym, ap, subst, ◌∙◌, arith, add-one, below_more}
 use Rattle.std.specs.Prelude.{slice_get, option_map, IsTrue}
 use Rattle.std.proofs.Math.Seq.{take-suc}
-use Rattle.std.proofs.lemmas.List.{drop-drop, length-drop}
+use Rattle.std.proofs.lemmas.List.{drop-drop}
 use Rattle.std.proofs.lemmas.Option.{slice_get_within, get_or_from_slice_get}
 use Rattle.std.proofs.lemmas.Bool.{both_ways, iff_false}
 use Rattle.packet_core.specs.declared.packet.Waiting.{Waiting}
@@ -11,24 +11,20 @@ use Rattle.codel_core.specs.declared.served.Mark.{Mark}
 use Rattle.codel_core.specs.declared.served.Mark.TheVariants.{NoMark, CodelMark}
 use Rattle.codel_core.specs.declared.served.Served.{Served}
 use Rattle.codel_core.specs.declared.state.CodelState.{CodelState}
-use Rattle.codel_core.specs.Queue.{bytes_of, IsLateWith, IsLate, HasCome, IsDroppable, IsMarkableAt, is_markable}
+use Rattle.codel_core.specs.Queue.{IsLateWith, IsLate, HasCome, IsDroppable, IsMarkableAt, is_markable}
 use Rattle.codel_core.specs.Schedule.{spacing_of, drop_moment, after_drops, entered}
 use Rattle.codel_core.specs.Spacing.{IsSpacing}
 use Rattle.codel_core.proofs.SpacingLemmas.{one_spacing_is}
 use Rattle.codel_core.specs.Heads.{DropsHead, JudgesLine, Stands}
-use Rattle.codel_core.specs.Verdict.{FirstAbove, given_up, stays, leaves, waits, marks, IsAt, IsDropped, IsHeadOf, SendsHead, Verdict, nothing, drops, served, PassesDrops, ServesLine, final_mark}
+use Rattle.codel_core.specs.Verdict.{FirstAbove, given_up, stays, leaves, waits, marks, IsAt, IsDropped, SendsHead, Verdict, nothing, drops, served, ServesLine, final_mark}
 
 -- QUEUES AND STATES
 
 -- the head of what is behind k places
-at_head : {X : Type 0} (q : List X) (k : ℕ) → slice_get (drop k q) 0 ≡ slice_get q k
+pub at_head : {X : Type 0} (q : List X) (k : ℕ) → slice_get (drop k q) 0 ≡ slice_get q k
 at_head q zero = refl
 at_head [] (suc k) = refl
 at_head (x ∷ xs) (suc k) = at_head xs k
-
--- a pull leaves one packet less
-pub one_less : (q rest : List Waiting) (head : Waiting) → Some head ≡ slice_get q 0 → rest ≡ drop 1 q → length rest + 1 ≡ length q
-one_less q rest head is e = omega (arith, slice_get_within q 0 head (sym is), ap (λ (l : List Waiting). length l) e ∙ length-drop 1 q)
 
 -- one packet more is dropped
 next_taken : (q : List Waiting) (k : ℕ) (w : Waiting) → Some w ≡ slice_get q k → take (k + 1) q ≡ take k q ++ w ∷ []
@@ -186,76 +182,6 @@ module _ {p : ParamFields} {now : ℕ} {q : List Waiting} {old : CodelState} {k 
   }
 
 -- STEPS
-
--- Behind k drops the packet at place k is in hand and was judged, and that is what became of first_above.
-pub record InHand {A B : Type 0} (items : A → List Waiting) (pulled : A → ℕ → A → Type 0) (taken : B → List Waiting → B → Type 0)
-    (p : ParamFields) (now : ℕ) (old : CodelState) (line : A) (sink : B) (k : ℕ) (head : Waiting) (first_above : Option ℕ) (line' : A) (sink' : B) : Type 0 where
-  pub left : PassesDrops items pulled taken k line sink line' sink'
-  pub head_is : Some head ≡ slice_get (items line) k
-  pub fate : FirstAbove (IsLate p now (items line) k) p.interval now old.first_above first_above
-
--- While the queue drops: k packets were dropped, and the one at place k is in hand and droppable.
-pub record Midway {A B : Type 0} (items : A → List Waiting) (pulled : A → ℕ → A → Type 0) (taken : B → List Waiting → B → Type 0)
-    (p : ParamFields) (now : ℕ) (old : CodelState) (line : A) (sink : B) (k : ℕ) (head : Waiting) (state : CodelState) (line' : A) (sink' : B) : Type 0 where
-  pub hand : InHand items pulled taken p now old line sink k head state.first_above line' sink'
-  pub way : Dropping p now (items line) old k state
-
--- While the queue drops, behind a head that was pulled and is droppable: so many packets were dropped with it.
-pub record GoesOn {A B : Type 0} (items : A → List Waiting) (pulled : A → ℕ → A → Type 0) (taken : B → List Waiting → B → Type 0) (room : B → ℕ)
-    (p : ParamFields) (now : ℕ) (old : CodelState) (first : Waiting) (line : A) (sink : B) (head : Waiting) (state : CodelState) (line' : A) (sink' : B) : Type 0 where
-  pub drops : ℕ
-  pub state_is : state ≡ after_drops p.interval old drops
-  pub left : drops + length (items line') ≡ length (items line)
-  pub fits : length (items line') < room sink'
-  pub behind : p.mtu < bytes_of (items line')
-  pub midway : (whole : A) → IsHeadOf items pulled first line whole → Midway items pulled taken p now old whole sink drops head state line' sink'
-
-module _ {A B : Type 0} {items : A → List Waiting} {pulled : A → ℕ → A → Type 0} {taken : B → List Waiting → B → Type 0}
-    {p : ParamFields} {now : ℕ} {old : CodelState} {line : A} {sink : B} where
-  -- what is left behind a drop, a pull and its judgement
-  pub next_in_hand : {k : ℕ} {head next : Waiting} {behind : ℕ} {droppable : Bool} {held before first_above : Option ℕ} {line' line'' : A} {sink' sink'' : B}
-      → ((a b c : A) (n : ℕ) → pulled a n b → pulled b 1 c → pulled a (n + 1) c)
-      → ((a b c : B) (ws : List Waiting) (w : Waiting) → taken a ws b → taken b (w ∷ []) c → taken a (ws ++ w ∷ []) c)
-      → InHand items pulled taken p now old line sink k head held line' sink'
-      → taken sink' (head ∷ []) sink'' → pulled line' 1 line'' → items line'' ≡ drop 1 (items line') → Some next ≡ slice_get (items line') 0
-      → behind ≡ bytes_of (items line'') → before ≡ old.first_above
-      → (IsTrue droppable ↔ (IsLateWith p now next behind × HasCome before now))
-      → FirstAbove (IsLateWith p now next behind) p.interval now before first_above
-      → InHand items pulled taken p now old line sink (k + 1) next first_above line'' sink'' × (IsTrue droppable ↔ IsDroppable p now (items line) old.first_above (k + 1))
-  next_in_hand {k = k} {head = head} {next = next} {behind = behind} {line' = line'} {line'' = line''} {sink' = sink'} {sink'' = sink''} pulled_more taken_more h take' pull rest next_is bytes same judged fate =
-      let left = rest ∙ ap (λ (q : List Waiting). drop 1 q) h.left.rest ∙ drop-drop 1 (k + 1) (items line) in
-      let is = next_is ∙ ap (λ (q : List Waiting). slice_get q 0) h.left.rest ∙ at_head (items line) (k + 1) in
-      let takes = taken_more sink sink' sink'' (take k (items line)) head h.left.takes take' in
-      let at : IsAt next behind (items line) (k + 1) = record { head_is = is; bytes = bytes ∙ ap bytes_of left } in
-      let told = judged_at p now {q = items line} {k = k + 1} at same judged fate in (
-        record {
-          left = record { pulls = pulled_more line line' line'' (k + 1) h.left.pulls pull; rest = left; takes = rw (next_taken (items line) k head h.head_is) takes };
-          head_is = is;
-          fate = told.0;
-        },
-        told.1,
-      )
-
-  -- the packet in hand is given
-  pub gives : {k : ℕ} {head : Waiting} {first_above : Option ℕ} {line' : A} {sink' : B} {mark : Mark} {judged new : CodelState} {answer : Served}
-      → InHand items pulled taken p now old line sink k head first_above line' sink'
-      → Verdict p now (items line) old k mark judged → judged ≡ record new { first_above = old.first_above } → new.first_above ≡ first_above → answer ≡ served (final_mark p now (Some head) mark) head
-      → ServesLine items pulled taken p now old line sink (Some answer) new line' sink'
-  gives {k = k} {head = head} {mark = mark} h verdict state_is same told =
-      record {
-        drops = k;
-        mark = final_mark p now (Some head) mark;
-        decides = record {
-          by_codel = mark;
-          verdict = subst (λ (s : CodelState). Verdict p now (items line) old k mark s) state_is verdict;
-          mark_is = ap (λ (o : Option Waiting). final_mark p now o mark) h.head_is;
-          first_above = rw same h.fate;
-        };
-        given = ap Some told ∙ ap (option_map (served (final_mark p now (Some head) mark))) h.head_is;
-        left = h.left;
-      }
-
--- IN PLACE
 
 -- what a judgement of the head finds, after k packets have left the queue
 pub judged_behind : (p : ParamFields) (now : ℕ) (q rest : List Waiting) (k : ℕ) {droppable : Bool} {held before first_above : Option ℕ}

@@ -1,4 +1,5 @@
 pub mod Heads
+pub mod Held
 pub mod Queue
 pub mod Root
 pub mod Schedule

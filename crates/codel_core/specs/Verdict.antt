@@ -102,13 +102,6 @@ pub record PassesDrops {A B : Type 0} (items : A → List Waiting) (pulled : A �
   pub rest : items line' ≡ drop (k + 1) (items line)
   pub takes : taken sink (take k (items line)) sink'
 
--- that packet is the head of a whole line, and a pull of it made this line
-pub record IsHeadOf {A : Type 0} (items : A → List Waiting) (pulled : A → ℕ → A → Type 0) (head : Waiting) (line : A)
-    (whole : A) : Type 0 where
-  pub head_is : Some head ≡ slice_get (items whole) 0
-  pub rest : items line ≡ drop 1 (items whole)
-  pub step : pulled whole 1 line
-
 -- What a serve does with a state, a line and a sink.
 pub record ServesLine {A B : Type 0} (items : A → List Waiting) (pulled : A → ℕ → A → Type 0)
     (taken : B → List Waiting → B → Type 0) (p : ParamFields) (now : ℕ) (old : CodelState) (line : A) (sink : B)

@@ -3,16 +3,13 @@
 ghost use Rattle.std.specs.Prelude.{◌≡◌, ◌^◌, ◌<◌, ◌≤◌, ◌↔◌, [], length, IsNone, None, Some, false};
 ghost use Rattle.packet_core.specs.Params.{IsIntervalInRange};
 ghost use Rattle.codel_core.specs.Schedule.{IsStateInRange, StaysInRange};
-ghost use Rattle.codel_core.specs.Queue.{HasCome, IsLateBefore};
-ghost use Rattle.codel_core.specs.Verdict.{IsHeadOf, ServesLine};
+ghost use Rattle.codel_core.specs.Verdict.{ServesLine};
 
-use crate::control_law::spacing;
-use crate::in_place::serve_heads;
-use crate::judge::{enter, may_mark, passes, should_drop};
-use crate::line::{DropSink, Heads, Pull, pull_waiting};
+use crate::heads::{judge_heads, serve_heads};
+use crate::line::{DropSink, Heads, Held, Pull};
 use crate::served::Served;
 use crate::state::CodelState;
-use packet_core::{Params, Waiting};
+use packet_core::Params;
 use std::marker::Model;
 
 /// CoDel for one queue (RFC 8289, section 5, with the marks of RFC 8290, sections 4 and 5.2.7).
@@ -82,7 +79,7 @@ impl Codel {
         ensures range { StaysInRange params.now now
             self.old (length (L.items line.old)) self.new (length (L.items line.new)) }
     {
-        serve_from(&mut self.state, line, now, params, sink)
+        serve_held(&mut self.state, line, now, params, sink)
     }
 
     /// Serves as `serve` does. Each packet stays where it stands until it is dropped or given.
@@ -109,7 +106,7 @@ impl Codel {
 }
 
 /// Serves as `Codel::serve` does, over the numbers alone.
-fn serve_from<L: Pull, S: DropSink>(
+fn serve_held<L: Pull, S: DropSink>(
     state: &mut CodelState,
     line: &mut L,
     now: u64,
@@ -125,74 +122,11 @@ fn serve_from<L: Pull, S: DropSink>(
         state.old line.old sink.old result state.new line.new sink.new }
     ensures interval { IsIntervalInRange params.now.interval }
 {
-    let _interval = params.interval();
-    let pulled = line.pull();
-    // Only looked at: taken out of its `Some`, a packet is copied once more.
-    let Some(first) = &pulled else {
-        // An empty line is no standing queue: the next packet that is late begins the interval anew.
-        state.first_above = None;
-        state.dropping = false;
+    let head = line.pull();
+    let mut held = Held { head, line };
+    let mark = judge_heads(state, &mut held, now, params, sink);
+    let Some(head) = &held.head else {
         return None;
     };
-    if passes(state, first, line.bytes_left(), now, params) {
-        return Some(Served::by_threshold(first, now, params));
-    }
-    Some(serve_droppable(state, *first, line, now, params, sink))
-}
-
-/// Goes on with a serve whose first packet was pulled and is droppable: that one is marked or dropped, or sent where no
-/// drop is due yet.
-// Kept out of its caller, which sends most packets without it: those that aren't droppable, and those that are while
-// no drop is due yet.
-#[inline(never)]
-fn serve_droppable<L: Pull, S: DropSink>(
-    state: &mut CodelState,
-    first: Waiting,
-    line: &mut L,
-    now: u64,
-    params: &Params,
-    sink: &mut S,
-) -> Served
-    requires room { length (L.items line.old) < S.room sink.old }
-    requires size { length (L.items line.old) < 2 ^ 40 }
-    requires moment { now < 2 ^ 60 }
-    requires numbers { IsStateInRange state.old }
-    requires late { IsLateBefore params.now now first (L.items line.old) }
-    requires due { HasCome state.old.first_above now }
-    ensures { (whole : L) → IsHeadOf L.items L.pulled first line.old whole
-        → ServesLine L.items L.pulled S.taken params.now now
-        state.old whole sink.old (Some result) state.new line.new sink.new }
-{
-    let interval = params.interval();
-    if !state.dropping {
-        if may_mark(params, &first) {
-            enter(state, now, params);
-            return Served::by_codel(&first);
-        }
-        sink.take(first);
-        let second = pull_waiting(line);
-        // It is sent, late or not: the next drop is due a spacing from now. The judgement keeps `first_above` right.
-        should_drop(state, &second, line.bytes_left(), now, params);
-        enter(state, now, params);
-        return Served::by_threshold(&second, now, params);
-    }
-    let mut head = first;
-    while state.drop_next <= now {
-        state.count += 1;
-        if may_mark(params, &head) {
-            // The mark tells the sender as a drop would. So it counts as one, and nothing has to leave in its place.
-            state.drop_next += spacing(interval, state.count);
-            return Served::by_codel(&head);
-        }
-        sink.take(head);
-        head = pull_waiting(line);
-        if !should_drop(state, &head, line.bytes_left(), now, params) {
-            // No further drop is due, so `drop_next` stays at the moment at which the last one was: should dropping
-            // begin again, `first_count` takes the time since then for the time since that drop.
-            state.dropping = false;
-            return Served::by_threshold(&head, now, params);
-        }
-        state.drop_next += spacing(interval, state.count);
-    }
-    Served::by_threshold(&head, now, params)
+    Some(Served::with_mark(head, mark))
 }

@@ -4,7 +4,7 @@
 
 mod codel;
 mod control_law;
-mod in_place;
+mod heads;
 mod judge;
 mod laws;
 mod line;

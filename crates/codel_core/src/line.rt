@@ -43,16 +43,106 @@ pub trait Heads: Pull {
         ensures { result ≡ bytes_of (drop 1 (Self.items self.now)) };
 }
 
+/// What CoDel judges: a line of which the head can be looked at. It stands in the line, or was pulled and is in hand.
+pub(crate) trait Judged {
+    /// The packets that wait, the head first.
+    ghost judged: { Self → List Waiting };
+
+    /// So many of them were taken, one after another, which makes the second of the first.
+    ghost advanced: { Self → ℕ → Self → Type 0 };
+
+    /// The head. None where nothing waits.
+    fn look(&self) -> Option<&Waiting>
+        ensures { option_copied result ≡ slice_get (judged self.now) 0 };
+
+    /// The lengths of the packets behind the head, added up. The head is handed in, since the caller has it.
+    fn behind(&self, head: &Waiting) -> u64
+        requires head { Some head.now ≡ slice_get (judged self.now) 0 }
+        requires size { length (judged self.now) ≤ 2 ^ 40 }
+        ensures { result ≡ bytes_of (drop 1 (judged self.now)) };
+
+    /// Takes the head. None where nothing waits.
+    fn advance(&mut self) -> Option<Waiting>
+        ensures head { result ≡ slice_get (judged self.old) 0 }
+        ensures rest { judged self.new ≡ drop 1 (judged self.old) }
+        ensures step { advanced self.old 1 self.new };
+
+    ghost advanced_none: { (a : Self) → advanced a 0 a };
+
+    ghost advanced_more: { (a b c : Self) (n : ℕ) → advanced a n b → advanced b 1 c → advanced a (n + 1) c };
+}
+
+impl<L: Heads> Judged for L {
+    ghost judged = { L.items };
+
+    ghost advanced = { L.pulled };
+
+    ghost advanced_none = { L.pulled_none };
+
+    ghost advanced_more = { L.pulled_more };
+
+    #[inline(always)]
+    fn look(&self) -> Option<&Waiting> {
+        self.head()
+    }
+
+    #[inline(always)]
+    fn behind(&self, head: &Waiting) -> u64 {
+        self.bytes_behind(head)
+    }
+
+    #[inline(always)]
+    fn advance(&mut self) -> Option<Waiting> {
+        self.pull()
+    }
+}
+
+/// A line whose head was pulled: it is in hand.
+#[derive(Drop)]
+pub(crate) struct Held<'a, L> {
+    /// The head. None where nothing waited.
+    pub(crate) head: Option<Waiting>,
+    /// The packets behind it.
+    pub(crate) line: &'a mut L,
+}
+
+impl<L: Pull> Judged for Held<'_, L> {
+    ghost use Rattle.codel_core.specs.Held.{held, PullsHeld, pulls_none, pulls_more};
+
+    ghost judged = { λ h. held h.head (L.items h.line.now) };
+
+    ghost advanced = { λ a n b. PullsHeld L.items L.pulled a.head a.line n b.head b.line };
+
+    ghost advanced_none = { λ a. pulls_none a.head a.line };
+
+    ghost advanced_more = { λ a b c n first then'.
+        pulls_more L.pulled_more a.head a.line b.head b.line c.head c.line n first then' };
+
+    fn look(&self) -> Option<&Waiting> {
+        self.head.as_ref()
+    }
+
+    fn behind(&self, _head: &Waiting) -> u64 {
+        self.line.bytes_left()
+    }
+
+    fn advance(&mut self) -> Option<Waiting> {
+        let head = self.head?;
+        self.head = self.line.pull();
+        Some(head)
+    }
+}
+
 /// Takes the head of a line that isn't empty.
 // Kept out of its caller: merged into it, each packet taken is copied once more on its way.
 #[inline(never)]
-pub(crate) fn pull_waiting<L: Pull>(line: &mut L) -> Waiting
-    requires { 0 < length (L.items line.old) }
-    ensures head { Some result ≡ slice_get (L.items line.old) 0 }
-    ensures rest { L.items line.new ≡ drop 1 (L.items line.old) }
-    ensures step { L.pulled line.old 1 line.new }
+pub(crate) fn take_head<L: Judged>(line: &mut L) -> Waiting
+    requires { 0 < length (L.judged line.old) }
+    ensures head { Some result ≡ slice_get (L.judged line.old) 0 }
+    ensures rest { L.judged line.new ≡ drop 1 (L.judged line.old) }
+    ensures step { L.advanced line.old 1 line.new }
 {
-    let Some(head) = line.pull() else {
+    let Some(head) = line.advance() else {
         unreachable!()
     };
     head

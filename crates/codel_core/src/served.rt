@@ -31,20 +31,6 @@ impl Served {
     ghost use Rattle.codel_core.specs.Verdict.{served};
     ghost use Rattle.codel_core.specs.declared.served.Mark.TheVariants as marks;
 
-    /// A packet that CoDel doesn't mark: as it was accepted, unless the threshold marks it.
-    pub(crate) fn by_threshold(waiting: &Waiting, now: u64, params: &Params) -> Served
-        ensures { result ≡ served (threshold_mark params.now now waiting.now) waiting.now }
-    {
-        Served::with_mark(waiting, mark_by_threshold(waiting, now, params))
-    }
-
-    /// A packet that CoDel marks.
-    pub(crate) fn by_codel(waiting: &Waiting) -> Served
-        ensures { result ≡ served marks.CodelMark waiting.now }
-    {
-        Served::with_mark(waiting, Mark::CodelMark)
-    }
-
     /// A packet with that mark: with its ECN field at CE, unless it has none.
     #[inline(always)]
     pub(crate) fn with_mark(waiting: &Waiting, mark: Mark) -> Served

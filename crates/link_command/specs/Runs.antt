@@ -104,7 +104,7 @@ pub record FailsInInput (texts : Texts) (input : Option (List ℕ)) (why : Progr
   pub said : SaysRun texts run
   pub fault : IsInputFault input why
 
--- The fault is one of a run with these texts and this input. The texts are looked at first, then the input. Behind
+-- The fault is one of a run with these texts and this input. The texts are looked at first, then the input. After
 -- these a run fails for want of memory alone: it is never too long for its table.
 abbrev pub IsRunFault : Texts → Option (List ℕ) → ProgramFault → Type 0
 IsRunFault texts input (fault.Row number what found) = FailsInInput texts input (fault.Row number what found)

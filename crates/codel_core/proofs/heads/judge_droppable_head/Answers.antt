@@ -9,26 +9,26 @@ use Rattle.codel_core.specs.Verdict.{FirstAbove, Verdict, first_mark, first_drop
 use Rattle.codel_core.specs.Heads.{Stands}
 use Rattle.codel_core.proofs.ServeLemmas.{drops_at, drops_none, entered_from, fate_at, fate_of_droppable, first_above_kept, judged_behind, judges_head, leaves_at, marks_at, stands_at, stands_first, stands_next, unmarkable_at, waits_at}
 use Rattle.codel_core.proofs.VerdictLemmas.{one_behind}
-use Rattle.codel_core.proofs.in_place.judge_droppable_head.Given as given
-use Rattle.codel_core.proofs.in_place.judge_droppable_head.Goals as goal
-use Rattle.codel_core.proofs.in_place.judge_droppable_head.Goals.{Start, After-drop_head-in-loop-state, After-judge_head-in-loop-state}
+use Rattle.codel_core.proofs.heads.judge_droppable_head.Given as given
+use Rattle.codel_core.proofs.heads.judge_droppable_head.Goals as goal
+use Rattle.codel_core.proofs.heads.judge_droppable_head.Goals.{Start, After-drop_head-in-loop-state, After-judge_head-in-loop-state}
 
 -- nothing was dropped yet
-unmoved : (g : given.Over) (c : Start g) → Stands g.L.Pull.items g.L.Pull.pulled g.S.DropSink.taken c.args.line.now c.args.sink.now 0 c.args.line.now c.args.sink.now
-unmoved g c = stands_first g.met.L.Pull.pulled_none g.met.S.DropSink.taken_none
+unmoved : (g : given.Over) (c : Start g) → Stands g.L.Judged.judged g.L.Judged.advanced g.S.DropSink.taken c.args.line.now c.args.sink.now 0 c.args.line.now c.args.sink.now
+unmoved g c = stands_first g.met.L.Judged.advanced_none g.met.S.DropSink.taken_none
 
 pub loop-state-init : goal.loop-state-init
 loop-state-init g c = record {
   drops = 0;
   stands = unmoved g (goal.at.loop-state-init g c).Start;
-  way = drops_none c.args.params.now c.args.now (g.L.Pull.items c.args.line.now) c.args.state.now c.requires.droppable c.if-not-state.false;
+  way = drops_none c.args.params.now c.args.now (g.L.Judged.judged c.args.line.now) c.args.state.now c.requires.droppable c.if-not-state.false;
   fits = c.requires.room;
 }
 
 pub returns-then-may_mark : goal.returns-then-may_mark
 returns-then-may_mark g c =
     let p = c.args.params.now in
-    let q = g.L.Pull.items c.args.line.now in
+    let q = g.L.Judged.judged c.args.line.now in
     let old = c.args.state.now in
     let d = c.requires.droppable in
     judges_head CodelMark (unmoved g (goal.at.returns-then-may_mark g c).Start) c.head_of.ensures refl
@@ -39,10 +39,10 @@ returns-then-may_mark g c =
 pub returns-then-not-state : goal.returns-then-not-state
 returns-then-not-state g c =
     let p = c.args.params.now in
-    let q = g.L.Pull.items c.args.line.now in
+    let q = g.L.Judged.judged c.args.line.now in
     let old = c.args.state.now in
-    let s = stands_next g.met.L.Pull.pulled_more g.met.S.DropSink.taken_more (unmoved g (goal.at.returns-then-not-state g c).Start) c.drop_head.ensures.dropped in
-    let told = judged_behind p c.args.now q (g.L.Pull.items c.drop_head.new.line) 1 s.rest refl c.judge_head.ensures.droppable c.judge_head.ensures.first_above in
+    let s = stands_next g.met.L.Judged.advanced_more g.met.S.DropSink.taken_more (unmoved g (goal.at.returns-then-not-state g c).Start) c.drop_head.ensures.dropped in
+    let told = judged_behind p c.args.now q (g.L.Judged.judged c.drop_head.new.line) 1 s.rest refl c.judge_head.ensures.droppable c.judge_head.ensures.first_above in
     judges_head NoMark s c.mark_head.ensures.head_is c.mark_head.ensures.mark_is
     (rw (ap (λ (s : CodelState). s.first_above) c.enter-then-not-state.ensures) told.0)
     (subst (λ (s : CodelState). Verdict p c.args.now q old 1 NoMark s)
@@ -52,17 +52,17 @@ returns-then-not-state g c =
 pub returns-then-may_mark-2 : goal.returns-then-may_mark-2
 returns-then-may_mark-2 g c =
     let w = c.loop-state.invariant in
-    let is = stands_at w.stands c.head_of-in-loop-state.ensures in
-    judges_head CodelMark w.stands c.head_of-in-loop-state.ensures refl (fate_at w.way)
+    let is = stands_at w.stands c.head_of-head.ensures in
+    judges_head CodelMark w.stands c.head_of-head.ensures refl (fate_at w.way)
     (marks_at w.way c.spacing.result c.loop-state-test.true (rw (← is) (cc)) c.interval-interval.ensures.value c.spacing.ensures)
 
 -- a packet is left behind one that is dropped
-one_left : (g : given.Over) (c : After-drop_head-in-loop-state g) → 0 < length (g.L.Pull.items c.drop_head-in-loop-state.new.line)
+one_left : (g : given.Over) (c : After-drop_head-in-loop-state g) → 0 < length (g.L.Judged.judged c.drop_head-in-loop-state.new.line)
 one_left g c =
     let w = c.loop-state.invariant in
-    let q = g.L.Pull.items c.args.line.now in
+    let q = g.L.Judged.judged c.args.line.now in
     let before = ap (λ (l : List Waiting). length l) w.stands.rest ∙ length-drop w.drops q in
-    let after = ap (λ (l : List Waiting). length l) c.drop_head-in-loop-state.ensures.dropped.leaves.rest ∙ length-drop 1 (g.L.Pull.items c.loop-state.line) in
+    let after = ap (λ (l : List Waiting). length l) c.drop_head-in-loop-state.ensures.dropped.leaves.rest ∙ length-drop 1 (g.L.Judged.judged c.loop-state.line) in
     omega (arith, before, after, one_behind c.args.params.now c.args.now q c.args.state.now w.drops w.way.droppable.0)
 
 pub judge_head-requires-in-loop-state-clause-some : goal.judge_head-requires-in-loop-state-clause-some
@@ -73,16 +73,16 @@ mark_head-requires-then-not-judge_head g c = one_left g (goal.at.mark_head-requi
 
 -- one packet more was dropped
 next_stands : (g : given.Over) (c : After-judge_head-in-loop-state g)
-    → Stands g.L.Pull.items g.L.Pull.pulled g.S.DropSink.taken c.args.line.now c.args.sink.now (c.loop-state.invariant.drops + 1) c.drop_head-in-loop-state.new.line c.drop_head-in-loop-state.new.sink
-next_stands g c = stands_next g.met.L.Pull.pulled_more g.met.S.DropSink.taken_more c.loop-state.invariant.stands c.drop_head-in-loop-state.ensures.dropped
+    → Stands g.L.Judged.judged g.L.Judged.advanced g.S.DropSink.taken c.args.line.now c.args.sink.now (c.loop-state.invariant.drops + 1) c.drop_head-in-loop-state.new.line c.drop_head-in-loop-state.new.sink
+next_stands g c = stands_next g.met.L.Judged.advanced_more g.met.S.DropSink.taken_more c.loop-state.invariant.stands c.drop_head-in-loop-state.ensures.dropped
 
 -- and the next one was judged
 next_judged : (g : given.Over) (c : After-judge_head-in-loop-state g)
-    → FirstAbove (IsLate c.args.params.now c.args.now (g.L.Pull.items c.args.line.now) (c.loop-state.invariant.drops + 1)) c.args.params.now.interval c.args.now c.args.state.now.first_above c.judge_head-in-loop-state.new.state.first_above
-    × (IsTrue c.judge_head-in-loop-state.result ↔ IsDroppable c.args.params.now c.args.now (g.L.Pull.items c.args.line.now) c.args.state.now.first_above (c.loop-state.invariant.drops + 1))
+    → FirstAbove (IsLate c.args.params.now c.args.now (g.L.Judged.judged c.args.line.now) (c.loop-state.invariant.drops + 1)) c.args.params.now.interval c.args.now c.args.state.now.first_above c.judge_head-in-loop-state.new.state.first_above
+    × (IsTrue c.judge_head-in-loop-state.result ↔ IsDroppable c.args.params.now c.args.now (g.L.Judged.judged c.args.line.now) c.args.state.now.first_above (c.loop-state.invariant.drops + 1))
 next_judged g c =
     let w = c.loop-state.invariant in
-    judged_behind c.args.params.now c.args.now (g.L.Pull.items c.args.line.now) (g.L.Pull.items c.drop_head-in-loop-state.new.line) (w.drops + 1) (next_stands g c).rest
+    judged_behind c.args.params.now c.args.now (g.L.Judged.judged c.args.line.now) (g.L.Judged.judged c.drop_head-in-loop-state.new.line) (w.drops + 1) (next_stands g c).rest
     (ap (λ (s : CodelState). s.first_above) w.way.state_is) c.judge_head-in-loop-state.ensures.droppable c.judge_head-in-loop-state.ensures.first_above
 
 pub returns-then-not-judge_head : goal.returns-then-not-judge_head
@@ -90,8 +90,8 @@ returns-then-not-judge_head g c =
     let at = (goal.at.returns-then-not-judge_head g c).After-judge_head-in-loop-state in
     let w = c.loop-state.invariant in
     let told = next_judged g at in
-    let is = stands_at w.stands c.head_of-in-loop-state.ensures in
-    let cannot = unmarkable_at c.args.params.now (g.L.Pull.items c.args.line.now) w.drops c.head_of-in-loop-state.result.now is (cc) in
+    let is = stands_at w.stands c.head_of-head.ensures in
+    let cannot = unmarkable_at c.args.params.now (g.L.Judged.judged c.args.line.now) w.drops c.head_of-head.result.now is (cc) in
     judges_head NoMark (next_stands g at) c.mark_head-then-not-judge_head.ensures.head_is c.mark_head-then-not-judge_head.ensures.mark_is told.0
     (leaves_at w.way c.judge_head-in-loop-state.new.state c.loop-state-test.true cannot (iff_false told.1 (cc)) c.judge_head-in-loop-state.ensures.rest)
 
@@ -100,11 +100,11 @@ loop-state-preserved g c =
     let at = (goal.at.loop-state-preserved g c).After-judge_head-in-loop-state in
     let w = c.loop-state.invariant in
     let told = next_judged g at in
-    let is = stands_at w.stands c.head_of-in-loop-state.ensures in
-    let cannot = unmarkable_at c.args.params.now (g.L.Pull.items c.args.line.now) w.drops c.head_of-in-loop-state.result.now is (cc) in
+    let is = stands_at w.stands c.head_of-head.ensures in
+    let cannot = unmarkable_at c.args.params.now (g.L.Judged.judged c.args.line.now) w.drops c.head_of-head.result.now is (cc) in
     let judged = c.judge_head-in-loop-state.ensures.droppable.0 (cc) in
     let kept = first_above_kept c.judge_head-in-loop-state.ensures.first_above judged.0 judged.1 in
-    let after = ap (λ (l : List Waiting). length l) c.drop_head-in-loop-state.ensures.dropped.leaves.rest ∙ length-drop 1 (g.L.Pull.items c.loop-state.line) in
+    let after = ap (λ (l : List Waiting). length l) c.drop_head-in-loop-state.ensures.dropped.leaves.rest ∙ length-drop 1 (g.L.Judged.judged c.loop-state.line) in
     record {
       drops = w.drops + 1;
       stands = next_stands g at;
