@@ -1,4 +1,5 @@
-//! Tests of shapers: each tag comes back once, drops wait to be read, and why an enqueue is refused. What is expected was
+//! Tests of shapers: each tag comes back once, drops wait to be read, why an enqueue is refused, and which parameters can
+//! be had. What is expected was
 //! worked out by hand from the rules.
 #![tactic(auto)]
 
@@ -6,6 +7,8 @@
 mod buffers;
 #[cfg(test)]
 mod flushes;
+#[cfg(test)]
+mod ranges;
 #[cfg(test)]
 mod reading;
 #[cfg(test)]

@@ -78,6 +78,31 @@ fn renewed_after_each_three_packets(rt: HostRuntime) {
     renew_each_time(&rt, &mut shaper);
 }
 
+/// In each round the packet of flow 1 comes to a scheduler as new, whose flow 2 has no credits. That of flow 2 comes while
+/// the first one waits.
+fn renew_whenever_idle<R: Abort>(rt: &R, shaper: &mut Shaper) {
+    for round in 0..4 {
+        let id = 2 * round;
+        assert!(rt; shaper.queued() == 0);
+        come(rt, shaper, round, 1, id);
+        assert!(rt; credits_of(rt, shaper, 2) == 0);
+        come(rt, shaper, round, 2, id + 1);
+        send(rt, shaper, round, id);
+        send(rt, shaper, round, id + 1);
+        assert!(rt; credits_of(rt, shaper, 2) != 0);
+    }
+    let totals = shaper.totals();
+    assert!(rt; totals.accepted == 8 && totals.accepted_bytes == 8_000);
+    assert!(rt; totals.sent == 8 && totals.sent_bytes == 8_000 && totals.queued == 0);
+}
+
+/// A shaper may be renewed after no packet at all: then it is whenever nothing waits. Ids and totals go on.
+#[test]
+fn renewed_after_no_packet(rt: HostRuntime) {
+    let mut shaper = shaper_renewed_after(&rt, 4, 0);
+    renew_whenever_idle(&rt, &mut shaper);
+}
+
 /// So many packets come to each scheduler of a long run. Twice as many are more than 2^20.
 const MANY: u64 = 525_000;
 
