@@ -27,6 +27,8 @@ pub(crate) enum Form {
     Ip4(u16, u32),
     /// Of IPv6: its bytes and its ECN field.
     Ip6(u32, Ecn),
+    /// Of IPv4, with 100 bytes: its destination port and its tag.
+    Tagged(u16, u64),
 }
 
 /// A five-tuple of IPv6.
@@ -42,11 +44,13 @@ fn ip6_tuple() -> FiveTuple {
 
 /// The packet of that form.
 pub(crate) fn packet<R: Abort>(rt: &R, form: Form) -> Packet {
-    let (tuple, len, ecn) = match form {
-        Form::Ip4(dport, len) => (tuple(dport), len, Ecn::NotEct),
-        Form::Ip6(len, ecn) => (ip6_tuple(), len, ecn),
+    let (tuple, len, ecn, tag) = match form {
+        Form::Ip4(dport, len) => (tuple(dport), len, Ecn::NotEct, 0),
+        Form::Ip6(len, ecn) => (ip6_tuple(), len, ecn, 0),
+        Form::Tagged(dport, tag) => (tuple(dport), 100, Ecn::NotEct, tag),
     };
-    Packet::try_new(tuple, len, ecn).expect(rt, "a packet")
+    let packet = Packet::try_new(tuple, len, ecn).expect(rt, "a packet");
+    packet.with_tag(tag)
 }
 
 /// The packets of those forms, each with its moment.

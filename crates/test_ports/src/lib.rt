@@ -15,6 +15,8 @@ mod seats;
 #[cfg(test)]
 mod senders;
 #[cfg(test)]
+mod settling;
+#[cfg(test)]
 mod together;
 #[cfg(test)]
 mod two_seats;

@@ -182,6 +182,33 @@ const LONGEST: [Call<'static>; 4] = [
     Call::Comes(0, Form::Ip6(65_535, Ecn::Ce), 3, 0, 0),
 ];
 
+/// Packets have any tag, also the least and the greatest. The seat is told of it, and it is given back with the packet.
+#[test]
+fn any_tag_is_given_back(rt: HostRuntime) {
+    let engine = plays_alone(&rt, rt.alloc(), flows(&rt, 1), &TAGGED);
+    assert_eq!(rt; counted(&engine.totals()), (4, 4));
+}
+
+const TAG_0: Form = Form::Tagged(53, 0);
+
+const TAG_1: Form = Form::Tagged(53, 1);
+
+const TAG_2_32: Form = Form::Tagged(53, 1 << 32);
+
+const GREATEST_TAG: Form = Form::Tagged(53, u64::MAX);
+
+const TAGGED: [Call<'static>; 9] = [
+    Call::Comes(0, TAG_0, 0, 0, 0),
+    Call::Comes(0, TAG_1, 1, 0, 0),
+    Call::Comes(0, GREATEST_TAG, 2, 0, 0),
+    Call::Comes(0, TAG_2_32, 3, 0, 0),
+    Call::Told(&[(0, TAG_0), (0, TAG_1), (0, GREATEST_TAG), (0, TAG_2_32)]),
+    Call::Goes(1, TAG_0, 0, 1, Mark::NoMark),
+    Call::Goes(1, TAG_1, 1, 1, Mark::NoMark),
+    Call::Goes(1, GREATEST_TAG, 2, 1, Mark::NoMark),
+    Call::Goes(1, TAG_2_32, 3, 1, Mark::NoMark),
+];
+
 /// The events are the acceptances of these packets at 0.
 fn are_accepted<R: Abort>(rt: &R, events: &[Event], forms: &[Form]) {
     assert_eq!(rt; events.len(), forms.len());

@@ -23,6 +23,9 @@ pub(crate) enum Part<'a> {
     Calls(&'a [&'a [Call<'a>]]),
     /// The one seat makes those calls.
     Alone(&'a [Call<'a>]),
+    /// Each seat makes the same calls. Then the seats at each two of these places change places, in turn, and the port
+    /// is handed them in that order.
+    Each(&'a [Call<'a>], &'a [(usize, usize)]),
     /// Two senders, at once or in turn, make so many calls each and stop so.
     Gates(bool, [(u64, Stop); 2]),
     /// All seats but the last send a thousand packets each, and the last one takes packets meanwhile.
@@ -136,6 +139,9 @@ fn do_part<A: Ledger + Send + Sync, S: Ledger + Send + Sync, R: Threads + Wait +
     match part {
         Part::Calls(lists) => in_turn(rt, alloc, port, seats, lists),
         Part::Alone(calls) => alone(rt, alloc, port, seats, calls),
+        Part::Each(calls, places) => {
+            change_places(rt, each(rt, alloc, port, seats, calls), places)
+        }
         Part::Gates(at_once, wanted) => both_send(rt, port, seats, at_once, wanted),
         Part::Beside => all_send(rt, alloc, port, seats),
     }
@@ -168,12 +174,37 @@ fn alone<A: Ledger, S: Ledger, R: Wait + Abort>(
     calls: &[Call<'_>],
 ) -> Vec<PortSeat<A, S>> {
     assert_eq!(rt; seats.len(), 1);
+    each(rt, alloc, port, seats, calls)
+}
+
+/// Each seat makes those calls.
+fn each<A: Ledger, S: Ledger, R: Wait + Abort>(
+    rt: &R,
+    alloc: Global,
+    port: &LockedPort<A, S>,
+    seats: Vec<PortSeat<A, S>>,
+    calls: &[Call<'_>],
+) -> Vec<PortSeat<A, S>> {
     let mut made = Vec::new(alloc);
     for seat in seats {
         made.push(makes(rt, alloc, port, seat, calls))
             .expect(rt, "memory");
     }
     made
+}
+
+/// The seats at each two of these places change places, in turn.
+fn change_places<A: Ledger, S: Ledger, R: Abort>(
+    rt: &R,
+    seats: Vec<PortSeat<A, S>>,
+    places: &[(usize, usize)],
+) -> Vec<PortSeat<A, S>> {
+    let mut seats = seats;
+    for &(one, other) in places {
+        assert!(rt; one < seats.len() && other < seats.len());
+        seats.swap(one, other);
+    }
+    seats
 }
 
 /// The port isn't settled without its last seat, which makes those calls then, and it is settled with all of them. All

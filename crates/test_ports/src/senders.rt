@@ -33,31 +33,47 @@ fn plays_alone<R: Threads + Wait + Abort + Sync>(
 /// An open gate is asked once for each call.
 #[test]
 fn asks_once_for_each_call(rt: HostRuntime) {
-    asks(&rt, rt.alloc(), false, 3);
+    asks(&rt, rt.alloc(), false, &THREE_PACKETS, 3);
+}
+
+/// So it is where there are many: it isn't asked ahead of a call, nor again for one that was made.
+#[test]
+fn asks_once_for_each_of_many_calls(rt: HostRuntime) {
+    let mut packets = Vec::new(rt.alloc());
+    for moment in 0..1_500 {
+        packets.push((moment, SHORT)).expect(&rt, "memory");
+    }
+    asks(&rt, rt.alloc(), false, &packets, 1_500);
 }
 
 /// A gate that is closed at the first asking for each call is asked for it once more.
 #[test]
 fn asks_again_where_it_was_closed(rt: HostRuntime) {
-    asks(&rt, rt.alloc(), true, 6);
+    asks(&rt, rt.alloc(), true, &THREE_PACKETS, 6);
 }
 
-/// A sender of three packets asks its gate so often.
-fn asks<R: Threads + Wait + Abort + Sync>(rt: &R, alloc: Global, hesitates: bool, times: u64) {
+/// A sender of those packets asks its gate so often.
+fn asks<R: Threads + Wait + Abort + Sync>(
+    rt: &R,
+    alloc: Global,
+    hesitates: bool,
+    packets: &[(u64, Form)],
+    times: u64,
+) {
     let gate = new_gate(hesitates);
-    let calls = [Call::Ask(&gate, THREE), Call::Told(&THREE_PACKETS)];
+    let number = packets.len() as u64;
+    let sending = Sending {
+        packets,
+        calls: number,
+        stop: Stop::Done,
+    };
+    let calls = [Call::Ask(&gate, sending), Call::Told(packets)];
     let engine = plays_alone(rt, alloc, &calls);
-    assert_eq!(rt; counted(&engine.totals()), (3, 0));
+    assert_eq!(rt; counted(&engine.totals()), (number, 0));
     was_asked(rt, &gate, times);
 }
 
 const THREE_PACKETS: [(u64, Form); 3] = [(0, SHORT), (1, LONG), (2, SHORT)];
-
-const THREE: Sending<'static> = Sending {
-    packets: &THREE_PACKETS,
-    calls: 3,
-    stop: Stop::Done,
-};
 
 /// A moment of 2^60 microseconds stops a sender, before the close and after it: the refused call is the last one. With
 /// the same seat a sender can go on. Packets that are refused for the close alone are passed over, and the seat is told
