@@ -7,7 +7,8 @@ use crate::fixtures::{accepted, open, packet, packets};
 use crate::gates::{Asked, new_gate, was_asked};
 use packet_core::{Ecn, Packet};
 use port_core::{
-    BookBlank, BookName, LaneFull, LaneSender, Open, Opened, Screen, Shown, Stop, send_lane,
+    BookBlank, BookName, LaneFull, LaneSender, MAX_CAPACITY, MAX_LANES, Open, Opened, Screen,
+    Shown, Stop, send_lane,
 };
 use sched_core::{Event, Mark, MomentFault, Refusal, Sent};
 use std::alloc::Global;
@@ -79,6 +80,36 @@ fn full_again_and_again(rt: HostRuntime) {
         accepted(0, 4, p[5]),
     ];
     plays(&rt, rt.alloc(), (1, 1), &calls, &events);
+}
+
+/// There may be any number of lanes from 1 to 64, and a packet comes through the last of them.
+#[test]
+fn any_number_of_lanes(rt: HostRuntime) {
+    let packet = packet(&rt, 1);
+    for number in 1..=MAX_LANES {
+        let last = number - 1;
+        let calls = [put(last, packet), takes(last, 8, 1)];
+        let events = [accepted(last, 0, packet)];
+        plays(&rt, rt.alloc(), (number, 2), &calls, &events);
+    }
+}
+
+/// A lane may have room for 1,048,576 packets.
+#[test]
+fn lane_of_the_greatest_capacity(rt: HostRuntime) {
+    let p = packets(&rt, 0);
+    let calls = [put(0, p[1]), put(0, p[2]), takes(0, 8, 2)];
+    let events = [accepted(0, 0, p[1]), accepted(0, 1, p[2])];
+    plays(&rt, rt.alloc(), (1, MAX_CAPACITY), &calls, &events);
+}
+
+/// Such a lane is settled by the end that its sender gives.
+#[test]
+fn end_of_the_greatest_capacity(rt: HostRuntime) {
+    let p = packets(&rt, 0);
+    let calls = [put(0, p[1]), put(0, p[2]), takes(0, 1, 1), Call::Finish(1)];
+    let events = [accepted(0, 0, p[1])];
+    plays(&rt, rt.alloc(), (1, MAX_CAPACITY), &calls, &events);
 }
 
 /// The refusals of a pump are tested in the order of their rules, also after the close, and a refused pump leaves the
