@@ -120,6 +120,20 @@ fn sixty_four_monitors(rt: HostRuntime) {
     );
 }
 
+/// So does each of any number of them.
+#[test]
+fn any_number_of_monitors(rt: HostRuntime) {
+    for monitors in 0..=MAX_MONITORS {
+        plays(
+            &rt,
+            rt.alloc(),
+            one_flow(&rt),
+            room_for_one(monitors),
+            &ALL_LEARN,
+        );
+    }
+}
+
 const ALL_LEARN: [Call; 5] = [
     SUBMIT,
     PUMP,
