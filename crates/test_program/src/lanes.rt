@@ -23,8 +23,9 @@ fn gate_lanes(rt: HostRuntime) {
     by_gates::<Brand, _>(&rt, rt.alloc(), BookBlank::new(), 2);
 }
 
-/// The same with 62 other senders, which are held as sender 0 is. Each of them has a packet for which its lane has no
-/// room: what all senders did is given back all the same.
+/// The same with 62 other senders. All but the last are held as sender 0 is, and each has a packet for which its lane has
+/// no room. The last one stalls before its second call. What all senders did is given back all the same, with the ends of
+/// their lanes.
 #[test]
 fn gate_lanes_of_64_senders(rt: HostRuntime) {
     by_gates::<Brand, _>(&rt, rt.alloc(), BookBlank::new(), 64);
@@ -62,7 +63,8 @@ fn lists<R: Abort>(rt: &R, alloc: Global, senders: usize) -> Vec<Vec<Packet>> {
     lists
 }
 
-/// The gates of so many senders: the second is held at its second call, and each other at its first.
+/// The gates of so many senders: the second is held at its second call, and each other at its first. Of more than two the
+/// last one is held at its second call for ever.
 fn gates<'a, R: Abort>(
     rt: &R,
     alloc: Global,
@@ -70,6 +72,7 @@ fn gates<'a, R: Abort>(
     zero: &'a AtomicU64,
     one: &'a AtomicU64,
     others: &'a AtomicU64,
+    never: &'a AtomicU64,
     open: &'a AtomicU64,
 ) -> Vec<Held<'a>> {
     let mut gates = Vec::new(alloc);
@@ -77,6 +80,7 @@ fn gates<'a, R: Abort>(
         let (first_held, asked, asked_there) = match sender {
             0 => (1, zero, one),
             1 => (2, one, zero),
+            _ if sender == senders - 1 => (2, others, never),
             _ => (1, others, one),
         };
         let held = Held {
@@ -102,10 +106,10 @@ fn send_by_gates<J: BookName, X: Screen<Shown<J>> + Drop, R: Threads + Abort + S
         monitors: _monitors,
     } = opened;
     let (zero, one, others) = (AtomicU64::new(0), AtomicU64::new(0), AtomicU64::new(0));
-    let open = AtomicU64::new(0);
+    let (never, open) = (AtomicU64::new(0), AtomicU64::new(0));
     let count = senders.len();
     let lists = lists(rt, alloc, count);
-    let gates = gates(rt, alloc, count, &zero, &one, &others, &open);
+    let gates = gates(rt, alloc, count, &zero, &one, &others, &never, &open);
     assert!(rt; lists.len() == count && gates.len() == count);
     let (done, took) = send_held(rt, alloc, senders, device, &lists, &gates, (&one, &open));
     assert!(rt; took);
@@ -171,12 +175,17 @@ fn pumps<J: BookName, X: Screen<Shown<J>> + Drop>(
 }
 
 /// Each of so many senders submitted two packets, and its lane has an end. From the third sender on the lane was full
-/// then.
+/// then. Of more than two senders the last one stalled after its first packet.
 fn are_done<R: Abort>(rt: &R, senders: usize, done: Vec<LaneDone>) {
     assert_eq!(rt; done.len(), senders);
+    let last = senders.saturating_sub(1);
     for (number, sender) in done.iter().enumerate() {
-        let stop = if number < 2 { Stop::Done } else { Stop::Full };
-        assert_eq!(rt; (sender.submitted, sender.stop), (2, stop));
+        let wanted = match number {
+            0 | 1 => (2, Stop::Done),
+            _ if number == last => (1, Stop::Stalled),
+            _ => (2, Stop::Full),
+        };
+        assert_eq!(rt; (sender.submitted, sender.stop), wanted);
         assert!(rt; sender.end.is_some());
     }
 }
