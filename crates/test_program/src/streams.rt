@@ -35,6 +35,9 @@ totals,1,1000,1,1000,0,0,0,0,0,0,0,closed
 tuple,17,10.0.0.1,10.0.0.2,5000,53,0,1,1,0,0
 ";
 
+/// More line feeds than are read at once.
+static LINE_FEEDS: [u8; 70_000] = [b'\n'; 70_000];
+
 /// A reader that gives its text, and then fails.
 #[derive(Drop)]
 struct CutReader<'a> {
@@ -115,21 +118,22 @@ impl Write for PausingWriter {
     }
 }
 
-/// A stream that is interrupted so often before it is read or written.
+/// A stream that fails so often before it is read or written, by an interruption or another failure.
 #[derive(Drop)]
 struct Interrupted<T> {
     stream: T,
     left: u32,
+    failure: ErrorKind,
 }
 
 impl<T> Interrupted<T> {
-    /// It is interrupted once more, if at all.
+    /// It fails once more, if at all.
     fn interrupt(&mut self) -> io::Result<()> {
         if self.left == 0 {
             return Ok(());
         }
         self.left -= 1;
-        Err(io::Error::from(ErrorKind::Interrupted))
+        Err(io::Error::from(self.failure))
     }
 }
 
@@ -165,10 +169,12 @@ fn expect_interrupted(
     let mut reader = Interrupted {
         stream: trace.as_bytes(),
         left: reads,
+        failure: ErrorKind::Interrupted,
     };
     let mut writer = Interrupted {
         stream: Vec::new(rt.alloc()),
         left: writes,
+        failure: ErrorKind::Interrupted,
     };
     ends(rt, &WORDS, &mut reader, &mut writer, status, faults);
     assert_eq!(rt; str::from_utf8(&writer.stream).ok(), Some(report));
@@ -225,6 +231,42 @@ fn failed_reads_refused(rt: HostRuntime) {
             failure: ErrorKind::BrokenPipe,
         };
         expect_from(&rt, &mut reader, 1, "", faults);
+    }
+}
+
+/// A read that fails is told as one wherever it stands: here after many bytes.
+#[test]
+fn late_failed_reads_refused(rt: HostRuntime) {
+    let mut reader = CutReader {
+        text: &LINE_FEEDS,
+        failure: ErrorKind::BrokenPipe,
+    };
+    expect_from(&rt, &mut reader, 1, "", "fqsim: row 0: Read\n");
+}
+
+/// A call that fails is the last one, though the next would go well: only an interruption is tried again.
+#[test]
+fn failures_are_no_interruptions(rt: HostRuntime) {
+    for failure in [
+        ErrorKind::BrokenPipe,
+        ErrorKind::ConnectionReset,
+        ErrorKind::WouldBlock,
+        ErrorKind::Other,
+    ] {
+        let mut reader = Interrupted {
+            stream: ONE_DEQUEUE.as_bytes(),
+            left: 1,
+            failure,
+        };
+        expect_from(&rt, &mut reader, 1, "", "fqsim: row 0: Read\n");
+        let mut writer = Interrupted {
+            stream: Vec::new(rt.alloc()),
+            left: 1,
+            failure,
+        };
+        let mut trace = ONE_DEQUEUE.as_bytes();
+        ends(&rt, &WORDS, &mut trace, &mut writer, 1, "fqsim: write\n");
+        assert_eq!(rt; (writer.stream.len(), writer.left), (0, 0));
     }
 }
 
@@ -317,6 +359,7 @@ fn interruptions_of_help_are_tried_again(rt: HostRuntime) {
         let mut writer = Interrupted {
             stream: Vec::new(rt.alloc()),
             left: interruptions,
+            failure: ErrorKind::Interrupted,
         };
         ends(&rt, &words, &mut "".as_bytes(), &mut writer, status, faults);
         assert_eq!(rt; writer.stream == whole, status == 0);
