@@ -70,6 +70,8 @@ static void words_and_seeds(void)
 	refuse_words(" limit\t1k ", 2, MALTCOVE_NOT_A_NUMBER);
 	refuse_words("target 5ms flows 0", 4, MALTCOVE_OUT_OF_RANGE);
 	refuse_words("limit 1000 \xff", 0, MALTCOVE_NOT_UTF8);
+	refuse_words("limit 7\nflows \xc3\xa9", 4, MALTCOVE_NOT_A_NUMBER);
+	refuse_words("ecn gr\xc3\xbcn", 2, MALTCOVE_UNKNOWN_WORD);
 	CHECK(maltcove_open(&m, "", 0, seed, 15, &fault) == MALTCOVE_BAD_SEED && !m.is_open);
 	CHECK(maltcove_open(&m, "", 0, NULL, 0, &fault) == MALTCOVE_BAD_SEED && !m.is_open);
 	CHECK(maltcove_open(&m, NULL, 0, seed, 16, NULL) == MALTCOVE_OK);
@@ -88,6 +90,36 @@ static void words_and_seeds(void)
 	CHECK(p.target == 1000 && p.interval == 2000000 && !p.ecn && !p.hash);
 	CHECK(p.has_ce_threshold && p.ce_threshold == 3 && p.has_memory_limit && p.memory_limit == 4000);
 	maltcove_free(&m);
+}
+
+/* Each number at its least and at its greatest, words on lines of their own, a long text, and seeds of any bytes: where
+ * memory is ample nothing is refused for want of it. */
+static void all_are_opened(void)
+{
+	static const char *const texts[] = {
+		"limit 1 flows 1 quantum 1 mtu 0 target 0 interval 1us ce_threshold 0 memory_limit 1 drop_batch 1",
+		"flows 65536 quantum 1000000 mtu 65535 target 1000s interval 1000s ce_threshold 1000s",
+		"memory_limit 1099511627776 drop_batch 1048576",
+		"limit 7\nflows 9\r\nclassify dport\n",
+		"ecn\tnoecn\fecn\n",
+	};
+	static char many[40000];
+	uint8_t bytes[16];
+
+	for (size_t i = 0; i < sizeof texts / sizeof *texts; i++) {
+		open_with(texts[i]);
+		maltcove_free(&m);
+	}
+	memset(many, ' ', sizeof many);
+	memcpy(many, "limit 7", 7);
+	CHECK(maltcove_open(&m, many, sizeof many, seed, 16, NULL) == MALTCOVE_OK);
+	maltcove_free(&m);
+	for (int value = 0; value < 256; value++) {
+		for (int place = 0; place < 16; place++)
+			bytes[place] = (uint8_t)(value + 37 * place);
+		CHECK(maltcove_open(&m, "limit 1 flows 1", 15, bytes, 16, NULL) == MALTCOVE_OK);
+		maltcove_free(&m);
+	}
 }
 
 /* Every call on none, and every call with a null pointer. */
@@ -448,6 +480,7 @@ static void texts(void)
 int main(void)
 {
 	words_and_seeds();
+	all_are_opened();
 	none_and_null();
 	refusals();
 	drops_wait();
