@@ -1,16 +1,8 @@
--- The numbers of an address, one more, and a rate in kilobits.
-use Rattle.std.proofs.Common.{◌≡◌, ◌≢◌, ℕ, ◌+◌, ◌/◌, ◌%◌, List, [], ◌++◌, codes, refl, add-one, ap, eq-eqb}
+-- A rate in kilobits.
+use Rattle.std.proofs.Common.{◌≡◌, ◌≢◌, ℕ, ◌/◌, ◌%◌, ◌++◌, codes, refl, eq-eqb}
 use Rattle.std.proofs.lemmas.Bool.{ne_eqb}
 use Rattle.std.specs.Fmt.{decimal}
-use Rattle.link_picture.specs.Wording.{gap_before, group_text, groups_text, rate_text}
-
-pub groups_none : (octets : List ℕ) → groups_text octets 0 ≡ []
-unfolding groups_text
-groups_none octets = refl
-
-pub groups_more : (octets : List ℕ) (k : ℕ) → groups_text octets (k + 1) ≡ groups_text octets k ++ (gap_before k ++ group_text octets k)
-unfolding groups_text
-groups_more octets k = ap (groups_text octets) (add-one k)
+use Rattle.link_picture.specs.Wording.{rate_text}
 
 -- a rate whose step is whole in kilobits, and in no greater unit
 pub in_kilobits : (rate step : ℕ) → rate ≢ 0 → step % 1000000000 ≢ 0 → step % 1000000 ≢ 0 → step % 1000 ≡ 0

@@ -1,6 +1,8 @@
 -- Times, waits, rates and five-tuples as a picture writes them.
-use Rattle.std.specs.Prelude.{ℕ, zero, suc, ◌+◌, ◌*◌, ◌/◌, ◌%◌, ◌==◌, Bool, false, List, [], ◌++◌, codes, nat_lt, slice_index, if◌then◌else◌}
-use Rattle.std.specs.Fmt.{decimal, digits}
+use Rattle.std.specs.Prelude.{ℕ, ◌/◌, ◌%◌, ◌==◌, Bool, List, ◌++◌, codes, nat_lt, if◌then◌else◌}
+use Rattle.std.specs.Fmt.{decimal}
+use Rattle.std.specs.Net.Addr.{segments_of}
+use Rattle.std.specs.Net.Text.{ipv4_text, ipv6_text}
 use Rattle.packet_core.specs.declared.packet.FiveTuple.{FiveTuple}
 use Rattle.packet_core.specs.declared.packet.Ip.{Ip}
 use Rattle.packet_core.specs.declared.packet.Ip.TheVariants.{V4, V6}
@@ -38,34 +40,11 @@ rate_text rate step =
     else if is_whole 1000 step then (decimal (rate / 1000) ++ codes " kbit/s")
     else (decimal rate ++ codes " bit/s")
 
--- four numbers with a dot between each two
-abbrev pub dots_text : List ℕ → List ℕ
-dots_text octets =
-    decimal (slice_index octets 0) ++ (codes "." ++ (decimal (slice_index octets 1) ++ (codes "."
-    ++ (decimal (slice_index octets 2) ++ (codes "." ++ decimal (slice_index octets 3))))))
-
--- the number of the two bytes at a place, the first the higher, in hexadecimal digits
-abbrev pub group_text : List ℕ → ℕ → List ℕ
-group_text octets place =
-    digits 16 false (slice_index octets (2 * place) * 256 + slice_index octets (2 * place + 1))
-
--- a bracket before the first number, and a colon before each other
-abbrev pub gap_before : ℕ → List ℕ
-gap_before zero = codes "["
-gap_before (suc place) = codes ":"
-
--- the first so many numbers
-unfoldable pub groups_text : List ℕ → ℕ → List ℕ
-groups_text octets zero = []
-groups_text octets (suc count) = groups_text octets count ++ (gap_before count ++ group_text octets count)
-
--- eight numbers of two bytes each in brackets, with a colon between each two
-abbrev pub colons_text : List ℕ → List ℕ
-colons_text octets = groups_text octets 8 ++ codes "]"
-
+-- An address: four numbers with dots, or in brackets the text of RFC 5952. Of the numbers of two bytes each that has the
+-- longest run of zeros as `::` (section 4).
 abbrev pub address_text : Ip → List ℕ
-address_text (V4 octets) = dots_text octets
-address_text (V6 octets) = colons_text octets
+address_text (V4 octets) = ipv4_text octets
+address_text (V6 octets) = codes "[" ++ (ipv6_text (segments_of octets) ++ codes "]")
 
 -- the name of a protocol, and its number where it has none here
 abbrev pub protocol_text : ℕ → List ℕ

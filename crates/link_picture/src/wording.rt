@@ -6,6 +6,7 @@ ghost use Rattle.link_picture.specs.Wording as Spec;
 use journal_core::Memory;
 use packet_core::{FiveTuple, Ip};
 use std::alloc::Global;
+use std::net::{Ipv4Addr, Ipv6Addr};
 
 /// The microseconds of a millisecond.
 const MILLISECOND: u64 = 1_000;
@@ -114,42 +115,18 @@ fn protocol_text(alloc: Global, protocol: u8) -> Result<String, Memory>
     }
 }
 
-/// An address: one of IPv4 as four numbers with dots, and one of IPv6 as eight in brackets, without leading zeros.
+/// An address: one of IPv4 as four numbers with dots, and one of IPv6 in brackets, as RFC 5952 writes it.
 fn address_text(alloc: Global, address: Ip) -> Result<String, Memory>
     ensures { IfOk result (λ text. string_bytes text ≡ Spec.address_text address) }
 {
     match address {
-        Ip::V4(octets) => dots(alloc, octets),
-        Ip::V6(octets) => colons(alloc, octets),
+        Ip::V4(octets) => {
+            let address = Ipv4Addr::from_octets(octets);
+            format!(in alloc; "{address}")
+        }
+        Ip::V6(octets) => {
+            let address = Ipv6Addr::from_octets(octets);
+            format!(in alloc; "[{address}]")
+        }
     }
-}
-
-/// Four numbers with dots.
-fn dots(alloc: Global, octets: [u8; 4]) -> Result<String, Memory>
-    ensures { IfOk result (λ text. string_bytes text ≡ Spec.dots_text octets) }
-{
-    let [first, second, third, fourth] = octets;
-    format!(in alloc; "{first}.{second}.{third}.{fourth}")
-}
-
-/// Numbers of two bytes each, in hexadecimal digits, with colons.
-#[tactic(auto, using(crate::proofs::WordLemmas::groups_none, crate::proofs::WordLemmas::groups_more))]
-fn colons(alloc: Global, octets: [u8; 16]) -> Result<String, Memory>
-    ensures { IfOk result (λ text. string_bytes text ≡ Spec.colons_text octets) }
-{
-    let mut text = String::new(alloc);
-    for place in 0..8usize {
-        let gap = gap_before(place);
-        let number = u16::from(octets[2 * place]) * 256 + u16::from(octets[2 * place + 1]);
-        write!(text, "{gap}{number:x}")?;
-    }
-    text.push_str("]")?;
-    Ok(text)
-}
-
-/// What stands before the number at a place.
-fn gap_before(place: usize) -> &'static str
-    ensures { result.now ≡ Spec.gap_before place }
-{
-    if place == 0 { "[" } else { ":" }
 }

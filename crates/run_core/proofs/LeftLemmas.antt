@@ -1,5 +1,5 @@
 -- What is left, and whether one of the steps is a close: a row or a step more.
-use Rattle.std.proofs.Common.{◌≡◌, ◌∙◌, ℕ, ◌+◌, ◌<◌, All, false, true, List, [], ◌∷◌, ◌++◌, ap, drop, get_or, length, subst, sym, take, take-append-drop}
+use Rattle.std.proofs.Common.{◌≡◌, ◌∙◌, ℕ, ◌+◌, ◌<◌, All, arith, false, true, List, [], ◌∷◌, ◌++◌, ap, drop, get_or, length, subst, sym, take, take-append-drop}
 use Rattle.std.proofs.lemmas.List.{take_more}
 use Rattle.journal_core.specs.declared.step.Step.{Step}
 use Rattle.trace_core.specs.declared.journal_report.SenderRow.{SenderRow}
@@ -14,6 +14,10 @@ pub none_left_more : (rows : List SenderRow) (k : ℕ) (d : SenderRow) → k < l
     → (get_or rows k d).left ≡ 0 → All (λ r. r.left ≡ 0) (take (k + 1) rows)
 none_left_more rows k d within before none =
     subst (λ rs. All (λ r. r.left ≡ 0) rs) (sym (take_more rows k d within)) (all_push (λ r. r.left ≡ 0) (take k rows) (get_or rows k d) before none)
+
+-- one of which something is left is enough
+pub one_left : (rows : List SenderRow) (k : ℕ) (d : SenderRow) → k < length rows → 0 < (get_or rows k d).left → ¬ All (λ r. r.left ≡ 0) rows
+one_left rows k d within some all = absurd (omega (arith, some, all k d within))
 
 pub open_more : (steps : List Step) (k : ℕ) (step : Step) → k < length steps → step ≡ get_or steps k step → has_close (take k steps) ≡ false
     → has_close (step ∷ []) ≡ false → has_close (take (k + 1) steps) ≡ false

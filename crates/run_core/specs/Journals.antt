@@ -9,6 +9,7 @@ use Rattle.journal_core.specs.Runs.{IsRunOf}
 use Rattle.journal_core.specs.Statistics.{statistics}
 use Rattle.journal_core.specs.declared.event.Event.{Event}
 use Rattle.journal_core.specs.declared.step.Step.{Step}
+use Rattle.journal_core.specs.declared.step.Step.TheVariants.{Dequeue}
 use Rattle.fair_core.specs.FairQueues.{FairQueues}
 use Rattle.fair_core.specs.FqCodel.{fq_codel}
 use Rattle.sched_core.specs.Engines.{Running}
@@ -80,6 +81,11 @@ pub record IsSent (rings : List RingId) (lane : ℕ) (packets : List PacketParts
 -- Monitors are shown the whole journal.
 abbrev pub ShowsAll : Holding → Type 0
 ShowsAll h = h.published.shown ≡ h.engine.sched.standing.events
+
+-- Where the last of so many first rows is a dequeue, monitors are shown the whole journal.
+abbrev pub ShowsRow : List Step → ℕ → Holding → Type 0
+ShowsRow rows many h =
+    (row moment : ℕ) → row + 1 ≡ many → slice_get rows row ≡ Some (Dequeue moment) → ShowsAll h
 
 -- The device is the one that it was: the rings of its lanes stay, and what its engine was made with.
 pub record IsSameDevice (old new : Holding) : Type 0 where

@@ -9,7 +9,7 @@ ghost use Rattle.port_core.specs.declared.gate.Stop.TheVariants as stop;
 ghost use Rattle.port_core.specs.declared.opening.TheConstants.{MAX_CAPACITY, MAX_MONITORS};
 ghost use Rattle.sender_core.specs.declared.interleaving.TheConstants.{MAX_SENDERS};
 ghost use Rattle.run_core.specs.DeviceRuns.{Dequeues, EmptiesLane, EndsRun, Finishes, HasServed, IsAny, IsBurst, IsDeviceRun, IsIdle, PumpsAll, ServesRow, closed_at, has_close, last_moment};
-ghost use Rattle.run_core.specs.Journals.{AreLaneRows, AreLanesJournal, FitsLane, IsLaneRow, IsLanesRunOf, IsSameDevice, ShowsAll, submitted_of};
+ghost use Rattle.run_core.specs.Journals.{AreLaneRows, AreLanesJournal, FitsLane, IsLaneRow, IsLanesRunOf, IsSameDevice, ShowsAll, ShowsRow, submitted_of};
 ghost use Rattle.run_core.specs.LaneRooms.{AreLanesFor, IsTooLong, capacity_for};
 ghost use Rattle.run_core.specs.Seeing.{AreTotalsOf, IsSeenOf};
 ghost use Rattle.run_core.specs.SendersFaults.{IsEndingFault, IsEndless, IsLanesRunFault};
@@ -264,6 +264,7 @@ fn device_part<J: BookName, X: Screen<Shown<J>> + Drop>(
 ) -> Result<Device<J, X>, SendersFault>
     ensures same { IfOk result (λ d. IsSameDevice device d) }
     ensures rows { IfOk result (λ d. HasServed (length device.lanes) device.engine.steps steps.now d.engine.steps) }
+    ensures shown { 0 < readers → IfOk result (λ d. ShowsRow steps.now (length steps.now) d) }
     ensures fault { IfErr result (λ why. why ≡ senders_fault.Memory) }
 {
     let mut device = device;
@@ -282,6 +283,7 @@ fn serve<J: BookName, X: Screen<Shown<J>> + Drop>(
     ensures same { IsSameDevice device.old device.new }
     ensures rows { OnOk result (HasServed (length device.old.lanes) device.old.engine.steps steps.now
         device.new.engine.steps) }
+    ensures shown { 0 < readers → OnOk result (ShowsRow steps.now (length steps.now) device.new) }
     ensures fault { IfErr result (λ why. why ≡ senders_fault.Memory) }
 {
     let mut now = 0;

@@ -177,14 +177,16 @@ fn emptied<A: Ledger, S: Ledger, H: Wait>(
 
 /// Whether a packet is left, though no row of the trace is a close: somebody closed too early then.
 fn leaves(rows: &[SenderRow], steps: &[Step]) -> bool
-    ensures { result ≡ false → has_close steps.now ≡ false → All (λ row. row.left ≡ 0) rows.now }
+    ensures none { result ≡ false → has_close steps.now ≡ false → All (λ row. row.left ≡ 0) rows.now }
+    ensures some { result ≡ true → (has_close steps.now ≡ false) × ¬ All (λ row. row.left ≡ 0) rows.now }
 {
     !leave_none(rows) && !has_close(steps)
 }
 
 /// Whether each sender's packets were accepted.
 fn leave_none(rows: &[SenderRow]) -> bool
-    ensures { result ≡ true → All (λ row. row.left ≡ 0) rows.now }
+    ensures none { result ≡ true → All (λ row. row.left ≡ 0) rows.now }
+    ensures some { result ≡ false → ¬ All (λ row. row.left ≡ 0) rows.now }
 {
     for row in rows {
         if is_left(row) {
@@ -196,7 +198,8 @@ fn leave_none(rows: &[SenderRow]) -> bool
 
 /// Whether a packet of this sender is left.
 fn is_left(row: &SenderRow) -> bool
-    ensures { result ≡ false → row.now.left ≡ 0 }
+    ensures none { result ≡ false → row.now.left ≡ 0 }
+    ensures some { result ≡ true → 0 < row.now.left }
 {
     row.left > 0
 }

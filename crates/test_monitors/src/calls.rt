@@ -10,7 +10,7 @@ use port_core::{
     BookBlank, BookName, Device, LaneSender, Layout, MAX_BURST, MAX_CAPACITY, MAX_MONITORS,
     Monitor, Opened, Receipt, Screen, Seen, Shown, lanes,
 };
-use sched_core::{Mark, Sent, Totals};
+use sched_core::{Event, Keeps, Mark, Sent, Step, Totals};
 use std::alloc::Global;
 use std::marker::Brand;
 use std::process::Abort;
@@ -18,7 +18,7 @@ use std::sync::Wait;
 use std::thread::{self, Threads};
 
 /// The seed of every device.
-const SEED: Seed = Seed([1, 2, 3, 4, 5, 6, 7, 8, 9, 10, 11, 12, 13, 14, 15, 16]);
+pub(crate) const SEED: Seed = Seed([1, 2, 3, 4, 5, 6, 7, 8, 9, 10, 11, 12, 13, 14, 15, 16]);
 
 /// So often a monitor looks for what was published.
 const MAX_LOOKS: u32 = 1_000_000;
@@ -127,11 +127,13 @@ pub(crate) fn submits<R: Abort>(rt: &R, senders: &mut Vec<LaneSender>, packet: P
 }
 
 /// The receipt of a publish, which stands for so many events. So does the device's.
-pub(crate) fn publishes<J: BookName, X: Screen<Shown<J>> + Drop, R: Abort>(
-    rt: &R,
-    device: &mut Device<J, X>,
-    events: u64,
-) -> Receipt<J> {
+pub(crate) fn publishes<
+    J: BookName,
+    X: Screen<Shown<J>> + Drop,
+    K: Keeps<Event>,
+    S: Keeps<Step>,
+    R: Abort,
+>(rt: &R, device: &mut Device<J, X, K, S>, events: u64) -> Receipt<J> {
     let receipt = device.publish().expect(rt, "a receipt");
     assert_eq!(rt;
         (receipt.events(), device.receipt().events()),
@@ -205,12 +207,13 @@ fn is_answered<J: BookName, X: Screen<Shown<J>> + Drop, R: Abort>(
 }
 
 /// A pump takes so many packets.
-pub(crate) fn pumps<J: BookName, X: Screen<Shown<J>> + Drop, R: Abort>(
-    rt: &R,
-    device: &mut Device<J, X>,
-    now: u64,
-    packets: u64,
-) {
+pub(crate) fn pumps<
+    J: BookName,
+    X: Screen<Shown<J>> + Drop,
+    K: Keeps<Event>,
+    S: Keeps<Step>,
+    R: Abort,
+>(rt: &R, device: &mut Device<J, X, K, S>, now: u64, packets: u64) {
     assert!(rt; 0 < device.lanes());
     assert!(rt; 0 < packets && packets <= MAX_BURST);
     assert_eq!(rt; device.pump(0, now, packets), Ok(packets));

@@ -11,6 +11,8 @@ mod fixtures;
 #[cfg(test)]
 mod kinds;
 #[cfg(test)]
+mod many;
+#[cfg(test)]
 mod monitors;
 #[cfg(test)]
 mod totals;

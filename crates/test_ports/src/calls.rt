@@ -27,6 +27,8 @@ pub(crate) enum Call<'a> {
     ComesNot(u64, Form, Refusal),
     /// A dequeue at that moment, which gives the packet with that id at the last moment, with that mark.
     Goes(u64, Form, u64, u64, Mark),
+    /// So many packets, with the ids from 0 on: each comes into the flow 0 at that moment and goes then.
+    Pass(u64, Form, u64),
     /// A dequeue at that moment that gives none.
     Idle(u64),
     /// A dequeue at that moment that is refused.
@@ -103,13 +105,18 @@ fn is_answered<A: Ledger, S: Ledger, R: Wait + Abort>(
         }
         Call::ComesNot(now, form, refusal) => comes(rt, port, seat, now, form, Err(refusal)),
         Call::Goes(now, form, id, moment, mark) => {
-            let sent = Sent {
-                id,
-                moment,
-                packet: packet(rt, form),
-                mark,
-            };
-            goes(rt, port, seat, now, Ok(Some(sent)));
+            goes(
+                rt,
+                port,
+                seat,
+                now,
+                Ok(Some(sent(rt, form, id, moment, mark))),
+            );
+        }
+        Call::Pass(now, form, packets) => {
+            for id in 0..packets {
+                passes(rt, port, seat, now, form, id);
+            }
         }
         Call::Idle(now) => goes(rt, port, seat, now, Ok(None)),
         Call::GoesNot(now, refusal) => goes(rt, port, seat, now, Err(refusal)),
@@ -136,6 +143,35 @@ fn comes<A: Ledger, S: Ledger, R: Wait + Abort>(
     wanted: Result<Admitted, Refusal>,
 ) {
     assert_eq!(rt; port.enqueue(rt, seat, now, packet(rt, form)), wanted);
+}
+
+/// The packet of that form, which gets that id, comes into the flow 0 and goes.
+fn passes<A: Ledger, S: Ledger, R: Wait + Abort>(
+    rt: &R,
+    port: &LockedPort<A, S>,
+    seat: &mut PortSeat<A, S>,
+    now: u64,
+    form: Form,
+    id: u64,
+) {
+    let admitted = Admitted {
+        id,
+        moment: now,
+        flow: 0,
+    };
+    comes(rt, port, seat, now, form, Ok(admitted));
+    let sent = sent(rt, form, id, now, Mark::NoMark);
+    goes(rt, port, seat, now, Ok(Some(sent)));
+}
+
+/// The packet of that form, as it is sent.
+fn sent<R: Abort>(rt: &R, form: Form, id: u64, moment: u64, mark: Mark) -> Sent {
+    Sent {
+        id,
+        moment,
+        packet: packet(rt, form),
+        mark,
+    }
 }
 
 /// A dequeue is answered like that.

@@ -94,6 +94,26 @@ fn has_the_steps<R: Abort>(rt: &R, engine: &Engine) {
     assert_eq!(rt; engine.steps(), &wanted[..]);
 }
 
+/// More than 2^20 packets pass, and the port goes on, also after a dequeue that finds none.
+#[test]
+fn more_than_a_million_packets(rt: HostRuntime) {
+    let engine = plays_alone(&rt, rt.alloc(), flows(&rt, 1), &A_MILLION);
+    assert_eq!(rt; counted(&engine.totals()), (MILLION + 2, MILLION + 2));
+}
+
+const MILLION: u64 = (1 << 20) + 1;
+
+const A_MILLION: [Call<'static>; 8] = [
+    Call::Pass(1, PACKET, MILLION),
+    Call::Idle(2),
+    Call::Comes(3, PACKET, MILLION, 0, 3),
+    Call::Comes(3, PACKET, MILLION + 1, 0, 3),
+    Call::Goes(4, PACKET, MILLION, 4, Mark::NoMark),
+    Call::Goes(4, PACKET, MILLION + 1, 4, Mark::NoMark),
+    Call::Idle(5),
+    Call::Counts(MILLION + 2, MILLION + 2),
+];
+
 /// Short and long packets of two flows take turns, with the standard quantum of 1,514 bytes: flow 1 sends 1,564 bytes,
 /// so flow 2 is next; it sends as many, and then flow 1 has credits again. After the close packets of both lengths are
 /// refused, and those that wait are given, from the two new flows in turn.

@@ -1,7 +1,7 @@
 //! Tests over many sizes, in which no growth is refused: so no call may answer that memory is missing. The sizes stand on
-//! both sides of each power of two up to 2^17, since lists and tables grow there. The programs are given more than 2^18
-//! five-tuples, too. No clause says that a call which answers `Memory` had a growth refused. `test_allocations` refuses
-//! growths, one by one.
+//! both sides of each power of two up to 2^20, since lists and tables grow there. A trace has 1,000,000 rows at most. No
+//! clause says that a call which answers `Memory` had a growth refused. `test_allocations` refuses growths, one by one.
+//! Built for a test run they take seconds. Under `rt try` some take minutes, and want its word `--seconds`.
 #![tactic(auto)]
 
 #[cfg(test)]

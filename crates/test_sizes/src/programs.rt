@@ -11,9 +11,6 @@ use std::thread::Threads;
 /// The most rows of a trace.
 const ROWS: usize = 1_000_000;
 
-/// More five-tuples than 2^18.
-const MANY: usize = 270_000;
-
 /// A trace is run.
 #[test]
 fn traces(rt: HostRuntime) {
@@ -48,20 +45,6 @@ fn arrivals_at_a_link(rt: HostRuntime) {
         let text = rows(rt.alloc(), size(number).min(ROWS)).expect(&rt, "memory");
         maltlink(&rt, &["--rate", "10gbit"], &text);
     }
-}
-
-/// A trace of many five-tuples is run.
-#[test]
-fn trace_of_many_tuples(rt: HostRuntime) {
-    let text = rows(rt.alloc(), MANY).expect(&rt, "memory");
-    fqsim(&rt, &["trace"], &text);
-}
-
-/// As many come to a link.
-#[test]
-fn many_tuples_at_a_link(rt: HostRuntime) {
-    let text = rows(rt.alloc(), MANY).expect(&rt, "memory");
-    maltlink(&rt, &["--rate", "10gbit"], &text);
 }
 
 /// So many packets come, each of another five-tuple.

@@ -1,19 +1,21 @@
 //! Schedulers, engines, shapers and choosers of flows.
 
 use crate::sizes::{LARGEST, SIZES, first, packet, params, params_of, size};
+use journal_core::{Journal, MAX_EVENTS};
 use packet_core::ParamFields;
 use sched_core::{Engine, FlowChooser, Sched, Step, run_steps};
 use shaper_core::Shaper;
 use std::process::Abort;
 use test_support::SEED;
 
-/// Memory for so many enqueues or packets is asked for at once.
+/// Memory for so many enqueues, packets or events is asked for at once.
 #[test]
 fn memory_at_once(rt: HostRuntime) {
     for number in 0..SIZES {
         schedulers_at_once(&rt, size(number) as u64);
         shaper_at_once(&rt, size(number) as u32);
         chooser_at_once(&rt, size(number) as u64);
+        journal_at_once(&rt, size(number));
     }
 }
 
@@ -40,6 +42,12 @@ fn chooser_at_once(rt: &(impl Abort + AllocGlobal), packets: u64) {
         rt, "memory",
     );
     assert!(rt; chooser.flow_of(&packet(rt, 1)) < params.flows());
+}
+
+fn journal_at_once(rt: &(impl Abort + AllocGlobal), room: usize) {
+    assert!(rt; room <= MAX_EVENTS);
+    let journal = Journal::try_new(rt.alloc(), room).expect(rt, "memory");
+    assert!(rt; journal.events().is_empty());
 }
 
 /// Packets come one after the other, and the rows by five-tuple are asked for at each size.

@@ -1,15 +1,16 @@
 //! Runs by senders: through a locked port, and through lanes.
 
 use crate::sizes::{LARGEST, SIZES, first, packet, params, size};
+use port_core::MAX_CAPACITY;
 use run_core::{run_lanes, run_locked};
 use sched_core::Step;
-use sender_core::{lists_of, packets_of};
+use sender_core::{MAX_SENDERS, lists_of, packets_of};
 use std::process::Abort;
 use std::sync::Wait;
 use std::thread::Threads;
 use test_support::SEED;
 
-/// How many senders there are.
+/// How many senders there are, unless a test has one.
 const SENDERS: u32 = 2;
 
 /// The packets of each sender are listed.
@@ -26,7 +27,7 @@ fn lists_of_senders(rt: HostRuntime) {
 fn locked_runs(rt: HostRuntime) {
     let steps = enqueues(&rt);
     for number in 0..SIZES {
-        sent_locked(&rt, first(&rt, &steps, size(number)));
+        sent_locked(&rt, SENDERS, first(&rt, &steps, size(number)));
     }
 }
 
@@ -35,8 +36,16 @@ fn locked_runs(rt: HostRuntime) {
 fn runs_by_lanes(rt: HostRuntime) {
     let steps = enqueues(&rt);
     for number in 0..SIZES {
-        sent_by_lanes(&rt, first(&rt, &steps, size(number)));
+        sent_by_lanes(&rt, SENDERS, first(&rt, &steps, size(number)));
     }
+}
+
+/// All packets are those of one sender. A lane has room for 2^20.
+#[test]
+fn one_sender_of_all(rt: HostRuntime) {
+    let steps = enqueues(&rt);
+    sent_locked(&rt, 1, &steps);
+    sent_by_lanes(&rt, 1, first(&rt, &steps, MAX_CAPACITY as usize));
 }
 
 fn enqueues(rt: &(impl Abort + AllocGlobal)) -> Vec<Step> {
@@ -58,12 +67,22 @@ fn listed(rt: &(impl Abort + AllocGlobal), steps: &[Step]) {
     assert!(rt; packets_of(rt.alloc(), &lists).is_ok());
 }
 
-fn sent_locked(rt: &(impl Abort + AllocGlobal + Threads + Wait + Sync), steps: &[Step]) {
-    let ran = run_locked(rt, rt.alloc(), params(rt), SEED, SENDERS, steps);
+fn sent_locked(
+    rt: &(impl Abort + AllocGlobal + Threads + Wait + Sync),
+    senders: u32,
+    steps: &[Step],
+) {
+    assert!(rt; 0 < senders && senders <= MAX_SENDERS);
+    let ran = run_locked(rt, rt.alloc(), params(rt), SEED, senders, steps);
     assert!(rt; ran.is_ok());
 }
 
-fn sent_by_lanes(rt: &(impl Abort + AllocGlobal + Threads + Wait + Sync), steps: &[Step]) {
-    let ran = run_lanes(rt, rt.alloc(), params(rt), SEED, SENDERS, 1, steps);
+fn sent_by_lanes(
+    rt: &(impl Abort + AllocGlobal + Threads + Wait + Sync),
+    senders: u32,
+    steps: &[Step],
+) {
+    assert!(rt; 0 < senders && senders <= MAX_SENDERS);
+    let ran = run_lanes(rt, rt.alloc(), params(rt), SEED, senders, 1, steps);
     assert!(rt; ran.is_ok());
 }

@@ -7,16 +7,16 @@ use std::process::Abort;
 use test_support::by_port;
 
 /// How many sizes there are.
-pub(crate) const SIZES: usize = 34;
+pub(crate) const SIZES: usize = 40;
 
 /// The largest of them.
-pub(crate) const LARGEST: usize = 131_073;
+pub(crate) const LARGEST: usize = 1_048_577;
 
-/// The size of that number: of each power of two from 2 to 2^17 the power, and the number after it.
+/// The size of that number: of each power of two from 2 to 2^20 the power, and the number after it.
 pub(crate) fn size(number: usize) -> usize
     ensures { result ≤ LARGEST }
 {
-    let power = 1usize << (1 + number / 2 % 17);
+    let power = 1usize << (1 + number / 2 % 20);
     power.saturating_add(number % 2).min(LARGEST)
 }
 

@@ -70,5 +70,5 @@ returns-in-Ok-clause-journal g c =
       all =
           c.in-Ok.ensures.accepted ∙ ap (sum_by (λ (s : Seat). length s.told)) settled
           ∙ accepted_of_rows (λ d. d.calls) (λ d. d.seat) done device untold ∙ ap (sum_by (λ (r : SenderRow). r.accepted)) (sym rows_are);
-      none_left = λ open'. subst (λ rs. All (λ row. row.left ≡ 0) rs) c.deref-in-Ok.ensures.value (c.if-leaves.ensures refl open');
+      none_left = λ open'. subst (λ rs. All (λ row. row.left ≡ 0) rs) c.deref-in-Ok.ensures.value (c.if-leaves.ensures.none refl open');
     }
