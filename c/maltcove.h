@@ -31,8 +31,9 @@
  * at most (see maltcove_enqueue). maltcove_free gives it back. heap.c has the three functions that the library takes
  * memory by; a program that defines all three itself replaces them.
  *
- * Threads. A scheduler stays on the thread that opened it, one call at a time: that it may go to another one isn't
- * proved yet. Two schedulers share nothing, so each thread may have its own. No call may come from a signal handler.
+ * Threads. A scheduler may go from thread to thread, one call at a time: the caller orders the calls, by a lock or by a
+ * thread's start or end. A call takes and gives back memory on the thread that makes it. Two schedulers share nothing,
+ * so each thread may have its own. No call may come from a signal handler.
  */
 #ifndef MALTCOVE_H
 #define MALTCOVE_H

@@ -336,7 +336,7 @@ def _sent(record: _Sent) -> Sent:
 
 class Scheduler:
     """A scheduler with the parameters that words say, those of tc-fq_codel(8). ``free`` or the end of a ``with``
-    block gives its memory back; what waits then is forgotten. It stays on the thread that made it."""
+    block gives its memory back; what waits then is forgotten. Threads that share it need a lock around each call."""
 
     def __init__(self, words: str = "", seed: bytes = bytes(16)) -> None:
         self._m = _Maltcove()

@@ -10,12 +10,17 @@ use std::fmt::{self, Debug, Formatter};
 use std::ptr;
 
 /// A packet scheduler by FQ-CoDel. It takes all memory where it is opened, and gives it back where it is dropped; the
-/// tags of what waits then are lost, so [`flush`](Scheduler::flush) it before. It stays on one thread.
+/// tags of what waits then are lost, so [`flush`](Scheduler::flush) it before. It may be sent to another thread, and
+/// threads that share it need a lock around it.
 // The C calls write behind the pointer, those that only look too, so it stands in a cell. The cell keeps the type from
-// being shared by threads, and the pointer in it from being sent to one.
+// being shared by threads.
 pub struct Scheduler {
     inner: UnsafeCell<sys::Maltcove>,
 }
+
+// SAFETY: that a scheduler may go to another thread is proved of what C holds (`crates/maltcove/src/scheduler.rt`), and
+// who owns or borrows this type makes one call at a time.
+unsafe impl Send for Scheduler {}
 
 /// Nothing, or why a call was refused.
 fn made(answer: c_int) -> Result<(), Error> {

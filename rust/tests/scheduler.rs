@@ -234,3 +234,30 @@ fn each_tag_comes_back_once() {
 fn the_version_is_that_of_the_crate() {
     assert_eq!(version(), env!("CARGO_PKG_VERSION"));
 }
+
+/// A scheduler is filled by one thread, emptied by another under a lock, and dropped by a third.
+#[test]
+fn goes_to_other_threads() {
+    let mut scheduler = open("flows 1 classify dport");
+    scheduler.enqueue(0, &packet(7, 1, 100)).expect("room");
+    let scheduler = std::thread::spawn(move || {
+        let mut scheduler = scheduler;
+        scheduler.enqueue(1, &packet(8, 1, 100)).expect("room");
+        scheduler
+    })
+    .join()
+    .expect("a thread that ends");
+    let shared = std::sync::Mutex::new(scheduler);
+    let tags = std::thread::scope(|scope| {
+        let take = || {
+            let mut scheduler = shared.lock().expect("a lock");
+            scheduler.dequeue(2).expect("a dequeue").expect("a packet").tag
+        };
+        let (one, other) = (scope.spawn(take), scope.spawn(take));
+        let mut tags = [one.join().expect("a tag"), other.join().expect("a tag")];
+        tags.sort();
+        tags
+    });
+    assert_eq!(tags, [7, 8]);
+    std::thread::spawn(move || drop(shared)).join().expect("a thread that ends");
+}

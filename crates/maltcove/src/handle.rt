@@ -6,7 +6,7 @@ ghost use Rattle.shaper_core.specs.Shapers.{Shaping};
 use crate::parts::Parts;
 use shaper_core::Shaper;
 use std::alloc::Global;
-use std::marker::Model;
+use std::marker::{Model, Send};
 use std::ptr;
 
 /// What C sees of a scheduler: a place.
@@ -32,6 +32,9 @@ impl Model for Handle {
 
     ghost also_owns = { λ h. owned_if h.value (λ x. box_owns (global.ghosts.dealloc_token h.alloc) shaper.the_row h.at x) };
 }
+
+// It owns a box or nothing. A box may go to another thread where its value may, and a shaper may.
+unsafe impl Send for Handle {}
 
 impl Handle {
     /// None.

@@ -6,6 +6,7 @@ ghost use Rattle.std.specs.Option.{is_some};
 use crate::handle::Handle;
 use shaper_core::Shaper;
 use std::alloc::Global;
+use std::marker::Send;
 use std::mem;
 
 /// A scheduler, or none. C sets its 16 bytes to 0 for none, and changes none of them after.
@@ -49,4 +50,18 @@ pub(crate) fn put(m: &mut Maltcove, shaper: Box<Shaper>)
         handle: Handle::of(shaper),
         is_open: true,
     };
+}
+
+/// A scheduler may be handed to another thread, with all that it owns: one thread at a time calls it.
+pub(crate) fn handed_over(m: Maltcove) -> Maltcove
+    ensures { result ≡ m }
+{
+    sendable(m)
+}
+
+/// Only what may go to another thread is taken.
+fn sendable<T: Send>(value: T) -> T
+    ensures { result ≡ value }
+{
+    value
 }
