@@ -50,6 +50,7 @@ static void enqueue(void)
 	memset(&packet, 0, sizeof packet);
 	packet.tag = handed_in++;
 	packet.len = 1000;
+	packet.version = 4;
 	packet.proto = 17;
 	packet.sport = (uint16_t)(packet.tag % 100);
 	expect(maltcove_enqueue(&scheduler, now_us++, &packet, &admitted) == MALTCOVE_OK, "a packet is refused");
