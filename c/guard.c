@@ -4,7 +4,7 @@
  */
 #include "maltcove.h"
 
-/* The proved calls (crates/maltcove). A slice is its place, which is never null, and then its length. */
+/* The proved calls (crates/maltcove_c). A slice is its place, which is never null, and then its length. */
 int32_t maltcove_raw_open(maltcove *m, const char *words, size_t words_len, const uint8_t *seed, size_t seed_len,
 			  maltcove_fault *fault);
 void maltcove_raw_free(maltcove *m);

@@ -1,4 +1,4 @@
-/* The sizes and places that crates/maltcove has for the structs of maltcove.h: src/records.rt and src/scheduler.rt
+/* The sizes and places that crates/maltcove_c has for the structs of maltcove.h: src/records.rt and src/scheduler.rt
  * prove the same sizes. */
 #ifndef MALTCOVE_LAYOUT_H
 #define MALTCOVE_LAYOUT_H

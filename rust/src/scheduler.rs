@@ -18,7 +18,7 @@ pub struct Scheduler {
     inner: UnsafeCell<sys::Maltcove>,
 }
 
-// SAFETY: that a scheduler may go to another thread is proved of what C holds (`crates/maltcove/src/scheduler.rt`), and
+// SAFETY: that a scheduler may go to another thread is proved of what C holds (`crates/maltcove_c/src/scheduler.rt`), and
 // who owns or borrows this type makes one call at a time.
 unsafe impl Send for Scheduler {}
 

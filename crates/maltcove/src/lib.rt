@@ -1,15 +1,18 @@
-//! The scheduler for C: `c/maltcove.h` documents its calls. Each export does one call of `shaper_core`, and says of the
-//! scheduler behind the handle, and of what C reads, what that call says.
+//! The scheduler FQ-CoDel (RFC 8290) as one library: the names that a program over it needs, from one place.
 //!
-//! C's own functions, in `c/guard.c`, stand before the exports: they answer null pointers, which no export takes.
+//! Its definitions are here too, by the names in `specs/Lib.antt`, so that a contract over packets, steps and the
+//! journal names this crate alone. Threads stand above it, in `port_core`; C has the same scheduler by `maltcove_c`.
 #![tactic(auto)]
 
-mod handle;
-mod losses;
-mod opening;
-mod packets;
-mod parts;
-mod records;
-mod scheduler;
-mod status;
-mod views;
+pub use packet_core::{
+    Classify, Ecn, EcnUse, FiveTuple, Ip, LengthOutOfRange, MAX_LENGTH, Packet, ParamFault,
+    ParamFields, ParamName, Params, Seed, Waiting, read_params,
+};
+pub use sched_core::{
+    Admitted, Answer, Cause, CloseFault, Engine, Event, FlowChooser, FlowView, GhostList, Keeps,
+    MAX_ACCEPTED, MAX_EVENTS, MAX_MOMENT, Mark, Memory, MomentFault, Outcome, Ran, Refusal, Sched,
+    Sent, Step, Stored, Totals, TupleRow, Unstored, run_steps,
+};
+pub use shaper_core::{
+    Dequeued, Dropped, EnqueueFault, Enqueued, Flushed, RENEW_AFTER, Shaper, ShaperTotals,
+};

@@ -1,9 +1,11 @@
 //! The scheduler as a library: three packets come where two may wait, and the device takes one.
 #![tactic(auto)]
 
+ghost use Rattle.std.specs.Prelude.{◌≡◌, ◌+◌};
+ghost use Rattle.maltcove.specs.Statistics.{statistics};
+
 use anyhow::Result;
-use packet_core::{Ecn, FiveTuple, Ip, LengthOutOfRange, Packet, Seed, read_params};
-use sched_core::{Engine, Event};
+use maltcove::{Ecn, Engine, Event, FiveTuple, Ip, LengthOutOfRange, Packet, Seed, read_params};
 
 fn main(rt: HostRuntime) -> Result<()> {
     // The parameters that aren't said are the standard ones.
@@ -13,9 +15,19 @@ fn main(rt: HostRuntime) -> Result<()> {
     for event in engine.events() {
         tell(&rt, event)?;
     }
+    let dropped = count_drops(&engine);
     let totals = engine.totals();
-    println!(rt; "{} sent, {} queued", totals.sent, totals.queued)?;
+    println!(rt; "{} sent, {dropped} dropped, {} queued", totals.sent, totals.queued)?;
     Ok(())
+}
+
+/// How many packets were dropped, by the statistics of the engine's journal.
+fn count_drops(engine: &Engine) -> u64
+    ensures { let said = statistics engine.now.sched.standing.events in
+        result ≡ said.dropped_codel + said.dropped_overflow }
+{
+    let totals = engine.totals();
+    totals.dropped_codel + totals.dropped_overflow
 }
 
 /// Three packets come at 0, 1 and 2 microseconds from lane 0, and one goes at 3.

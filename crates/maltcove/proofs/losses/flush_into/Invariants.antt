@@ -1,5 +1,0 @@
-use Rattle.maltcove.proofs.Readings.{Flushing}
-use Rattle.maltcove.proofs.losses.flush_into.Given as goal
-
-abbrev pub invariant-loop-place : goal.invariant-loop-place
-invariant-loop-place l = Flushing l.initial.shaper l.initial.out l.place l.out l.shaper

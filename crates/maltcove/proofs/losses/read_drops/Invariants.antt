@@ -1,5 +1,0 @@
-use Rattle.maltcove.proofs.Readings.{Reading}
-use Rattle.maltcove.proofs.losses.read_drops.Given as goal
-
-abbrev pub invariant-loop-place : goal.invariant-loop-place
-invariant-loop-place l = Reading l.initial.shaper l.initial.out l.place l.out l.shaper

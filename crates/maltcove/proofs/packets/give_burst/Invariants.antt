@@ -1,5 +1,0 @@
-use Rattle.maltcove.proofs.Bursts.{Sending}
-use Rattle.maltcove.proofs.packets.give_burst.Given as goal
-
-abbrev pub invariant-loop-place : goal.invariant-loop-place
-invariant-loop-place l = Sending l.initial.shaper l.moment l.initial.out l.place l.out l.shaper

@@ -1,0 +1,185 @@
+-- What the records mean that C reads and writes.
+use Rattle.std.specs.Prelude.{◌≡◌, ℕ, ◌==◌, Bool, true, false, List, take, Option, Some, None, unwrap_or, is_some, if◌then◌else◌}
+use Rattle.packet_core.specs.Packets.{PacketParts, IsLengthInRange}
+use Rattle.packet_core.specs.declared.packet.Ecn.{Ecn}
+use Rattle.packet_core.specs.declared.packet.Ecn.TheVariants.{Ce, Ect0, Ect1, NotEct}
+use Rattle.packet_core.specs.declared.packet.Ip.{Ip}
+use Rattle.packet_core.specs.declared.packet.Ip.TheVariants.{V4, V6}
+use Rattle.packet_core.specs.declared.params.Classify.{Classify}
+use Rattle.packet_core.specs.declared.params.Classify.TheVariants.{Dport, Hash}
+use Rattle.packet_core.specs.declared.params.EcnUse.{EcnUse}
+use Rattle.packet_core.specs.declared.params.EcnUse.TheVariants as ecn_use
+use Rattle.packet_core.specs.declared.params.ParamFields.{ParamFields}
+use Rattle.packet_core.specs.declared.words.ParamFault.{ParamFault}
+use Rattle.packet_core.specs.declared.words.ParamFault.TheVariants.{UnknownWord, MissingValue, NotANumber, OutOfRange}
+use Rattle.codel_core.specs.declared.served.Mark.{Mark}
+use Rattle.codel_core.specs.declared.served.Mark.TheVariants.{NoMark, CodelMark, Threshold}
+use Rattle.journal_core.specs.declared.event.Cause.{Cause}
+use Rattle.journal_core.specs.declared.event.Cause.TheVariants.{Codel, Overflow}
+use Rattle.journal_core.specs.declared.step.Sent.{Sent}
+use Rattle.fair_core.specs.declared.flow_view.FlowView.{FlowView}
+use Rattle.shaper_core.specs.declared.answers.Dropped.{Dropped}
+use Rattle.shaper_core.specs.declared.answers.Enqueued.{Enqueued}
+use Rattle.shaper_core.specs.declared.answers.Handle.{Handle}
+use Rattle.shaper_core.specs.declared.totals.ShaperTotals.{ShaperTotals}
+use Rattle.maltcove_c.specs.declared.records.MaltcoveAdmitted.{MaltcoveAdmitted}
+use Rattle.maltcove_c.specs.declared.records.MaltcoveDropped.{MaltcoveDropped}
+use Rattle.maltcove_c.specs.declared.records.MaltcoveFault.{MaltcoveFault}
+use Rattle.maltcove_c.specs.declared.records.MaltcoveFlow.{MaltcoveFlow}
+use Rattle.maltcove_c.specs.declared.records.MaltcoveFlushed.{MaltcoveFlushed}
+use Rattle.maltcove_c.specs.declared.records.MaltcovePacket.{MaltcovePacket}
+use Rattle.maltcove_c.specs.declared.records.MaltcoveParams.{MaltcoveParams}
+use Rattle.maltcove_c.specs.declared.records.MaltcoveSent.{MaltcoveSent}
+use Rattle.maltcove_c.specs.declared.records.MaltcoveTotals.{MaltcoveTotals}
+use Rattle.maltcove_c.specs.declared.records.TheConstants.{MISSING_VALUE, NO_FAULT, NOT_A_NUMBER, OUT_OF_RANGE, UNKNOWN_WORD}
+
+-- the ECN field that two bits are (RFC 3168, section 5)
+abbrev pub ecn_in : ℕ → Option Ecn
+ecn_in bits =
+    if bits == 0 then Some NotEct
+    else if bits == 1 then Some Ect1
+    else if bits == 2 then Some Ect0
+    else if bits == 3 then Some Ce
+    else None
+
+-- the two bits of an ECN field
+abbrev pub ecn_bits : Ecn → ℕ
+ecn_bits NotEct = 0
+ecn_bits Ect1 = 1
+ecn_bits Ect0 = 2
+ecn_bits Ce = 3
+
+-- the address of that version of IP in sixteen bytes
+abbrev pub address_in : ℕ → List ℕ → Option Ip
+address_in version bytes =
+    if version == 4 then Some (V4 (take 4 bytes)) else if version == 6 then Some (V6 bytes) else None
+
+-- C's record says that packet: each field is the packet's, and has a value that a packet can have.
+pub record Says (p : MaltcovePacket) (packet : PacketParts) : Type 0 where
+  pub proto : packet.tuple.proto ≡ p.proto
+  pub src : address_in p.version p.src ≡ Some packet.tuple.src
+  pub dst : address_in p.version p.dst ≡ Some packet.tuple.dst
+  pub sport : packet.tuple.sport ≡ p.sport
+  pub dport : packet.tuple.dport ≡ p.dport
+  pub len : packet.len ≡ p.len
+  pub fits : IsLengthInRange p.len
+  pub ecn : ecn_in p.ecn ≡ Some packet.ecn
+  pub tag : packet.tag ≡ p.tag
+
+-- That packet goes to the flow of that number, by its destination port, and has that length, field and tag.
+pub record SaysInFlow (flow len bits tag : ℕ) (packet : PacketParts) : Type 0 where
+  pub flow_is : packet.tuple.dport ≡ flow
+  pub len_is : packet.len ≡ len
+  pub fits : IsLengthInRange len
+  pub ecn : ecn_in bits ≡ Some packet.ecn
+  pub tag_is : packet.tag ≡ tag
+
+-- what C reads of a packet that was accepted
+abbrev pub admitted_told : Enqueued → MaltcoveAdmitted
+admitted_told said = record { id = said.id; drops = said.drops; flow = said.flow }
+
+-- the number of a mark
+abbrev pub mark_code : Mark → ℕ
+mark_code NoMark = 0
+mark_code CodelMark = 1
+mark_code Threshold = 2
+
+-- what C reads of a packet that is sent, before which so many were dropped
+abbrev pub sent_told : Sent → ℕ → MaltcoveSent
+sent_told sent drops = record {
+  tag = sent.packet.tag;
+  id = sent.id;
+  drops = drops;
+  len = sent.packet.len;
+  ecn = ecn_bits sent.packet.ecn;
+  mark = mark_code sent.mark;
+}
+
+-- what C reads where no packet is sent
+abbrev pub idle_told : ℕ → MaltcoveSent
+idle_told drops = record { tag = 0; id = 0; drops = drops; len = 0; ecn = 0; mark = 0 }
+
+-- the number of a cause
+abbrev pub cause_code : Cause → ℕ
+cause_code Codel = 0
+cause_code Overflow = 1
+
+-- what C reads of a packet that was dropped
+abbrev pub dropped_told : Dropped → MaltcoveDropped
+dropped_told d = record { tag = d.tag; id = d.id; cause = cause_code d.cause }
+
+-- what C reads of a packet that was flushed
+abbrev pub flushed_told : Handle → MaltcoveFlushed
+flushed_told packet = record { tag = packet.tag; id = packet.id }
+
+-- what C reads of the statistics
+abbrev pub totals_told : ShaperTotals → MaltcoveTotals
+totals_told t = record {
+  accepted = t.accepted;
+  accepted_bytes = t.accepted_bytes;
+  sent = t.sent;
+  sent_bytes = t.sent_bytes;
+  dropped_codel = t.dropped_codel;
+  dropped_overflow = t.dropped_overflow;
+  dropped_bytes = t.dropped_bytes;
+  flushed = t.flushed;
+  flushed_bytes = t.flushed_bytes;
+  marked = t.marked;
+  threshold_marked = t.threshold_marked;
+  queued = t.queued;
+  queued_bytes = t.queued_bytes;
+  closed = t.closed;
+}
+
+-- what C reads of a flow
+abbrev pub flow_told : FlowView → MaltcoveFlow
+flow_told v = record {
+  queued = v.len;
+  queued_bytes = v.bytes;
+  credits = v.credits;
+  first_above = unwrap_or v.codel.first_above 0;
+  drop_next = v.codel.drop_next;
+  count = v.codel.count;
+  last_count = v.codel.lastcount;
+  has_first_above = is_some v.codel.first_above;
+  dropping = v.codel.dropping;
+}
+
+-- whether packets are marked
+abbrev pub marks : EcnUse → Bool
+marks ecn_use.Drop = false
+marks ecn_use.Mark = true
+
+-- whether flows are found by a hash
+abbrev pub hashes : Classify → Bool
+hashes Hash = true
+hashes Dport = false
+
+-- what C reads of the parameters
+abbrev pub params_told : ParamFields → MaltcoveParams
+params_told p = record {
+  target = p.target;
+  interval = p.interval;
+  ce_threshold = unwrap_or p.ce_threshold 0;
+  memory_limit = unwrap_or p.memory_limit 0;
+  limit = p.limit;
+  flows = p.flows;
+  quantum = p.quantum;
+  mtu = p.mtu;
+  drop_batch = p.drop_batch;
+  has_ce_threshold = is_some p.ce_threshold;
+  has_memory_limit = is_some p.memory_limit;
+  ecn = marks p.ecn;
+  hash = hashes p.classify;
+}
+
+-- what C reads of a wrong word
+abbrev pub fault_told : ParamFault → MaltcoveFault
+fault_told (UnknownWord place) = record { place = place; kind = UNKNOWN_WORD }
+fault_told (MissingValue place) = record { place = place; kind = MISSING_VALUE }
+fault_told (NotANumber place) = record { place = place; kind = NOT_A_NUMBER }
+fault_told (OutOfRange place) = record { place = place; kind = OUT_OF_RANGE }
+
+-- what C reads where no word is wrong
+abbrev pub nothing_told : MaltcoveFault
+nothing_told = record { place = 0; kind = NO_FAULT }

@@ -1,0 +1,85 @@
+//! A box as its pointer, or none: what C holds of a scheduler.
+
+ghost use Rattle.std.specs.Prelude.{◌≡◌, Some, None, IsSome, Option};
+ghost use Rattle.shaper_core.specs.Shapers.{Shaping};
+
+use crate::parts::Parts;
+use shaper_core::Shaper;
+use std::alloc::Global;
+use std::marker::{Model, Send};
+use std::ptr;
+
+/// What C sees of a scheduler: a place.
+#[repr(C)]
+pub struct Opaque {
+    byte: u8,
+}
+
+/// A box as its pointer, or null. The heap takes no byte of it.
+#[repr(C)]
+#[derive(Drop)]
+pub struct Handle {
+    at: *mut Opaque,
+    alloc: Global,
+    ghost value: { Option Shaping },
+}
+
+impl Model for Handle {
+    ghost use Rattle.std_alloc.specs.Box.Ownership.{box_owns};
+    ghost use Rattle.std.specs.contracts.impls.GlobalAllocator.TheImpl as global;
+    ghost use Rattle.shaper_core.specs.contracts.shaper.Shaper as shaper;
+    ghost use Rattle.maltcove_c.specs.Handles.{owned_if};
+
+    ghost also_owns = { λ h. owned_if h.value (λ x. box_owns (global.ghosts.dealloc_token h.alloc) shaper.the_row h.at x) };
+}
+
+// It owns a box or nothing. A box may go to another thread where its value may, and a shaper may.
+unsafe impl Send for Handle {}
+
+impl Handle {
+    /// None.
+    pub(crate) fn empty(alloc: Global) -> Handle
+        ensures { result.value ≡ None }
+    {
+        Handle {
+            at: ptr::null_mut(),
+            alloc,
+        }
+    }
+
+    /// That of a box.
+    pub(crate) fn of(value: Box<Shaper>) -> Handle
+        ensures { result.value ≡ Some value.value }
+    {
+        Handle::of_parts(Parts::of(value))
+    }
+
+    /// The box again.
+    pub(crate) fn into_box(self) -> Box<Shaper>
+        requires { IsSome self.value }
+        ensures { self.value ≡ Some result.value }
+    {
+        self.into_parts().into_box()
+    }
+
+    fn of_parts(parts: Parts<Shaper, Global>) -> Handle
+        ensures { result.value ≡ Some parts.value }
+    {
+        let Parts { ptr, alloc } = parts;
+        Handle {
+            at: ptr as *mut Opaque,
+            alloc,
+        }
+    }
+
+    fn into_parts(self) -> Parts<Shaper, Global>
+        requires { IsSome self.value }
+        ensures { self.value ≡ Some result.value }
+    {
+        let Handle { at, alloc } = self;
+        Parts {
+            ptr: at as *mut Shaper,
+            alloc,
+        }
+    }
+}

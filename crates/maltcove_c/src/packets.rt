@@ -1,0 +1,261 @@
+//! The calls that packets come and go by.
+
+ghost use Rattle.std.specs.Prelude.{◌≡◌, ◌≢◌, ◌⊎◌, ◌↔◌, ◌+◌, ◌<◌, ◌%◌, None, drop, length};
+ghost use Rattle.packet_core.specs.Packets.{PacketParts};
+ghost use Rattle.packet_core.specs.declared.params.Classify.TheVariants.{Dport, Hash};
+ghost use Rattle.maltcove_c.specs.Calls.{Admits, AreSent, Behind, IfBehind, Idles, RefusesDequeue, RefusesEnqueue, RefusesInFlow, Sends, SendsAll};
+ghost use Rattle.maltcove_c.specs.Records.{Says, SaysInFlow};
+ghost use Rattle.maltcove_c.specs.declared.status.TheConstants.{BAD_PACKET, HASHED, IDLE, NOT_OPEN, OK};
+
+use crate::records::{
+    MaltcoveAdmitted, MaltcoveDropped, MaltcovePacket, MaltcoveSent, admitted_of, dropped_of,
+    idle_of, packet_in_flow, packet_of, sent_of,
+};
+use crate::scheduler::{Maltcove, put, take};
+use crate::status::{BAD_PACKET, HASHED, IDLE, NOT_OPEN, OK, enqueue_code, moment_code};
+use packet_core::{Classify, Packet};
+use shaper_core::Shaper;
+use std::alloc::Global;
+
+/// A packet comes.
+fn accept(shaper: &mut Shaper, moment: u64, packet: Packet, out: &mut MaltcoveAdmitted) -> i32
+    ensures made { result ≡ OK → Admits shaper.old moment packet out.new shaper.new }
+    ensures refused { result ≢ OK → RefusesEnqueue shaper.old moment packet result }
+    ensures unchanged { result ≢ OK → (shaper.new ≡ shaper.old) × (out.new ≡ out.old) }
+    ensures open { result ≢ NOT_OPEN }
+{
+    match shaper.enqueue(moment, packet) {
+        Ok(enqueued) => {
+            *out = admitted_of(&enqueued);
+            OK
+        }
+        Err(fault) => enqueue_code(fault),
+    }
+}
+
+/// The packet comes that C's record says, if it says one.
+fn accept_said(
+    shaper: &mut Shaper,
+    moment: u64,
+    said: &MaltcovePacket,
+    out: &mut MaltcoveAdmitted,
+) -> i32
+    ensures made { result ≡ OK
+        → (packet : PacketParts) × Says said.now packet × Admits shaper.old moment packet out.new shaper.new }
+    ensures refused { result ≢ OK
+        → ((result ≡ BAD_PACKET) × ((packet : PacketParts) → ¬ Says said.now packet))
+        ⊎ ((packet : PacketParts) × Says said.now packet × RefusesEnqueue shaper.old moment packet result) }
+    ensures unchanged { result ≢ OK → (shaper.new ≡ shaper.old) × (out.new ≡ out.old) }
+    ensures open { result ≢ NOT_OPEN }
+{
+    match packet_of(said) {
+        Some(packet) => accept(shaper, moment, packet, out),
+        None => BAD_PACKET,
+    }
+}
+
+/// Accepts a packet, whose flow the scheduler finds.
+#[unsafe(no_mangle)]
+pub extern "C" fn maltcove_raw_enqueue(
+    alloc: Global,
+    m: &mut Maltcove,
+    moment: u64,
+    packet: &MaltcovePacket,
+    out: &mut MaltcoveAdmitted,
+) -> i32
+    ensures none { (result ≡ NOT_OPEN) ↔ (m.old.handle.value ≡ None) }
+    ensures made { result ≡ OK → Behind
+        (λ a b. (p : PacketParts) × Says packet.now p × Admits a moment p out.new b)
+        m.old.handle.value m.new.handle.value }
+    ensures refused { result ≢ OK → IfBehind
+        (λ a. ((result ≡ BAD_PACKET) × ((p : PacketParts) → ¬ Says packet.now p))
+        ⊎ ((p : PacketParts) × Says packet.now p × RefusesEnqueue a moment p result))
+        m.old.handle.value }
+    ensures unchanged { result ≢ OK → (m.new.handle.value ≡ m.old.handle.value) × (out.new ≡ out.old) }
+{
+    let Some(mut shaper) = take(alloc, m) else {
+        return NOT_OPEN;
+    };
+    let code = accept_said(&mut shaper, moment, packet, out);
+    put(m, shaper);
+    code
+}
+
+/// What is left of a number that is divided by so many flows. Most callers hand in a number below, and wait for no
+/// division.
+fn remainder(number: u32, flows: u32) -> u32
+    requires { 0 < flows }
+    ensures value { result ≡ number % flows }
+    ensures below { result < flows }
+{
+    if number < flows {
+        number
+    } else {
+        number % flows
+    }
+}
+
+/// The number of a flow, from any number.
+fn flow_number(shaper: &Shaper, flow: u32) -> u16
+    ensures { result ≡ flow % shaper.now.sched.params.flows }
+{
+    remainder(flow, shaper.params().flows()) as u16
+}
+
+/// A packet comes to the flow of that number, where the caller chooses flows.
+fn accept_in_flow(
+    shaper: &mut Shaper,
+    moment: u64,
+    flow: u32,
+    len: u32,
+    ecn: u8,
+    tag: u64,
+    out: &mut MaltcoveAdmitted,
+) -> i32
+    ensures made { result ≡ OK
+        → (packet : PacketParts) × SaysInFlow (flow % shaper.old.sched.params.flows) len ecn tag packet
+        × Admits shaper.old moment packet out.new shaper.new }
+    ensures hashed { (result ≡ HASHED) ↔ (shaper.old.sched.params.classify ≡ Hash) }
+    ensures refused { result ≢ OK → result ≢ HASHED → RefusesInFlow shaper.old moment flow len ecn tag result }
+    ensures unchanged { result ≢ OK → (shaper.new ≡ shaper.old) × (out.new ≡ out.old) }
+    ensures open { result ≢ NOT_OPEN }
+{
+    if shaper.params().classify() == Classify::Hash {
+        return HASHED;
+    }
+    match packet_in_flow(flow_number(shaper, flow), len, ecn, tag) {
+        Some(packet) => accept(shaper, moment, packet, out),
+        None => BAD_PACKET,
+    }
+}
+
+/// Accepts a packet, whose flow the caller has chosen.
+#[unsafe(no_mangle)]
+pub extern "C" fn maltcove_raw_enqueue_flow(
+    alloc: Global,
+    m: &mut Maltcove,
+    moment: u64,
+    flow: u32,
+    len: u32,
+    ecn: u8,
+    tag: u64,
+    out: &mut MaltcoveAdmitted,
+) -> i32
+    ensures none { (result ≡ NOT_OPEN) ↔ (m.old.handle.value ≡ None) }
+    ensures made { result ≡ OK → Behind
+        (λ a b. (p : PacketParts) × SaysInFlow (flow % a.sched.params.flows) len ecn tag p
+        × Admits a moment p out.new b)
+        m.old.handle.value m.new.handle.value }
+    ensures hashed { IfBehind (λ a. (result ≡ HASHED) ↔ (a.sched.params.classify ≡ Hash)) m.old.handle.value }
+    ensures refused { result ≢ OK → result ≢ HASHED
+        → IfBehind (λ a. RefusesInFlow a moment flow len ecn tag result) m.old.handle.value }
+    ensures unchanged { result ≢ OK → (m.new.handle.value ≡ m.old.handle.value) × (out.new ≡ out.old) }
+{
+    let Some(mut shaper) = take(alloc, m) else {
+        return NOT_OPEN;
+    };
+    let code = accept_in_flow(&mut shaper, moment, flow, len, ecn, tag, out);
+    put(m, shaper);
+    code
+}
+
+/// The next packet goes, if one waits.
+fn give(shaper: &mut Shaper, moment: u64, out: &mut MaltcoveSent) -> i32
+    ensures sent { result ≡ OK → Sends shaper.old moment out.new shaper.new }
+    ensures idle { result ≡ IDLE → Idles shaper.old moment out.new shaper.new }
+    ensures refused { result ≢ OK → result ≢ IDLE → RefusesDequeue shaper.old moment result }
+    ensures unchanged { result ≢ OK → result ≢ IDLE → (shaper.new ≡ shaper.old) × (out.new ≡ out.old) }
+    ensures open { result ≢ NOT_OPEN }
+{
+    match shaper.dequeue(moment) {
+        Ok(dequeued) => match &dequeued.sent {
+            Some(sent) => {
+                *out = sent_of(sent, dequeued.drops);
+                OK
+            }
+            None => {
+                *out = idle_of(dequeued.drops);
+                IDLE
+            }
+        },
+        Err(fault) => moment_code(fault),
+    }
+}
+
+/// Gives the next packet.
+#[unsafe(no_mangle)]
+pub extern "C" fn maltcove_raw_dequeue(
+    alloc: Global,
+    m: &mut Maltcove,
+    moment: u64,
+    out: &mut MaltcoveSent,
+) -> i32
+    ensures none { (result ≡ NOT_OPEN) ↔ (m.old.handle.value ≡ None) }
+    ensures sent { result ≡ OK
+        → Behind (λ a b. Sends a moment out.new b) m.old.handle.value m.new.handle.value }
+    ensures idle { result ≡ IDLE
+        → Behind (λ a b. Idles a moment out.new b) m.old.handle.value m.new.handle.value }
+    ensures refused { result ≢ OK → result ≢ IDLE
+        → IfBehind (λ a. RefusesDequeue a moment result) m.old.handle.value }
+    ensures unchanged { result ≢ OK → result ≢ IDLE
+        → (m.new.handle.value ≡ m.old.handle.value) × (out.new ≡ out.old) }
+{
+    let Some(mut shaper) = take(alloc, m) else {
+        return NOT_OPEN;
+    };
+    let code = give(&mut shaper, moment, out);
+    put(m, shaper);
+    code
+}
+
+/// Packets go until none waits or the places are full, and how many went. At a moment that is refused none goes.
+fn give_burst(shaper: &mut Shaper, moment: u64, out: &mut [MaltcoveSent], given: &mut u64) -> i32
+    ensures full { result ≡ OK
+        → (given.new ≡ length out.old) × AreSent shaper.old moment out.new shaper.new }
+    ensures idle { result ≡ IDLE
+        → (given.new < length out.old) × SendsAll shaper.old moment out.new given.new shaper.new }
+    ensures rest { result ≡ IDLE → drop (given.new + 1) out.new ≡ drop (given.new + 1) out.old }
+    ensures refused { result ≢ OK → result ≢ IDLE → RefusesDequeue shaper.old moment result }
+    ensures unchanged { result ≢ OK → result ≢ IDLE
+        → (shaper.new ≡ shaper.old) × (out.new ≡ out.old) × (given.new ≡ 0) }
+    ensures open { result ≢ NOT_OPEN }
+{
+    for place in 0..out.len() {
+        let code = give(shaper, moment, &mut out[place]);
+        if code != OK {
+            *given = place as u64;
+            return code;
+        }
+    }
+    *given = out.len() as u64;
+    OK
+}
+
+/// Gives the next packets, as many as there is room for. It answers how many, by `given`.
+#[unsafe(no_mangle)]
+pub extern "C" fn maltcove_raw_dequeue_burst(
+    alloc: Global,
+    m: &mut Maltcove,
+    moment: u64,
+    out: &mut [MaltcoveSent],
+    given: &mut u64,
+) -> i32
+    ensures none { (result ≡ NOT_OPEN) ↔ (m.old.handle.value ≡ None) }
+    ensures full { result ≡ OK → (given.new ≡ length out.old)
+        × Behind (λ a b. AreSent a moment out.new b) m.old.handle.value m.new.handle.value }
+    ensures idle { result ≡ IDLE → (given.new < length out.old)
+        × Behind (λ a b. SendsAll a moment out.new given.new b) m.old.handle.value m.new.handle.value }
+    ensures rest { result ≡ IDLE → drop (given.new + 1) out.new ≡ drop (given.new + 1) out.old }
+    ensures refused { result ≢ OK → result ≢ IDLE
+        → IfBehind (λ a. RefusesDequeue a moment result) m.old.handle.value }
+    ensures unchanged { result ≢ OK → result ≢ IDLE
+        → (m.new.handle.value ≡ m.old.handle.value) × (out.new ≡ out.old) × (given.new ≡ 0) }
+{
+    let Some(mut shaper) = take(alloc, m) else {
+        *given = 0;
+        return NOT_OPEN;
+    };
+    let code = give_burst(&mut shaper, moment, out, given);
+    put(m, shaper);
+    code
+}

@@ -1,0 +1,427 @@
+//! The records that C reads and writes. Each has the layout of its struct in `maltcove.h`.
+
+ghost use Rattle.std.specs.Prelude.{◌≡◌, IfSome, IsNone};
+ghost use Rattle.packet_core.specs.Packets.{PacketParts};
+ghost use Rattle.maltcove_c.specs.Records.{Says, SaysInFlow, address_in, admitted_told, cause_code, dropped_told, ecn_bits, ecn_in, fault_told, flow_told, flushed_told, idle_told, mark_code, nothing_told, params_told, sent_told, totals_told};
+
+use packet_core::{Classify, Ecn, EcnUse, FiveTuple, Ip, Packet, ParamFault, Params};
+use sched_core::{Cause, FlowView, Mark, Sent};
+use shaper_core::{Dropped, Enqueued, Handle, ShaperTotals};
+
+/// A packet that comes.
+#[repr(C)]
+pub struct MaltcovePacket {
+    /// What the caller knows it by.
+    pub(crate) tag: u64,
+    /// Its length in bytes.
+    pub(crate) len: u32,
+    /// The source port.
+    pub(crate) sport: u16,
+    /// The destination port.
+    pub(crate) dport: u16,
+    /// The source address: of IPv4 the first four bytes.
+    pub(crate) src: [u8; 16],
+    /// The destination address: of IPv4 the first four bytes.
+    pub(crate) dst: [u8; 16],
+    /// The protocol's number.
+    pub(crate) proto: u8,
+    /// The ECN field, from 0 to 3.
+    pub(crate) ecn: u8,
+    /// The version of IP, 4 or 6.
+    pub(crate) version: u8,
+}
+
+const _: () = prove!(size_of::<MaltcovePacket>() == 56);
+
+/// What is said of a packet that was accepted.
+#[repr(C)]
+#[derive(Drop)]
+pub struct MaltcoveAdmitted {
+    /// Its place in the order of acceptance, from 0.
+    pub(crate) id: u64,
+    /// How many packets were dropped.
+    pub(crate) drops: u64,
+    /// The flow that it went to.
+    pub(crate) flow: u32,
+}
+
+const _: () = prove!(size_of::<MaltcoveAdmitted>() == 24);
+
+/// A packet that goes.
+#[repr(C)]
+#[derive(Drop)]
+pub struct MaltcoveSent {
+    /// Its tag.
+    pub(crate) tag: u64,
+    /// Its id.
+    pub(crate) id: u64,
+    /// How many packets were dropped before it.
+    pub(crate) drops: u64,
+    /// Its length in bytes.
+    pub(crate) len: u32,
+    /// Its ECN field as sent.
+    pub(crate) ecn: u8,
+    /// Whether it was marked, and by what.
+    pub(crate) mark: u8,
+}
+
+const _: () = prove!(size_of::<MaltcoveSent>() == 32);
+
+/// A packet that was dropped.
+#[repr(C)]
+#[derive(Drop)]
+pub struct MaltcoveDropped {
+    /// Its tag.
+    pub(crate) tag: u64,
+    /// Its id.
+    pub(crate) id: u64,
+    /// Why.
+    pub(crate) cause: u8,
+}
+
+const _: () = prove!(size_of::<MaltcoveDropped>() == 24);
+
+/// A packet that was flushed.
+#[repr(C)]
+#[derive(Drop)]
+pub struct MaltcoveFlushed {
+    /// Its tag.
+    pub(crate) tag: u64,
+    /// Its id.
+    pub(crate) id: u64,
+}
+
+const _: () = prove!(size_of::<MaltcoveFlushed>() == 16);
+
+/// What became of the packets.
+#[repr(C)]
+#[derive(Drop)]
+pub struct MaltcoveTotals {
+    pub(crate) accepted: u64,
+    pub(crate) accepted_bytes: u64,
+    pub(crate) sent: u64,
+    pub(crate) sent_bytes: u64,
+    pub(crate) dropped_codel: u64,
+    pub(crate) dropped_overflow: u64,
+    pub(crate) dropped_bytes: u64,
+    pub(crate) flushed: u64,
+    pub(crate) flushed_bytes: u64,
+    pub(crate) marked: u64,
+    pub(crate) threshold_marked: u64,
+    pub(crate) queued: u64,
+    pub(crate) queued_bytes: u64,
+    pub(crate) closed: bool,
+}
+
+const _: () = prove!(size_of::<MaltcoveTotals>() == 112);
+
+/// What is kept of a flow.
+#[repr(C)]
+#[derive(Drop)]
+pub struct MaltcoveFlow {
+    pub(crate) queued: u64,
+    pub(crate) queued_bytes: u64,
+    pub(crate) credits: i64,
+    pub(crate) first_above: u64,
+    pub(crate) drop_next: u64,
+    pub(crate) count: u64,
+    pub(crate) last_count: u64,
+    pub(crate) has_first_above: bool,
+    pub(crate) dropping: bool,
+}
+
+const _: () = prove!(size_of::<MaltcoveFlow>() == 64);
+
+/// The parameters.
+#[repr(C)]
+#[derive(Drop)]
+pub struct MaltcoveParams {
+    pub(crate) target: u64,
+    pub(crate) interval: u64,
+    pub(crate) ce_threshold: u64,
+    pub(crate) memory_limit: u64,
+    pub(crate) limit: u32,
+    pub(crate) flows: u32,
+    pub(crate) quantum: u32,
+    pub(crate) mtu: u32,
+    pub(crate) drop_batch: u32,
+    pub(crate) has_ce_threshold: bool,
+    pub(crate) has_memory_limit: bool,
+    pub(crate) ecn: bool,
+    pub(crate) hash: bool,
+}
+
+const _: () = prove!(size_of::<MaltcoveParams>() == 56);
+
+/// Which parameter word is wrong, and in what way.
+#[repr(C)]
+#[derive(Drop)]
+pub struct MaltcoveFault {
+    /// The place of the word, from 1, and 0 where none is named.
+    pub(crate) place: u64,
+    /// In what way it is wrong.
+    pub(crate) kind: i32,
+}
+
+const _: () = prove!(size_of::<MaltcoveFault>() == 16);
+
+/// No word is wrong.
+pub(crate) const NO_FAULT: i32 = 0;
+
+/// The word names no parameter.
+pub(crate) const UNKNOWN_WORD: i32 = 1;
+
+/// The parameter has no value after it.
+pub(crate) const MISSING_VALUE: i32 = 2;
+
+/// The value isn't written as a number or a time is.
+pub(crate) const NOT_A_NUMBER: i32 = 3;
+
+/// The value is out of its range.
+pub(crate) const OUT_OF_RANGE: i32 = 4;
+
+/// The text isn't UTF-8.
+pub(crate) const NOT_TEXT: i32 = 5;
+
+/// The ECN field of two bits.
+pub(crate) fn ecn_of(bits: u8) -> Option<Ecn>
+    ensures { result ≡ ecn_in bits }
+{
+    match bits {
+        0 => Some(Ecn::NotEct),
+        1 => Some(Ecn::Ect1),
+        2 => Some(Ecn::Ect0),
+        3 => Some(Ecn::Ce),
+        _ => None,
+    }
+}
+
+/// The two bits of an ECN field.
+pub(crate) fn bits_of(ecn: Ecn) -> u8
+    ensures { result ≡ ecn_bits ecn }
+{
+    match ecn {
+        Ecn::NotEct => 0,
+        Ecn::Ect1 => 1,
+        Ecn::Ect0 => 2,
+        Ecn::Ce => 3,
+    }
+}
+
+/// The address in these bytes, of that version of IP.
+fn address_of(version: u8, bytes: &[u8; 16]) -> Option<Ip>
+    ensures { result ≡ address_in version bytes.now }
+{
+    match version {
+        4 => Some(Ip::V4([bytes[0], bytes[1], bytes[2], bytes[3]])),
+        6 => Some(Ip::V6(*bytes)),
+        _ => None,
+    }
+}
+
+/// The packet that C describes, if there is such a one.
+pub(crate) fn packet_of(p: &MaltcovePacket) -> Option<Packet>
+    ensures said { IfSome result (Says p.now) }
+    ensures none { IsNone result → (packet : PacketParts) → ¬ Says p.now packet }
+{
+    let tuple = FiveTuple {
+        proto: p.proto,
+        src: address_of(p.version, &p.src)?,
+        dst: address_of(p.version, &p.dst)?,
+        sport: p.sport,
+        dport: p.dport,
+    };
+    let packet = Packet::try_new(tuple, p.len, ecn_of(p.ecn)?).ok()?;
+    Some(packet.with_tag(p.tag))
+}
+
+/// A packet whose destination port is the number of its flow, and which is 0 else.
+pub(crate) fn packet_in_flow(flow: u16, len: u32, ecn: u8, tag: u64) -> Option<Packet>
+    ensures said { IfSome result (SaysInFlow flow len ecn tag) }
+    ensures none { IsNone result → (packet : PacketParts) → ¬ SaysInFlow flow len ecn tag packet }
+{
+    let tuple = FiveTuple {
+        proto: 0,
+        src: Ip::V4([0; 4]),
+        dst: Ip::V4([0; 4]),
+        sport: 0,
+        dport: flow,
+    };
+    let packet = Packet::try_new(tuple, len, ecn_of(ecn)?).ok()?;
+    Some(packet.with_tag(tag))
+}
+
+/// What C is told of a packet that was accepted.
+pub(crate) fn admitted_of(enqueued: &Enqueued) -> MaltcoveAdmitted
+    ensures { result ≡ admitted_told enqueued.now }
+{
+    MaltcoveAdmitted {
+        id: enqueued.id,
+        drops: enqueued.drops,
+        flow: enqueued.flow,
+    }
+}
+
+/// The number of a mark.
+fn mark_code(mark: Mark) -> u8
+    ensures { result ≡ mark_code mark }
+{
+    match mark {
+        Mark::NoMark => 0,
+        Mark::CodelMark => 1,
+        Mark::Threshold => 2,
+    }
+}
+
+/// What C is told of a packet that goes, before which so many were dropped.
+pub(crate) fn sent_of(sent: &Sent, drops: u64) -> MaltcoveSent
+    ensures { result ≡ sent_told sent.now drops }
+{
+    MaltcoveSent {
+        tag: sent.packet.tag(),
+        id: sent.id,
+        drops,
+        len: sent.packet.len(),
+        ecn: bits_of(sent.packet.ecn()),
+        mark: mark_code(sent.mark),
+    }
+}
+
+/// What C is told where no packet goes.
+pub(crate) fn idle_of(drops: u64) -> MaltcoveSent
+    ensures { result ≡ idle_told drops }
+{
+    MaltcoveSent {
+        tag: 0,
+        id: 0,
+        drops,
+        len: 0,
+        ecn: 0,
+        mark: 0,
+    }
+}
+
+/// The number of a cause.
+fn cause_code(cause: Cause) -> u8
+    ensures { result ≡ cause_code cause }
+{
+    match cause {
+        Cause::Codel => 0,
+        Cause::Overflow => 1,
+    }
+}
+
+/// What C is told of a packet that was dropped.
+pub(crate) fn dropped_of(dropped: &Dropped) -> MaltcoveDropped
+    ensures { result ≡ dropped_told dropped.now }
+{
+    MaltcoveDropped {
+        tag: dropped.tag,
+        id: dropped.id,
+        cause: cause_code(dropped.cause),
+    }
+}
+
+/// What C is told of a packet that was flushed.
+pub(crate) fn flushed_of(packet: &Handle) -> MaltcoveFlushed
+    ensures { result ≡ flushed_told packet.now }
+{
+    MaltcoveFlushed {
+        tag: packet.tag,
+        id: packet.id,
+    }
+}
+
+/// The statistics for C.
+pub(crate) fn totals_of(totals: &ShaperTotals) -> MaltcoveTotals
+    ensures { result ≡ totals_told totals.now }
+{
+    MaltcoveTotals {
+        accepted: totals.accepted,
+        accepted_bytes: totals.accepted_bytes,
+        sent: totals.sent,
+        sent_bytes: totals.sent_bytes,
+        dropped_codel: totals.dropped_codel,
+        dropped_overflow: totals.dropped_overflow,
+        dropped_bytes: totals.dropped_bytes,
+        flushed: totals.flushed,
+        flushed_bytes: totals.flushed_bytes,
+        marked: totals.marked,
+        threshold_marked: totals.threshold_marked,
+        queued: totals.queued,
+        queued_bytes: totals.queued_bytes,
+        closed: totals.closed,
+    }
+}
+
+/// What is kept of a flow, for C.
+pub(crate) fn flow_of(view: &FlowView) -> MaltcoveFlow
+    ensures { result ≡ flow_told view.now }
+{
+    MaltcoveFlow {
+        queued: view.len,
+        queued_bytes: view.bytes,
+        credits: view.credits,
+        first_above: view.codel.first_above.unwrap_or(0),
+        drop_next: view.codel.drop_next,
+        count: view.codel.count,
+        last_count: view.codel.lastcount,
+        has_first_above: view.codel.first_above.is_some(),
+        dropping: view.codel.dropping,
+    }
+}
+
+/// The parameters for C.
+pub(crate) fn params_of(params: &Params) -> MaltcoveParams
+    ensures { result ≡ params_told params.now }
+{
+    MaltcoveParams {
+        target: params.target(),
+        interval: params.interval(),
+        ce_threshold: params.ce_threshold().unwrap_or(0),
+        memory_limit: params.memory_limit().unwrap_or(0),
+        limit: params.limit(),
+        flows: params.flows(),
+        quantum: params.quantum(),
+        mtu: params.mtu(),
+        drop_batch: params.drop_batch(),
+        has_ce_threshold: params.ce_threshold().is_some(),
+        has_memory_limit: params.memory_limit().is_some(),
+        ecn: params.ecn() == EcnUse::Mark,
+        hash: params.classify() == Classify::Hash,
+    }
+}
+
+/// No word is wrong, for C.
+pub(crate) fn no_fault() -> MaltcoveFault
+    ensures { result ≡ nothing_told }
+{
+    MaltcoveFault {
+        place: 0,
+        kind: NO_FAULT,
+    }
+}
+
+/// Which word is wrong, for C.
+pub(crate) fn fault_of(fault: ParamFault) -> MaltcoveFault
+    ensures { result ≡ fault_told fault }
+{
+    match fault {
+        ParamFault::UnknownWord(place) => MaltcoveFault {
+            place: place as u64,
+            kind: UNKNOWN_WORD,
+        },
+        ParamFault::MissingValue(place) => MaltcoveFault {
+            place: place as u64,
+            kind: MISSING_VALUE,
+        },
+        ParamFault::NotANumber(place) => MaltcoveFault {
+            place: place as u64,
+            kind: NOT_A_NUMBER,
+        },
+        ParamFault::OutOfRange(place) => MaltcoveFault {
+            place: place as u64,
+            kind: OUT_OF_RANGE,
+        },
+    }
+}

@@ -1,0 +1,94 @@
+//! What the calls answer: numbers that C knows by the names in `maltcove.h`.
+
+ghost use Rattle.std.specs.Prelude.{◌≡◌};
+ghost use Rattle.maltcove_c.specs.Statuses.{close_code, enqueue_code, moment_code, refusal_code};
+
+use sched_core::{CloseFault, MomentFault, Refusal};
+use shaper_core::EnqueueFault;
+
+/// The call was made.
+pub(crate) const OK: i32 = 0;
+
+/// The call was made, and nothing waits.
+pub(crate) const IDLE: i32 = 1;
+
+/// There is no scheduler.
+pub(crate) const NOT_OPEN: i32 = -1;
+
+/// The moment is 2^60 microseconds or more.
+pub(crate) const TOO_LARGE: i32 = -2;
+
+/// The moment is before that of the last call.
+pub(crate) const BACKWARDS: i32 = -3;
+
+/// There was a close.
+pub(crate) const CLOSED: i32 = -4;
+
+/// There are no more ids.
+pub(crate) const EXHAUSTED: i32 = -5;
+
+/// A growth was refused.
+pub(crate) const MEMORY: i32 = -6;
+
+/// A field of a packet is out of its range.
+pub(crate) const BAD_PACKET: i32 = -7;
+
+/// A word is no parameter.
+pub(crate) const BAD_WORDS: i32 = -8;
+
+/// Drops of earlier calls weren't read.
+pub(crate) const UNREAD: i32 = -9;
+
+/// There is a scheduler already.
+pub(crate) const ALREADY_OPEN: i32 = -10;
+
+/// A seed has another length than 16 bytes.
+pub(crate) const BAD_SEED: i32 = -11;
+
+/// There is no flow of that number.
+pub(crate) const BAD_FLOW: i32 = -12;
+
+/// The scheduler chooses the flow by a hash.
+pub(crate) const HASHED: i32 = -13;
+
+/// Why a moment was refused.
+pub(crate) fn moment_code(fault: MomentFault) -> i32
+    ensures { result ≡ moment_code fault }
+{
+    match fault {
+        MomentFault::TooLarge => TOO_LARGE,
+        MomentFault::Backwards { .. } => BACKWARDS,
+    }
+}
+
+/// Why a step was refused.
+fn refusal_code(refusal: Refusal) -> i32
+    ensures { result ≡ refusal_code refusal }
+{
+    match refusal {
+        Refusal::Moment(fault) => moment_code(fault),
+        Refusal::ClosedAlready => CLOSED,
+        Refusal::Exhausted => EXHAUSTED,
+        Refusal::Memory => MEMORY,
+    }
+}
+
+/// Why an enqueue was refused.
+pub(crate) fn enqueue_code(fault: EnqueueFault) -> i32
+    ensures { result ≡ enqueue_code fault }
+{
+    match fault {
+        EnqueueFault::Unread => UNREAD,
+        EnqueueFault::Refused(refusal) => refusal_code(refusal),
+    }
+}
+
+/// Why a close was refused.
+pub(crate) fn close_code(fault: CloseFault) -> i32
+    ensures { result ≡ close_code fault }
+{
+    match fault {
+        CloseFault::Moment(fault) => moment_code(fault),
+        CloseFault::ClosedAlready => CLOSED,
+    }
+}
