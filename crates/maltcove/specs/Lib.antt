@@ -91,5 +91,4 @@ pub use Rattle.shaper_core.specs.declared.answers.Dropped
 pub use Rattle.shaper_core.specs.declared.answers.Enqueued
 pub use Rattle.shaper_core.specs.declared.answers.EnqueueFault
 pub use Rattle.shaper_core.specs.declared.answers.Dequeued
-pub use Rattle.shaper_core.specs.declared.answers.Flushed
 pub use Rattle.shaper_core.specs.declared.totals.ShaperTotals
