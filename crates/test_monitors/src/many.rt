@@ -4,9 +4,9 @@
 ghost use Rattle.std.specs.Prelude.{◌≡◌};
 
 use crate::calls::{SEED, publishes, pumps, submits};
-use crate::fixtures::{one_flow, packet, room_for_one};
+use crate::fixtures::{one_flow, packet};
 use packet_core::Ecn;
-use port_core::{BookBlank, BookName, Opened, Screen, Seen, Shown, lanes_with_keepers};
+use port_core::{BookBlank, BookName, Layout, Opened, Screen, Seen, Shown, lanes_with_keepers};
 use sched_core::{Event, Keeps, Step, Unstored};
 use std::alloc::Global;
 use std::marker::Brand;
@@ -27,7 +27,11 @@ fn plays<J: BookName, R: Wait + Abort>(rt: &R, alloc: Global, blank: BookBlank)
     requires { blank ≡ J.book }
 {
     let (events, steps) = (Unstored::new(), Unstored::new());
-    let layout = room_for_one(1);
+    let layout = Layout {
+        lanes: 1,
+        capacity: 1,
+        monitors: 1,
+    };
     let mut opened = lanes_with_keepers::<J, _, _, _>(
         rt,
         alloc,
