@@ -16,7 +16,6 @@ pub use Rattle.packet_core.specs.declared.params.Classify
 pub use Rattle.packet_core.specs.declared.params.EcnUse
 pub use Rattle.packet_core.specs.declared.words.ParamFault
 pub use Rattle.packet_core.specs.declared.flow.Seed
-
 -- CoDel (RFC 8289): the spacing of drops, and the verdict over a queue.
 pub use Rattle.codel_core.specs.Root
 pub use Rattle.codel_core.specs.Spacing
@@ -25,11 +24,9 @@ pub use Rattle.codel_core.specs.Queue
 pub use Rattle.codel_core.specs.Verdict
 pub use Rattle.codel_core.specs.declared.state.CodelState
 pub use Rattle.codel_core.specs.declared.served.Mark
-
 -- The queues of all flows.
 pub use Rattle.flow_core.specs.Queues
 pub use Rattle.flow_core.specs.FlowLists
-
 -- Steps and their answers, the journal, its laws and its statistics, for every discipline.
 pub use Rattle.journal_core.specs.State
 pub use Rattle.journal_core.specs.Disciplines
@@ -55,7 +52,6 @@ pub use Rattle.journal_core.specs.declared.event.Event
 pub use Rattle.journal_core.specs.declared.event.Cause
 pub use Rattle.journal_core.specs.declared.totals.Totals
 pub use Rattle.journal_core.specs.declared.tuple_rows.TupleRow
-
 -- FQ-CoDel (RFC 8290): credits, turns and overflow.
 pub use Rattle.fair_core.specs.FairQueues
 pub use Rattle.fair_core.specs.Turns
@@ -68,7 +64,6 @@ pub use Rattle.fair_core.specs.NewFlows
 pub use Rattle.fair_core.specs.Credits
 pub use Rattle.fair_core.specs.Shown
 pub use Rattle.fair_core.specs.declared.flow_view.FlowView
-
 -- The scheduler and the engine, whose calls are steps, and the laws of fair shares.
 pub use Rattle.sched_core.specs.Schedulers
 pub use Rattle.sched_core.specs.AnyStep
@@ -77,7 +72,6 @@ pub use Rattle.sched_core.specs.Choosing
 pub use Rattle.sched_core.specs.Engines
 pub use Rattle.sched_core.specs.Shares
 pub use Rattle.sched_core.specs.Starvation
-
 -- The scheduler for embedders.
 pub use Rattle.shaper_core.specs.Drops
 pub use Rattle.shaper_core.specs.ShaperTotals as TotalsOfShapers
