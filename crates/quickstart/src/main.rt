@@ -17,7 +17,10 @@ fn main(rt: HostRuntime) -> Result<()> {
     }
     let dropped = count_drops(&engine);
     let totals = engine.totals();
-    println!(rt; "{} sent, {dropped} dropped, {} queued", totals.sent, totals.queued)?;
+    println!(rt;
+        "{} sent, {dropped} dropped, {} queued",
+        totals.sent, totals.queued
+    )?;
     Ok(())
 }
 
