@@ -1,6 +1,6 @@
 //! Runs of a link, and the tables and the picture of them.
 
-use crate::sizes::{LARGEST, SIZES, first, packet, params, size};
+use crate::sizes::{BELOW, LARGEST, SIZES, first, packet, params, size};
 use link_core::{
     Arrival, Link, LinkFields, run_fifo, run_fifo_with_keeper, run_link, run_link_with_keepers,
 };
@@ -23,7 +23,16 @@ const EVERY: u64 = 100_000;
 fn runs_of_a_link(rt: HostRuntime) {
     let arrivals = arrivals(&rt);
     let link = the_link(&rt);
-    for number in 0..SIZES {
+    for number in 0..BELOW {
+        stored(&rt, &link, first(&rt, &arrivals, size(number)));
+    }
+}
+
+#[test]
+fn long_runs_of_a_link(rt: HostRuntime) {
+    let arrivals = arrivals(&rt);
+    let link = the_link(&rt);
+    for number in BELOW..SIZES {
         stored(&rt, &link, first(&rt, &arrivals, size(number)));
     }
 }
@@ -32,7 +41,15 @@ fn runs_of_a_link(rt: HostRuntime) {
 #[test]
 fn tables_of_packets(rt: HostRuntime) {
     let events = journal(&rt);
-    for number in 0..SIZES {
+    for number in 0..BELOW {
+        tables(&rt, first(&rt, &events, 2 * size(number)));
+    }
+}
+
+#[test]
+fn tables_of_many_packets(rt: HostRuntime) {
+    let events = journal(&rt);
+    for number in BELOW..SIZES {
         tables(&rt, first(&rt, &events, 2 * size(number)));
     }
 }
@@ -41,7 +58,15 @@ fn tables_of_packets(rt: HostRuntime) {
 #[test]
 fn tables_of_bins(rt: HostRuntime) {
     let events = journal(&rt);
-    for number in 0..SIZES {
+    for number in 0..BELOW {
+        pictures(&rt, first(&rt, &events, 2 * size(number)));
+    }
+}
+
+#[test]
+fn tables_of_bins_of_many(rt: HostRuntime) {
+    let events = journal(&rt);
+    for number in BELOW..SIZES {
         pictures(&rt, first(&rt, &events, 2 * size(number)));
     }
 }

@@ -1,6 +1,6 @@
 //! The programs over texts of so many rows.
 
-use crate::sizes::{SIZES, size};
+use crate::sizes::{BELOW, SIZES, size};
 use link_command::Terminals;
 use std::alloc::{AllocError, Global};
 use std::process::Abort;
@@ -14,37 +14,55 @@ const ROWS: usize = 1_000_000;
 /// A trace is run.
 #[test]
 fn traces(rt: HostRuntime) {
-    for number in 0..SIZES {
-        let text = rows(rt.alloc(), size(number).min(ROWS)).expect(&rt, "memory");
-        fqsim(&rt, &["trace"], &text);
-    }
+    fqsim(&rt, &["trace"], 0, BELOW);
+}
+
+#[test]
+fn long_traces(rt: HostRuntime) {
+    fqsim(&rt, &["trace"], BELOW, SIZES);
 }
 
 /// By senders with a lock.
 #[test]
 fn traces_by_senders(rt: HostRuntime) {
-    for number in 0..SIZES {
-        let text = rows(rt.alloc(), size(number).min(ROWS)).expect(&rt, "memory");
-        fqsim(&rt, &["locked", "--senders", "2"], &text);
-    }
+    fqsim(&rt, &["locked", "--senders", "2"], 0, BELOW);
+}
+
+#[test]
+fn long_traces_by_senders(rt: HostRuntime) {
+    fqsim(&rt, &["locked", "--senders", "2"], BELOW, SIZES);
 }
 
 /// By senders with lanes, while a monitor reads.
 #[test]
 fn traces_by_lanes(rt: HostRuntime) {
-    for number in 0..SIZES {
-        let text = rows(rt.alloc(), size(number).min(ROWS)).expect(&rt, "memory");
-        fqsim(&rt, &["lanes", "--senders", "2", "--monitors", "1"], &text);
-    }
+    fqsim(
+        &rt,
+        &["lanes", "--senders", "2", "--monitors", "1"],
+        0,
+        BELOW,
+    );
+}
+
+#[test]
+fn long_traces_by_lanes(rt: HostRuntime) {
+    fqsim(
+        &rt,
+        &["lanes", "--senders", "2", "--monitors", "1"],
+        BELOW,
+        SIZES,
+    );
 }
 
 /// Through a link.
 #[test]
 fn arrivals_at_a_link(rt: HostRuntime) {
-    for number in 0..SIZES {
-        let text = rows(rt.alloc(), size(number).min(ROWS)).expect(&rt, "memory");
-        maltlink(&rt, &["--rate", "10gbit"], &text);
-    }
+    maltlink(&rt, &["--rate", "10gbit"], 0, BELOW);
+}
+
+#[test]
+fn many_arrivals_at_a_link(rt: HostRuntime) {
+    maltlink(&rt, &["--rate", "10gbit"], BELOW, SIZES);
 }
 
 /// So many packets come, each of another five-tuple.
@@ -60,28 +78,48 @@ fn rows(alloc: Global, number: usize) -> Result<String, AllocError> {
     Ok(text)
 }
 
-fn fqsim(rt: &(impl Abort + AllocGlobal + Threads + Wait + Sync), words: &[&str], text: &str) {
-    let (mut written, mut told) = (Vec::new(rt.alloc()), Vec::new(rt.alloc()));
-    let mut reader = text.as_bytes();
-    let ended = program_core::program(rt, rt.alloc(), words, &mut reader, &mut written, &mut told);
-    assert_eq!(rt; ended, 0);
+/// Runs over traces of the sizes from that number to that one.
+fn fqsim(
+    rt: &(impl Abort + AllocGlobal + Threads + Wait + Sync),
+    words: &[&str],
+    from: usize,
+    to: usize,
+) {
+    for number in from..to {
+        let text = rows(rt.alloc(), size(number).min(ROWS)).expect(rt, "memory");
+        let (mut written, mut told) = (Vec::new(rt.alloc()), Vec::new(rt.alloc()));
+        let mut reader = text.as_bytes();
+        let ended = program_core::program(
+            rt,
+            rt.alloc(),
+            words,
+            &mut reader,
+            &mut written,
+            &mut told,
+        );
+        assert_eq!(rt; ended, 0);
+    }
 }
 
-fn maltlink(rt: &(impl Abort + AllocGlobal), words: &[&str], text: &str) {
-    let (mut written, mut told) = (Vec::new(rt.alloc()), Vec::new(rt.alloc()));
-    let mut reader = text.as_bytes();
-    let none = Terminals {
-        input: false,
-        faults: false,
-    };
-    let ended = link_command::program(
-        rt.alloc(),
-        words,
-        &mut reader,
-        &mut written,
-        &mut told,
-        none,
-    );
-    assert_eq!(rt; str::from_utf8(&told).ok(), Some(""));
-    assert_eq!(rt; ended, 0);
+/// The same over arrivals at a link.
+fn maltlink(rt: &(impl Abort + AllocGlobal), words: &[&str], from: usize, to: usize) {
+    for number in from..to {
+        let text = rows(rt.alloc(), size(number).min(ROWS)).expect(rt, "memory");
+        let (mut written, mut told) = (Vec::new(rt.alloc()), Vec::new(rt.alloc()));
+        let mut reader = text.as_bytes();
+        let none = Terminals {
+            input: false,
+            faults: false,
+        };
+        let ended = link_command::program(
+            rt.alloc(),
+            words,
+            &mut reader,
+            &mut written,
+            &mut told,
+            none,
+        );
+        assert_eq!(rt; str::from_utf8(&told).ok(), Some(""));
+        assert_eq!(rt; ended, 0);
+    }
 }

@@ -9,6 +9,9 @@ use test_support::by_port;
 /// How many sizes there are.
 pub(crate) const SIZES: usize = 40;
 
+/// How many of them are below 2^20. What takes long has a test for these, and one for the others.
+pub(crate) const BELOW: usize = 38;
+
 /// The largest of them.
 pub(crate) const LARGEST: usize = 1_048_577;
 
