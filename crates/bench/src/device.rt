@@ -5,7 +5,7 @@
 use crate::receiver::Receiver;
 use packet_core::Packet;
 use port_core::{LockedPort, PortSeat};
-use sched_core::{Engine, Event, Keeps, Sched};
+use sched_core::{Engine, Event, Recorder, Sched};
 use std::sync::Wait;
 use std::sync::ledger::Ledger;
 
@@ -25,7 +25,7 @@ pub trait Device {
     fn queued(&mut self) -> u64;
 }
 
-impl<K: Keeps<Event>> Device for Sched<K> {
+impl<K: Recorder> Device for Sched<K> {
     #[inline(always)]
     fn enqueue(&mut self, moment: u64, packet: Packet) -> Result<(), Refused> {
         if self.enqueue(moment, 0, packet).is_err() {

@@ -12,7 +12,7 @@ use port_core::{
     Shown, lanes, send_lane,
 };
 use rtrb::{Producer, RingBuffer};
-use sched_core::{Engine, Event, Keeps, Step};
+use sched_core::{Engine, Event, Recorder, Step, StepRecorder};
 use std::alloc::AllocError;
 use std::marker::Brand;
 use std::rt::Clock;
@@ -179,7 +179,7 @@ fn pumping_from<J: BookName, X: Screen<Shown<J>> + Drop, R: Clock>(
 }
 
 /// Pumps the packets out of the first lane. It answers whether all came.
-fn pump_out<J: BookName, X: Screen<Shown<J>> + Drop, K: Keeps<Event>, S: Keeps<Step>>(
+fn pump_out<J: BookName, X: Screen<Shown<J>> + Drop, K: Recorder, S: StepRecorder>(
     device: &mut Device<J, X, K, S>,
 ) -> bool {
     for _ in 0..=u64::from(ROUNDS) / BURST {
@@ -191,7 +191,7 @@ fn pump_out<J: BookName, X: Screen<Shown<J>> + Drop, K: Keeps<Event>, S: Keeps<S
 }
 
 /// Pumps that lane once. It answers whether there is such a lane, and memory.
-pub fn pump_one<J: BookName, X: Screen<Shown<J>> + Drop, K: Keeps<Event>, S: Keeps<Step>>(
+pub fn pump_one<J: BookName, X: Screen<Shown<J>> + Drop, K: Recorder, S: StepRecorder>(
     device: &mut Device<J, X, K, S>,
     lane: u32,
 ) -> bool {
@@ -206,7 +206,7 @@ fn enqueuing<R: AllocGlobal + Clock>(rt: &R, packet: Packet) -> Result<u128, Fau
 }
 
 /// The same, of an engine that was made.
-fn enqueuing_into<K: Keeps<Event>, S: Keeps<Step>, R: Clock>(
+fn enqueuing_into<K: Recorder, S: StepRecorder, R: Clock>(
     rt: &R,
     engine: &mut Engine<K, S>,
     packet: Packet,
@@ -217,7 +217,7 @@ fn enqueuing_into<K: Keeps<Event>, S: Keeps<Step>, R: Clock>(
 }
 
 /// Enqueues the packets. It answers whether all were accepted.
-fn enqueue_all<K: Keeps<Event>, S: Keeps<Step>>(engine: &mut Engine<K, S>, packet: Packet) -> bool {
+fn enqueue_all<K: Recorder, S: StepRecorder>(engine: &mut Engine<K, S>, packet: Packet) -> bool {
     for _ in 0..ROUNDS {
         if engine.enqueue(MOMENT, 0, packet).is_err() {
             return false;
@@ -314,14 +314,14 @@ fn send_all<R: Threads + Sync>(
 }
 
 /// Whether all packets of a repetition were sent.
-pub fn has_sent_all<J: BookName, X: Screen<Shown<J>> + Drop, K: Keeps<Event>, S: Keeps<Step>>(
+pub fn has_sent_all<J: BookName, X: Screen<Shown<J>> + Drop, K: Recorder, S: StepRecorder>(
     device: &Device<J, X, K, S>,
 ) -> bool {
     device.engine().totals().sent == u64::from(ROUNDS)
 }
 
 /// The device takes packets until it has sent so many, or is refused, or has looked too often.
-pub fn take_all<J: BookName, X: Screen<Shown<J>> + Drop, K: Keeps<Event>, S: Keeps<Step>>(
+pub fn take_all<J: BookName, X: Screen<Shown<J>> + Drop, K: Recorder, S: StepRecorder>(
     device: Device<J, X, K, S>,
     packets: u64,
 ) -> Device<J, X, K, S> {
@@ -335,7 +335,7 @@ pub fn take_all<J: BookName, X: Screen<Shown<J>> + Drop, K: Keeps<Event>, S: Kee
 }
 
 /// Pumps each lane once, and sends what waits then. It answers whether nothing was refused.
-pub fn take_some<J: BookName, X: Screen<Shown<J>> + Drop, K: Keeps<Event>, S: Keeps<Step>>(
+pub fn take_some<J: BookName, X: Screen<Shown<J>> + Drop, K: Recorder, S: StepRecorder>(
     device: &mut Device<J, X, K, S>,
 ) -> bool {
     for lane in 0..device.lanes() {

@@ -9,7 +9,7 @@ use crate::timing::{Fault, nanoseconds_since, now, packet_to};
 use crate::workload::{REPETITIONS, ROUNDS};
 use packet_core::{Ecn, Packet};
 use port_core::{BookBlank, BookName, Device, LaneSender, Monitor, Opened, Screen, Shown};
-use sched_core::{Event, Keeps, Step};
+use sched_core::{Event, Recorder, Step, StepRecorder};
 use std::alloc::AllocError;
 use std::marker::{Brand, Send, Sync};
 use std::rt::Clock;
@@ -61,13 +61,7 @@ fn publishing_on<J: BookName, X: Screen<Shown<J>> + Drop, R: Clock>(
 }
 
 /// Accepts so many packets and publishes them, over and over, and gives the time that the publishes took.
-fn publish_often<
-    J: BookName,
-    X: Screen<Shown<J>> + Drop,
-    K: Keeps<Event>,
-    S: Keeps<Step>,
-    R: Clock,
->(
+fn publish_often<J: BookName, X: Screen<Shown<J>> + Drop, K: Recorder, S: StepRecorder, R: Clock>(
     rt: &R,
     senders: &mut Vec<LaneSender>,
     device: &mut Device<J, X, K, S>,
@@ -84,7 +78,7 @@ fn publish_often<
 }
 
 /// So many packets come out of the first lane. It answers whether none was refused.
-fn accept<J: BookName, X: Screen<Shown<J>> + Drop, K: Keeps<Event>, S: Keeps<Step>>(
+fn accept<J: BookName, X: Screen<Shown<J>> + Drop, K: Recorder, S: StepRecorder>(
     senders: &mut Vec<LaneSender>,
     device: &mut Device<J, X, K, S>,
     packet: Packet,
@@ -98,7 +92,7 @@ fn accept<J: BookName, X: Screen<Shown<J>> + Drop, K: Keeps<Event>, S: Keeps<Ste
 }
 
 /// The time that a publish takes.
-fn publish_once<J: BookName, X: Screen<Shown<J>> + Drop, K: Keeps<Event>, S: Keeps<Step>, R: Clock>(
+fn publish_once<J: BookName, X: Screen<Shown<J>> + Drop, K: Recorder, S: StepRecorder, R: Clock>(
     rt: &R,
     device: &mut Device<J, X, K, S>,
 ) -> Result<u128, Fault> {
@@ -202,7 +196,7 @@ fn read_all<J: BookName>(monitor: &mut Monitor<J>) -> bool {
 }
 
 /// Publishes until the reads have ended, and gives the device back.
-fn publish_on<J: BookName, X: Screen<Shown<J>> + Drop, K: Keeps<Event>, S: Keeps<Step>, R: Wait>(
+fn publish_on<J: BookName, X: Screen<Shown<J>> + Drop, K: Recorder, S: StepRecorder, R: Wait>(
     rt: &R,
     device: Device<J, X, K, S>,
     ended: &AtomicBool,
@@ -283,7 +277,7 @@ fn unless_refused(
 }
 
 /// Pumps the packets of the lane, sends what waits and publishes, until no packet is left or it is refused.
-fn pass_all<J: BookName, X: Screen<Shown<J>> + Drop, K: Keeps<Event>, S: Keeps<Step>>(
+fn pass_all<J: BookName, X: Screen<Shown<J>> + Drop, K: Recorder, S: StepRecorder>(
     device: Device<J, X, K, S>,
 ) -> Device<J, X, K, S> {
     let mut device = device;

@@ -8,12 +8,12 @@ use crate::device::{Device, OnPort, Refused};
 use crate::receiver::{Reading, Unread};
 use crate::rounds::{Traffic, fill, rounds};
 use crate::times::{Times, no_times};
-use crate::workload::{Keeper, Outgoing, Through, Workload};
+use crate::workload::{Outgoing, Recording, Through, Workload};
 use packet_core::{
     Ecn, FiveTuple, Ip, LengthOutOfRange, Packet, ParamFields, ParamName, Params, Seed,
 };
 use port_core::LockedPort;
-use sched_core::{Engine, Event, Keeps, Sched, Stored, Unstored};
+use sched_core::{Engine, EventList, NullRecorder, Recorder, Sched};
 use std::alloc::{AllocError, AllocFailed, Global};
 use std::io;
 use std::marker::Brand;
@@ -175,8 +175,10 @@ fn run_once<R: AllocGlobal + Clock + Wait + Clone + Drop>(
     workload: &Workload,
 ) -> Result<Timed, Fault> {
     match workload.through {
-        Through::Sched(Keeper::Stored) => { run_with_keeper(rt, workload, Stored::new(rt.alloc())) }
-        Through::Sched(Keeper::Unstored) => run_with_keeper(rt, workload, Unstored::new()),
+        Through::Sched(Recording::Stored) => {
+            run_with_recorder(rt, workload, EventList::new(rt.alloc()))
+        }
+        Through::Sched(Recording::Unstored) => run_with_recorder(rt, workload, NullRecorder::new()),
         Through::Engine => {
             let mut engine = Engine::try_new(rt.alloc(), params_of(workload)?, SEED)?;
             run_through(rt, workload, &mut engine)
@@ -187,16 +189,17 @@ fn run_once<R: AllocGlobal + Clock + Wait + Clone + Drop>(
     }
 }
 
-/// The same with a journal that tells its events to that keeper.
-fn run_with_keeper<R: AllocGlobal + Clock, K: Keeps<Event>>(
+/// The same through a scheduler over that recorder.
+fn run_with_recorder<R: AllocGlobal + Clock, K: Recorder>(
     rt: &R,
     workload: &Workload,
-    keeper: K,
+    recorder: K,
 ) -> Result<Timed, Fault>
-    requires untold { K.told keeper ≡ [] }
-    requires no_loss { K.lost keeper ≡ [] }
+    requires untold { K.told recorder ≡ [] }
+    requires none_sent { K.sent recorder ≡ [] }
+    requires no_loss { K.lost recorder ≡ [] }
 {
-    let mut sched = Sched::try_with_keeper(rt.alloc(), params_of(workload)?, SEED, keeper)?;
+    let mut sched = Sched::try_with_recorder(rt.alloc(), params_of(workload)?, SEED, recorder)?;
     run_through(rt, workload, &mut sched)
 }
 

@@ -6,9 +6,9 @@ use crate::lanes::{params, take_all};
 use crate::timing::{Fault, SEED, packet_to};
 use packet_core::{Ecn, Packet};
 use port_core::{
-    BookBlank, BookName, Device, LaneSender, Layout, Opened, Screen, Shown, lanes_with_keepers,
+    BookBlank, BookName, Device, LaneSender, Layout, Opened, Screen, Shown, lanes_with_recorders,
 };
-use sched_core::{Step, Totals, Unstored};
+use sched_core::{NullRecorder, Step, Totals};
 use std::alloc::AllocError;
 use std::marker::Brand;
 use std::sync::Wait;
@@ -27,7 +27,7 @@ const CAPACITY: u32 = 1_024;
 const MAX_TRIES: u64 = 1_000_000_000;
 
 /// A device that stores neither its events nor its steps.
-type Passing<J, X> = Device<J, X, Unstored, Unstored<Step>>;
+type Passing<J, X> = Device<J, X, NullRecorder, NullRecorder>;
 
 /// What became of the packets.
 pub fn totals_of_passing<R: AllocGlobal + Threads + Wait + Sync>(rt: &R) -> Result<Totals, Fault> {
@@ -47,15 +47,15 @@ fn pass<J: BookName, R: AllocGlobal + Threads + Wait + Sync>(
         capacity: CAPACITY,
         monitors: 0,
     };
-    let opened = lanes_with_keepers::<J, _, _, _>(
+    let opened = lanes_with_recorders::<J, _, _, _>(
         rt,
         rt.alloc(),
         blank,
         params()?,
         SEED,
         layout,
-        Unstored::new(),
-        Unstored::new(),
+        NullRecorder::new(),
+        NullRecorder::new(),
     )
     .ok()
     .ok_or(Fault::Memory)?;
@@ -65,7 +65,7 @@ fn pass<J: BookName, R: AllocGlobal + Threads + Wait + Sync>(
 /// Has the packets go through lanes that were opened.
 fn passed<J: BookName, X: Screen<Shown<J>> + Drop, R: Threads + Sync>(
     rt: &R,
-    opened: Opened<J, X, Unstored, Unstored<Step>>,
+    opened: Opened<J, X, NullRecorder, NullRecorder>,
     packet: Packet,
 ) -> Result<Totals, Fault> {
     let (sent, device) = at_once(rt, opened, packet);
@@ -81,7 +81,7 @@ fn unless_refused(sent: Result<(), AllocError>, totals: Totals) -> Result<Totals
 /// The device takes packets while the senders submit theirs.
 fn at_once<J: BookName, X: Screen<Shown<J>> + Drop, R: Threads + Sync>(
     rt: &R,
-    opened: Opened<J, X, Unstored, Unstored<Step>>,
+    opened: Opened<J, X, NullRecorder, NullRecorder>,
     packet: Packet,
 ) -> (Result<(), AllocError>, Passing<J, X>) {
     let Opened {

@@ -29,20 +29,20 @@ pub enum Round {
     TwoEnqueuesDequeue,
 }
 
-/// What the journal tells its events to.
+/// What becomes of the events.
 #[derive(Clone, Copy, Debug, PartialEq, Eq)]
-pub enum Keeper {
-    /// One that stores them all.
+pub enum Recording {
+    /// All are stored.
     Stored,
-    /// One that stores none.
+    /// None is.
     Unstored,
 }
 
 /// What the steps go through.
 #[derive(Clone, Copy, Debug, PartialEq, Eq)]
 pub enum Through {
-    /// A scheduler, whose journal tells its events to that keeper.
-    Sched(Keeper),
+    /// A scheduler, with that recording of its events.
+    Sched(Recording),
     /// An engine, which stores its events and its steps.
     Engine,
     /// A locked port with such an engine, by its one seat.
@@ -149,7 +149,7 @@ const OVERLOAD: Workload = Workload {
     ecn: Ecn::NotEct,
     ecn_use: EcnUse::Drop,
     classify: Classify::Dport,
-    through: Through::Sched(Keeper::Stored),
+    through: Through::Sched(Recording::Stored),
     outgoing: Outgoing::Left,
 };
 
@@ -282,31 +282,31 @@ pub static WORKLOADS: [Workload; 25] = [
     Workload {
         name: "one_unstored",
         about: "as one, with a journal that stores no event",
-        through: Through::Sched(Keeper::Unstored),
+        through: Through::Sched(Recording::Unstored),
         ..ONE
     },
     Workload {
         name: "few_unstored",
         about: "as few, with a journal that stores no event",
-        through: Through::Sched(Keeper::Unstored),
+        through: Through::Sched(Recording::Unstored),
         ..FEW
     },
     Workload {
         name: "many_unstored",
         about: "as many, with a journal that stores no event",
-        through: Through::Sched(Keeper::Unstored),
+        through: Through::Sched(Recording::Unstored),
         ..MANY
     },
     Workload {
         name: "overflow_unstored",
         about: "as overflow, with a journal that stores no event",
-        through: Through::Sched(Keeper::Unstored),
+        through: Through::Sched(Recording::Unstored),
         ..OVERLOAD
     },
     Workload {
         name: "codel_unstored",
         about: "as codel, with a journal that stores no event",
-        through: Through::Sched(Keeper::Unstored),
+        through: Through::Sched(Recording::Unstored),
         ..CODEL
     },
     Workload {

@@ -109,6 +109,7 @@ drops_join book moment why ws (v ∷ vs) =
     first_of : (b : Book) → with_drops b moment why (v ∷ vs) ≡ with_drops (with_drops b moment why (v ∷ [])) moment why vs
     first_of b = λ i. record {
       events = sym (append_assoc b.events (drop_event moment why v ∷ []) (map (drop_event moment why) vs)) i;
+      sent = b.sent;
       lost = sym (append_assoc b.lost (v ∷ []) vs) i;
       counts = count_drops why b.counts (v ∷ vs);
       room = room_is i;

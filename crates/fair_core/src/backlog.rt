@@ -14,7 +14,7 @@ use crate::account::Account;
 use crate::flow_view::FlowView;
 use codel_core::{Codel, Served};
 use flow_core::Flows;
-use journal_core::{Cause, Event, Fates, Journal, Keeps, Memory};
+use journal_core::{Cause, Event, Fates, Journal, Memory, Recorder};
 use packet_core::{Params, Waiting};
 use std::alloc::Global;
 use std::marker::Model;
@@ -91,6 +91,18 @@ impl Backlog {
         ensures err { OnErr result (self.new ≡ self.old) }
     {
         self.flows.reserve(arrivals)
+    }
+
+    /// The queues and the lists of flows, once no flow takes a turn any more.
+    pub fn into_flows(self) -> Flows
+        ensures { result.lists ≡ self.queues.lists }
+    {
+        let Backlog {
+            flows,
+            accounts: _,
+            arrived: _,
+        } = self;
+        flows
     }
 
     /// How many packets came so far.
@@ -185,12 +197,7 @@ impl Backlog {
 
     /// As long as more packets wait than `limit`, or more bytes than `memory_limit`, the flow with the most bytes loses
     /// a batch from its head, which the journal records (RFC 8290, section 4.1).
-    pub fn overflow<K: Keeps<Event>>(
-        &mut self,
-        params: &Params,
-        moment: u64,
-        journal: &mut Journal<K>,
-    )
+    pub fn overflow<K: Recorder>(&mut self, params: &Params, moment: u64, journal: &mut Journal<K>)
         requires { waiting_in self.old.queues.lists ≤ journal.old.room }
         ensures { DropsOverflow params.now moment self.old journal.old self.new journal.new }
     {
@@ -217,7 +224,7 @@ impl Backlog {
     // queue goes, so that a flood pays for one look for the fattest flow once in many packets.
     // Kept out of an enqueue: most lose nothing.
     #[inline(never)]
-    fn lose_batch<K: Keeps<Event>>(&mut self, most: u32, moment: u64, journal: &mut Journal<K>)
+    fn lose_batch<K: Recorder>(&mut self, most: u32, moment: u64, journal: &mut Journal<K>)
         requires most { 1 ≤ most }
         requires waits { 0 < waiting_in self.old.queues.lists }
         requires room { waiting_in self.old.queues.lists ≤ journal.old.room }
@@ -234,7 +241,7 @@ impl Backlog {
     /// section 4.2). What CoDel drops goes to the journal.
     // Merged into a dequeue, as the turn that serves a flow is: the packet served is then copied out of its slot once.
     #[inline(always)]
-    pub fn serve<K: Keeps<Event>>(
+    pub fn serve<K: Recorder>(
         &mut self,
         now: u64,
         params: &Params,
@@ -268,7 +275,7 @@ impl Backlog {
 
     /// One turn of the flow at the head (RFC 8290, section 4.2).
     #[inline(always)]
-    fn turn<K: Keeps<Event>>(
+    fn turn<K: Recorder>(
         &mut self,
         head: Head,
         now: u64,
@@ -339,7 +346,7 @@ impl Backlog {
 
     /// CoDel serves a flow, which has credits above 0. The length of the packet that is given is taken from them.
     #[inline(always)]
-    fn serve_flow<K: Keeps<Event>>(
+    fn serve_flow<K: Recorder>(
         &mut self,
         flow: u32,
         now: u64,
@@ -371,7 +378,7 @@ impl Backlog {
 
 /// CoDel serves the queue of a flow.
 #[inline(always)]
-fn serve_queue<K: Keeps<Event>>(
+fn serve_queue<K: Recorder>(
     flows: &mut Flows,
     flow: u32,
     codel: &mut Codel,
@@ -395,7 +402,7 @@ fn serve_queue<K: Keeps<Event>>(
 }
 
 /// Drops so many packets from the head of a flow's queue, as overflow.
-fn drop_heads<K: Keeps<Event>>(
+fn drop_heads<K: Recorder>(
     flows: &mut Flows,
     flow: u32,
     batch: u64,

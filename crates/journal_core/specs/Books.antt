@@ -8,19 +8,21 @@ use Rattle.journal_core.specs.declared.event.Event.{Event}
 use Rattle.journal_core.specs.declared.journal.Counts.{Counts}
 use Rattle.journal_core.specs.declared.journal.TheConstants.{MAX_EVENTS}
 
--- the journal as the scheduler sees it: the events, the packets that its keeper was told of as lost, the counts that
--- run along, and how many events more take no memory
+-- the journal as the scheduler sees it: the events, the packets that its recorder was told of as sent and as lost, the
+-- counts that run along, and how many events more take no memory
 pub record Book : Type 0 where
   pub events : List Event
+  pub sent : List Waiting
   pub lost : List Waiting
   pub counts : Counts
   pub room : ℕ
 
--- that of a keeper which was told those events and those losses and has so much room; there is no more than the most
--- events leave
-abbrev pub book_of : List Event → List Waiting → Counts → ℕ → Book
-book_of events lost counts room = record {
+-- that of a recorder which was told those events, departures and losses and has so much room; there is no more than the
+-- most events leave
+abbrev pub book_of : List Event → List Waiting → List Waiting → Counts → ℕ → Book
+book_of events sent lost counts room = record {
   events = events;
+  sent = sent;
   lost = lost;
   counts = counts;
   room = min room (MAX_EVENTS - length events);
@@ -43,10 +45,15 @@ no_counts = record {
 abbrev pub with_event : Book → Event → Counts → Book
 with_event book event counts = record {
   events = book.events ++ event ∷ [];
+  sent = book.sent;
   lost = book.lost;
   counts = counts;
   room = book.room - 1;
 }
+
+-- the same, where that packet is sent
+abbrev pub with_departure : Book → Event → Counts → Waiting → Book
+with_departure book event counts w = record (with_event book event counts) { sent = book.sent ++ w ∷ [] }
 
 -- the same, where that packet is lost
 abbrev pub with_loss : Book → Event → Counts → Waiting → Book

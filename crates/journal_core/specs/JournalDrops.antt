@@ -14,6 +14,7 @@ use Rattle.journal_core.specs.declared.journal.Counts.{Counts}
 abbrev pub with_drops : Book → ℕ → Cause → List Waiting → Book
 with_drops book moment cause ws = record {
   events = book.events ++ map (drop_event moment cause) ws;
+  sent = book.sent;
   lost = book.lost ++ ws;
   counts = count_drops cause book.counts ws;
   room = book.room - length ws;
@@ -33,6 +34,7 @@ pub drops_none : (book : Book) (moment : ℕ) (cause : Cause) → book ≡ with_
 drops_none book moment cause =
     λ i. record {
       events = sym (append-nil book.events) i;
+      sent = book.sent;
       lost = sym (append-nil book.lost) i;
       counts = book.counts;
       room = sym (sub-zero book.room) i;
@@ -56,6 +58,7 @@ drops_more book moment cause ws w =
     sym (sub-add-eq book.room (length ws) 1) ∙ ap (λ (n : ℕ). book.room - n) (sym (length_push ws w)) in
     λ i. record {
       events = events i;
+      sent = book.sent;
       lost = append_assoc book.lost ws (w ∷ []) i;
       counts = count_drops_push cause book.counts ws w i;
       room = room i;

@@ -9,7 +9,7 @@ pub mod TupleRows
 pub mod Tallies
 pub mod Notes
 pub mod Books
-pub mod Keepers
+pub mod Recorders
 pub mod JournalDrops
 pub mod Losses
 pub mod Calls

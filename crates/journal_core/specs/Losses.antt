@@ -1,10 +1,12 @@
 -- The packets that a journal names: those accepted, those sent and those lost.
-use Rattle.std.specs.Prelude.{◌≡◌, ℕ, List, ◌++◌, map, Option, option_map, IsSomeAnd}
+use Rattle.std.specs.Prelude.{◌≡◌, ℕ, List, ◌++◌, map, Option, None, option_map, IsSomeAnd}
 use Rattle.std.specs.List.{filter_map, flat_map}
 use Rattle.std.specs.List.Sorted.{IsPermutation}
 use Rattle.packet_core.specs.declared.packet.Waiting.{Waiting}
 use Rattle.codel_core.specs.Verdict.{sent_ecn}
+use Rattle.packet_core.specs.declared.packet.Ecn.{Ecn}
 use Rattle.journal_core.specs.declared.event.Event.{Event}
+use Rattle.journal_core.specs.declared.event.Event.TheVariants as event
 use Rattle.journal_core.specs.declared.step.Sent.{Sent}
 use Rattle.journal_core.specs.Happened.{Acceptance, acceptances, named, waiting_of}
 use Rattle.journal_core.specs.Statistics.{dropped_of, sent_of}
@@ -28,6 +30,21 @@ sent_packets events = packets_named (acceptances events) (filter_map sent_of eve
 -- the packets that were dropped, in order, each as it was accepted
 abbrev pub lost_packets : List Event → List Waiting
 lost_packets events = packets_named (acceptances events) (filter_map dropped_of events)
+
+-- the packet with another ECN field
+abbrev pub with_field : Ecn → Waiting → Waiting
+with_field ecn w = record w { packet = record (w.packet) { ecn = ecn } }
+
+-- the packet that an event is the sending of, as it left: as it was accepted, but for the ECN field
+abbrev pub left_as : List Acceptance → Event → Option Waiting
+left_as accepted (event.Accepted lane id moment flow packet) = None
+left_as accepted (event.Sent id moment ecn mark) = option_map (with_field ecn) (waited_as accepted id)
+left_as accepted (event.Dropped id moment cause) = None
+left_as accepted (event.Closed moment) = None
+
+-- the packets that were sent, in order, each as it left
+abbrev pub departed_packets : List Event → List Waiting
+departed_packets events = filter_map (left_as (acceptances events)) events
 
 -- The accepted packets are, in another order, those that were sent, those that were lost and those that wait. So each
 -- is in one of the three places, and there once, and no other packet is in any.

@@ -1,4 +1,4 @@
--- What a report says of events, and what a keeper of that shows.
+-- What a report says of events, and what a recorder of that shows.
 use Rattle.std.specs.Prelude.{◌≡◌, ℕ, ◌+◌, ◌-◌, ◌<◌, List, length, map, get_or, Option, Some, None, vec_capacity, vec_len}
 use Rattle.packet_core.specs.declared.packet.Waiting.{Waiting}
 use Rattle.journal_core.specs.declared.event.Event.{Event}
@@ -36,15 +36,17 @@ pub record IsNotedAt (events : List Event) (place : ℕ) (n : Note) : Type 0 whe
   pub stands : get_or events place event ≡ event
   pub is : n ≡ note_of event
 
--- what a keeper was told: the events and the packets lost, and how many events more it can be told
+-- what a recorder was told: the events, the packets sent and the packets lost, and how many events more it can be told
 pub record Tale : Type 0 where
   pub events : List Event
+  pub sent : List Waiting
   pub lost : List Waiting
   pub room : ℕ
 
 abbrev pub tale_of : Inside → Tale
 tale_of n = record {
   events = n.told.items;
+  sent = n.sent.items;
   lost = n.lost.items;
   room = vec_capacity n.notes - vec_len n.notes;
 }

@@ -10,8 +10,17 @@ use Rattle.journal_core.specs.declared.event.Event.TheVariants as event
 use Rattle.journal_core.specs.declared.outcome.Answer.{Answer}
 use Rattle.journal_core.specs.declared.outcome.Answer.TheVariants as answer
 use Rattle.codel_core.specs.Verdict.{sent_ecn}
+use Rattle.codel_core.specs.declared.served.Mark.{Mark}
 use Rattle.journal_core.specs.Disciplines.{Discipline, Given}
 use Rattle.journal_core.specs.State.{State, arrival, refusal_of}
+
+-- the event of a packet that is accepted from a lane into a flow, as it waits from then on
+abbrev pub accepted_event : ℕ → ℕ → Waiting → Event
+accepted_event lane flow w = event.Accepted lane w.id w.stamp flow w.packet
+
+-- the event of a packet that is sent with that mark, with the ECN field that it leaves with
+abbrev pub sent_event : ℕ → Mark → Waiting → Event
+sent_event moment mark w = event.Sent w.id moment w.packet.ecn mark
 
 -- the event of a packet that is dropped
 abbrev pub drop_event : ℕ → Cause → Waiting → Event

@@ -1,7 +1,10 @@
 //! The entries of a journal.
 
-use codel_core::Mark;
-use packet_core::{Ecn, Packet};
+ghost use Rattle.std.specs.Prelude.{◌≡◌};
+ghost use Rattle.journal_core.specs.Steps.{accepted_event, drop_event, sent_event};
+
+use codel_core::{Mark, Served};
+use packet_core::{Ecn, Packet, Waiting};
 
 /// Why a packet was dropped.
 #[derive(Clone, Copy, Debug, PartialEq, Eq)]
@@ -54,6 +57,47 @@ pub enum Event {
         /// Its moment.
         moment: u64,
     },
+}
+
+impl Event {
+    /// That of a packet which is accepted from a lane into the queue of a flow.
+    #[inline(always)]
+    pub fn acceptance(packet: &Waiting, lane: u32, flow: u32) -> Event
+        ensures { result ≡ accepted_event lane flow packet.now }
+    {
+        Event::Accepted {
+            lane,
+            id: packet.id,
+            moment: packet.stamp,
+            flow,
+            packet: packet.packet,
+        }
+    }
+
+    /// That of a packet which goes to the device at a moment.
+    #[inline(always)]
+    pub fn departure(served: &Served, moment: u64) -> Event
+        ensures { result ≡ sent_event moment served.now.mark served.now.waiting }
+    {
+        Event::Sent {
+            id: served.waiting.id,
+            moment,
+            ecn: served.waiting.packet.ecn(),
+            mark: served.mark,
+        }
+    }
+
+    /// That of a packet which is dropped at a moment.
+    #[inline(always)]
+    pub fn loss(packet: &Waiting, moment: u64, cause: Cause) -> Event
+        ensures { result ≡ drop_event moment cause packet.now }
+    {
+        Event::Dropped {
+            id: packet.id,
+            moment,
+            cause,
+        }
+    }
 }
 
 const _: () = prove!(size_of::<Event>() == 80);

@@ -2,13 +2,13 @@
 
 use crate::event::{Cause, Event};
 use crate::journal::Journal;
-use crate::keeper::Keeps;
+use crate::recorder::Recorder;
 use codel_core::DropSink;
 use packet_core::Waiting;
 
 /// The journal, borrowed: a packet that is taken is dropped at that moment, in microseconds, for that cause.
 #[derive(Drop)]
-pub struct Fates<'a, K: Keeps<Event>> {
+pub struct Fates<'a, K: Recorder> {
     /// The journal.
     pub journal: &'a mut Journal<K>,
     /// The moment of the drops, in microseconds.
@@ -17,7 +17,7 @@ pub struct Fates<'a, K: Keeps<Event>> {
     pub cause: Cause,
 }
 
-impl<K: Keeps<Event>> DropSink for Fates<'_, K> {
+impl<K: Recorder> DropSink for Fates<'_, K> {
     ghost use Rattle.journal_core.specs.JournalDrops.{RecordsDrops, records_none, records_more};
 
     ghost room = { λ f. f.journal.now.room };

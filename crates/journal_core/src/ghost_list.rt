@@ -7,7 +7,7 @@ use std::fmt::{self, Debug, Formatter, Write};
 use std::marker::{Model, PhantomData};
 
 /// A list that only proofs read, as `items`, and how many more may come to it, as `room`. It takes no memory, and its
-/// calls do nothing at run time. A keeper that stores little, or nothing, has one to say what it was told.
+/// calls do nothing at run time. A recorder that stores little, or nothing, has one to say what it was told.
 pub struct GhostList<T> {
     marker: PhantomData<T>,
     /// What is in the list, in order.

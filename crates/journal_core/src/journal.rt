@@ -4,7 +4,7 @@ ghost use Rattle.std.specs.Prelude.{◌≡◌, ◌+◌, ◌*◌, ◌-◌, ◌^�
 ghost use Rattle.journal_core.specs.declared.journal.TheConstants.{MAX_EVENTS};
 
 use crate::event::{Cause, Event};
-use crate::keeper::{Keeps, Stored, Unstored};
+use crate::recorder::{EventList, NullRecorder, Recorder};
 use crate::step::Memory;
 use codel_core::{Mark, Served};
 use packet_core::Waiting;
@@ -38,39 +38,41 @@ pub struct Counts {
     pub threshold_marked: u64,
 }
 
-/// The events so far, told to a keeper. Room for more is taken ahead, so that to record one takes no memory.
+/// The events so far, as a recorder is told them. Room for more is taken ahead, so that to record one takes no memory.
 #[derive(Debug, Drop)]
-pub struct Journal<K: Keeps<Event> = Stored> {
-    keeper: K,
+pub struct Journal<K: Recorder = EventList> {
+    recorder: K,
     counts: Counts,
 }
 
-impl<K: Keeps<Event>> Model for Journal<K> {
+impl<K: Recorder> Model for Journal<K> {
     ghost use Rattle.journal_core.specs.Books.{Book, CountsFewEvents, book_of};
 
     ghost Value = { Book };
 
-    ghost view = { λ j. book_of (K.told j.keeper) (K.lost j.keeper) j.counts (K.room j.keeper) };
+    ghost view = { λ j. book_of (K.told j.recorder) (K.sent j.recorder) (K.lost j.recorder) j.counts (K.room j.recorder) };
 
-    ghost invariant = { λ j. CountsFewEvents j.counts (K.told j.keeper) };
+    ghost invariant = { λ j. CountsFewEvents j.counts (K.told j.recorder) };
 }
 
-impl<K: Keeps<Event>> Journal<K> {
+impl<K: Recorder> Journal<K> {
     ghost use Rattle.packet_core.specs.Packets.{IsLengthInRange};
-    ghost use Rattle.journal_core.specs.Books.{no_counts, with_event, with_loss, count_accepted, count_sent, count_dropped};
+    ghost use Rattle.journal_core.specs.Books.{no_counts, with_departure, with_event, with_loss, count_accepted, count_sent, count_dropped};
     ghost use Rattle.journal_core.specs.declared.event.Event.TheVariants.{Accepted, Closed};
     ghost use Rattle.journal_core.specs.declared.event.Event.TheVariants as event;
 
-    /// A journal with no event, and room for `room` of them, which it tells to a keeper that was told none.
-    pub fn try_over(mut keeper: K, room: usize) -> Result<Journal<K>, Memory>
-        requires untold { K.told keeper ≡ [] }
-        requires no_loss { K.lost keeper ≡ [] }
+    /// A journal with no event, and room for `room` of them, over a recorder that was told none.
+    pub fn try_over(mut recorder: K, room: usize) -> Result<Journal<K>, Memory>
+        requires untold { K.told recorder ≡ [] }
+        requires none_sent { K.sent recorder ≡ [] }
+        requires no_loss { K.lost recorder ≡ [] }
         requires most { room ≤ MAX_EVENTS }
-        ensures { IfOk result (λ j. (j.events ≡ []) × (j.lost ≡ []) × (j.counts ≡ no_counts) × (room ≤ j.room)) }
+        ensures { IfOk result
+            (λ j. (j.events ≡ []) × (j.sent ≡ []) × (j.lost ≡ []) × (j.counts ≡ no_counts) × (room ≤ j.room)) }
     {
-        keeper.reserve(room)?;
+        recorder.reserve(room)?;
         Ok(Journal {
-            keeper,
+            recorder,
             counts: Counts {
                 accepted: 0,
                 accepted_bytes: 0,
@@ -89,6 +91,7 @@ impl<K: Keeps<Event>> Journal<K> {
     pub fn reserve(&mut self, room: usize) -> Result<(), Memory>
         requires { length self.old.events + room ≤ MAX_EVENTS }
         ensures events { self.new.events ≡ self.old.events }
+        ensures sent { self.new.sent ≡ self.old.sent }
         ensures lost { self.new.lost ≡ self.old.lost }
         ensures counts { self.new.counts ≡ self.old.counts }
         ensures room { self.old.room ≤ self.new.room }
@@ -96,15 +99,29 @@ impl<K: Keeps<Event>> Journal<K> {
         ensures missing { OnErr result (self.old.room < room) }
         ensures err { OnErr result (self.new ≡ self.old) }
     {
-        self.keeper.reserve(room)
+        self.recorder.reserve(room)
     }
 
-    /// What it tells its events to.
-    pub fn keeper(&self) -> &K
+    /// Who is told what becomes of each packet.
+    pub fn recorder(&self) -> &K
         ensures told { K.told result.now ≡ self.now.events }
+        ensures sent { K.sent result.now ≡ self.now.sent }
         ensures lost { K.lost result.now ≡ self.now.lost }
     {
-        &self.keeper
+        &self.recorder
+    }
+
+    /// The recorder, once it is told nothing more.
+    pub fn into_recorder(self) -> K
+        ensures told { K.told result ≡ self.events }
+        ensures sent { K.sent result ≡ self.sent }
+        ensures lost { K.lost result ≡ self.lost }
+    {
+        let Journal {
+            recorder,
+            counts: _,
+        } = self;
+        recorder
     }
 
     /// The counts that run along.
@@ -123,21 +140,15 @@ impl<K: Keeps<Event>> Journal<K> {
     {
         self.counts.accepted += 1;
         self.counts.accepted_bytes += u64::from(waiting.packet.len());
-        self.keeper.tell(Event::Accepted {
-            id: waiting.id,
-            moment: waiting.stamp,
-            lane,
-            flow,
-            packet: waiting.packet,
-        });
+        self.recorder.accept(waiting, lane, flow);
     }
 
-    /// A packet was given to the device, with that ECN field.
+    /// A packet was given to the device, with that ECN field. The recorder is told of it with the packet, as it left.
     pub fn send(&mut self, served: &Served, moment: u64)
         requires { 0 < self.old.room }
-        ensures { self.new ≡ with_event self.old
+        ensures { self.new ≡ with_departure self.old
             (event.Sent served.now.waiting.id moment served.now.waiting.packet.ecn served.now.mark)
-            (count_sent self.old.counts served.now.waiting.packet.len served.now.mark) }
+            (count_sent self.old.counts served.now.waiting.packet.len served.now.mark) served.now.waiting }
     {
         self.counts.sent += 1;
         self.counts.sent_bytes += u64::from(served.waiting.packet.len());
@@ -146,15 +157,10 @@ impl<K: Keeps<Event>> Journal<K> {
             Mark::CodelMark => self.counts.marked += 1,
             Mark::Threshold => self.counts.threshold_marked += 1,
         }
-        self.keeper.tell(Event::Sent {
-            id: served.waiting.id,
-            moment,
-            ecn: served.waiting.packet.ecn(),
-            mark: served.mark,
-        });
+        self.recorder.send(served, moment);
     }
 
-    /// A packet was dropped. The keeper is told of it with the packet, as it waited.
+    /// A packet was dropped. The recorder is told of it with the packet, as it waited.
     pub fn drop(&mut self, waiting: &Waiting, moment: u64, cause: Cause)
         requires { 0 < self.old.room }
         ensures { self.new ≡ with_loss self.old
@@ -166,12 +172,7 @@ impl<K: Keeps<Event>> Journal<K> {
             Cause::Overflow => self.counts.dropped_overflow += 1,
         }
         self.counts.dropped_bytes += u64::from(waiting.packet.len());
-        let dropped = Event::Dropped {
-            id: waiting.id,
-            moment,
-            cause,
-        };
-        self.keeper.tell_loss(dropped, waiting);
+        self.recorder.lose(waiting, moment, cause);
     }
 
     /// There was a close.
@@ -179,33 +180,34 @@ impl<K: Keeps<Event>> Journal<K> {
         requires { 0 < self.old.room }
         ensures { self.new ≡ with_event self.old (Closed moment) self.old.counts }
     {
-        self.keeper.tell(Event::Closed { moment });
+        self.recorder.close(moment);
     }
 }
 
-impl Journal<Stored> {
+impl Journal<EventList> {
     ghost use Rattle.journal_core.specs.Books.{no_counts};
 
     /// A journal with no event, and room for `room` of them.
     pub fn try_new(alloc: Global, room: usize) -> Result<Journal, Memory>
         requires { room ≤ MAX_EVENTS }
-        ensures { IfOk result (λ j. (j.events ≡ []) × (j.lost ≡ []) × (j.counts ≡ no_counts) × (room ≤ j.room)) }
+        ensures { IfOk result
+            (λ j. (j.events ≡ []) × (j.sent ≡ []) × (j.lost ≡ []) × (j.counts ≡ no_counts) × (room ≤ j.room)) }
     {
-        Journal::try_over(Stored::new(alloc), room)
+        Journal::try_over(EventList::new(alloc), room)
     }
 
     /// The events so far, in order.
     pub fn events(&self) -> &[Event]
         ensures { result.now ≡ self.now.events }
     {
-        self.keeper.items()
+        self.recorder.events()
     }
 
     /// Where its memory comes from.
     pub fn allocator(&self) -> Global {
-        self.keeper.allocator()
+        self.recorder.allocator()
     }
 }
 
 // A journal that stores no event takes the bytes of its counts alone.
-const _: () = prove!(size_of::<Journal<Unstored>>() == size_of::<Counts>());
+const _: () = prove!(size_of::<Journal<NullRecorder>>() == size_of::<Counts>());

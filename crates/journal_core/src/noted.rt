@@ -1,22 +1,25 @@
-//! A keeper that stores of each event what a report says of it.
+//! A recorder that stores of each event what a report says of it.
 
-ghost use Rattle.std.specs.Prelude.{◌≡◌, [], map};
+ghost use Rattle.std.specs.Prelude.{◌≡◌, ◌-◌, ◌<◌, ◌++◌, ◌∷◌, [], map};
 ghost use Rattle.journal_core.specs.Notes.{note_of};
 
-use crate::event::Event;
+use crate::event::{Cause, Event};
 use crate::ghost_list::GhostList;
-use crate::keeper::Keeps;
 use crate::note::Note;
+use crate::recorder::Recorder;
 use crate::step::Memory;
+use codel_core::Served;
 use packet_core::Waiting;
 use std::alloc::Global;
 use std::marker::Model;
 
-/// It stores a note of each event that it is told. The events, and the packets that are lost, stand in proofs alone.
+/// It stores a note of each event that it is told. The events, and the packets that are sent and that are lost, stand in
+/// proofs alone.
 #[derive(Debug, Drop)]
 pub struct Noted {
     notes: Vec<Note>,
     told: GhostList<Event>,
+    sent: GhostList<Waiting>,
     lost: GhostList<Waiting>,
 }
 
@@ -34,13 +37,28 @@ impl Noted {
     /// Nothing was told yet.
     pub fn new(alloc: Global) -> Noted
         ensures events { result.events ≡ [] }
+        ensures sent { result.sent ≡ [] }
         ensures lost { result.lost ≡ [] }
     {
         Noted {
             notes: Vec::new(alloc),
             told: GhostList::new(),
+            sent: GhostList::new(),
             lost: GhostList::new(),
         }
+    }
+
+    /// Stores what a report says of an event.
+    #[inline(always)]
+    fn note(&mut self, event: &Event)
+        requires { 0 < self.old.room }
+        ensures { self.new ≡ record self.old {
+          events = self.old.events ++ event.now ∷ [];
+          room = self.old.room - 1;
+        } }
+    {
+        self.notes.push_reserved(Note::of(event));
+        self.told = self.told.and(event);
     }
 
     /// A note of each event that it was told, in order.
@@ -59,23 +77,35 @@ impl Noted {
     }
 }
 
-impl Keeps<Event> for Noted {
+impl Recorder for Noted {
     ghost told = { λ noted. noted.events };
+
+    ghost sent = { λ noted. noted.sent };
 
     ghost lost = { λ noted. noted.lost };
 
     ghost room = { λ noted. noted.room };
 
     #[inline(always)]
-    fn tell(&mut self, event: Event) {
-        self.notes.push_reserved(Note::of(&event));
-        self.told = self.told.and(&event);
+    fn accept(&mut self, packet: &Waiting, lane: u32, flow: u32) {
+        self.note(&Event::acceptance(packet, lane, flow));
     }
 
     #[inline(always)]
-    fn tell_loss(&mut self, event: Event, packet: &Waiting) {
-        self.tell(event);
+    fn send(&mut self, served: &Served, moment: u64) {
+        self.note(&Event::departure(served, moment));
+        self.sent = self.sent.and(&served.waiting);
+    }
+
+    #[inline(always)]
+    fn lose(&mut self, packet: &Waiting, moment: u64, cause: Cause) {
+        self.note(&Event::loss(packet, moment, cause));
         self.lost = self.lost.and(packet);
+    }
+
+    #[inline(always)]
+    fn close(&mut self, moment: u64) {
+        self.note(&Event::Closed { moment });
     }
 
     fn reserve(&mut self, more: usize) -> Result<(), Memory> {

@@ -61,7 +61,7 @@ impl Tally {
         Ok(())
     }
 
-    /// The rows of the events that a keeper noted, where all packets that they accept have come here. Five-tuples are
+    /// The rows of the events that a recorder noted, where all packets that they accept have come here. Five-tuples are
     /// found by a hash of that seed, and the rows are the same under every seed. It fails for want of memory alone.
     pub fn rows(self, seed: &Seed, noted: &Noted) -> Result<Vec<TupleRow>, Memory>
         requires ids { IdsInOrder noted.now.events }

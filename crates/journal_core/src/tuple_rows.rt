@@ -211,7 +211,7 @@ impl RowsByTuple {
         }
     }
 
-    /// Counts the events that a keeper noted.
+    /// Counts the events that a recorder noted.
     pub(crate) fn count_noted(&mut self, noted: &Noted)
         requires ids { IdsInOrder noted.now.events }
         requires follow { FatesFollow noted.now.events }

@@ -18,7 +18,9 @@ use crate::faults::{ProgramFault, tell};
 use crate::notes::{Stage, Terminals, note_input, note_stage};
 use crate::values::{Run, run_of};
 use link_core::laws::few_events;
-use link_core::{Arrival, fifo_few_events, run_fifo, run_fifo_with_keeper, run_link_with_keepers};
+use link_core::{
+    Arrival, fifo_few_events, run_fifo, run_fifo_with_recorder, run_link_with_recorders,
+};
 use link_picture::picture_text_of;
 use link_report::{
     Gathered, MAX_EVENTS, Packets, flows_text_of, packets_text_of, series_text_with_seed,
@@ -26,7 +28,7 @@ use link_report::{
 };
 use packet_core::Seed;
 use row_core::MAX_ROWS;
-use sched_core::{Engine, Event, Keeps, Memory, Step, Stored, Unstored};
+use sched_core::{Engine, EventList, Memory, NullRecorder, Recorder, StepList, StepRecorder};
 use std::alloc::{AllocError, Global};
 use std::io::{Read, Write};
 use trace_core::write_text;
@@ -135,8 +137,8 @@ fn table_text<F: Write>(
     if request.table == TableName::Series {
         return bins_text(alloc, request, run, arrivals, notes, terminals);
     }
-    let events = keeper_for(alloc, &run.seed, request.table);
-    let engine = run_told(alloc, run, arrivals, events, Unstored::new())?;
+    let events = recorder_for(alloc, &run.seed, request.table);
+    let engine = run_told(alloc, run, arrivals, events, NullRecorder::new())?;
     note_stage(notes, terminals, Stage::Run, arrivals.len());
     // A million arrivals have two million events, and each table takes that many.
     few_events();
@@ -145,14 +147,14 @@ fn table_text<F: Write>(
         request,
         run,
         arrivals,
-        engine.keeper(),
+        engine.recorder(),
         notes,
         terminals,
     )
 }
 
-/// The run of these arrivals, whose events and steps these keepers are told.
-fn run_told<K: Keeps<Event>, S: Keeps<Step>>(
+/// The run of these arrivals, whose events and steps these recorders are told.
+fn run_told<K: Recorder, S: StepRecorder>(
     alloc: Global,
     run: &Run,
     arrivals: &[Arrival],
@@ -161,18 +163,20 @@ fn run_told<K: Keeps<Event>, S: Keeps<Step>>(
 ) -> Result<Engine<K, S>, Memory>
     requires arrivals { AreArrivals arrivals.now }
     requires events { K.told events ≡ [] }
+    requires none_sent { K.sent events ≡ [] }
     requires no_loss { K.lost events ≡ [] }
     requires steps { S.told steps ≡ [] }
     ensures { IfOk result (HasRunLink run.now.params run.now.seed run.now.link arrivals.now) }
 {
-    run_link_with_keepers(
+    run_link_with_recorders(
         alloc, run.params, run.seed, &run.link, arrivals, events, steps,
     )
 }
 
-/// A keeper of what that table shows of a run's events.
-fn keeper_for(alloc: Global, seed: &Seed, table: TableName) -> Gathered
+/// A recorder of what that table shows of a run's events.
+fn recorder_for(alloc: Global, seed: &Seed, table: TableName) -> Gathered
     ensures events { result.events ≡ [] }
+    ensures sent { result.sent ≡ [] }
     ensures lost { result.lost ≡ [] }
     ensures packets { table ≡ TableName.Packets → result.most ≡ u64.MAX }
     ensures most { MAX_EVENTS ≤ result.most }
@@ -207,8 +211,8 @@ fn trace_text<F: Write>(
     ensures fault { IfErr result (λ fault. fault ≡ ProgramFault.Memory) }
     ensures quiet { terminals.faults ≡ false → Keeps (F.contents notes.old) (F.contents notes.new) }
 {
-    let steps = Stored::new(alloc);
-    let engine = run_told(alloc, run, arrivals, Unstored::new(), steps)?;
+    let steps = StepList::new(alloc);
+    let engine = run_told(alloc, run, arrivals, NullRecorder::new(), steps)?;
     note_stage(notes, terminals, Stage::Run, arrivals.len());
     Ok(steps_text(alloc, engine.steps())?)
 }
@@ -230,8 +234,8 @@ fn bins_text<F: Write>(
     ensures fault { IfErr result (λ fault. fault ≡ ProgramFault.Memory) }
     ensures quiet { terminals.faults ≡ false → Keeps (F.contents notes.old) (F.contents notes.new) }
 {
-    let events = Stored::new(alloc);
-    let engine = run_told(alloc, run, arrivals, events, Unstored::new())?;
+    let events = EventList::new(alloc);
+    let engine = run_told(alloc, run, arrivals, events, NullRecorder::new())?;
     note_stage(notes, terminals, Stage::Run, arrivals.len());
     if !request.has_fifo {
         return Ok(series_text_with_seed(alloc, &run.seed, run.every, engine.events(), None)?);
@@ -265,8 +269,8 @@ fn compared_text<F: Write>(
     if !request.has_fifo {
         return packets_table(alloc, request.table, run, events, None);
     }
-    let told = keeper_for(alloc, &run.seed, request.table);
-    let fifo = run_fifo_with_keeper(alloc, run.params, run.seed, &run.link, arrivals, told)?;
+    let told = recorder_for(alloc, &run.seed, request.table);
+    let fifo = run_fifo_with_recorder(alloc, run.params, run.seed, &run.link, arrivals, told)?;
     note_stage(notes, terminals, Stage::Compared, arrivals.len());
     // The FIFO has no more events than that either.
     fifo_few_events();
@@ -309,7 +313,7 @@ fn packets_table(
     }
 }
 
-/// The packets of a keeper. It takes as many events as its table shows, and was told no more.
+/// The packets of a recorder. It takes as many events as its table shows, and was told no more.
 fn packets_of<'a>(events: &'a Gathered) -> Result<&'a Packets, Memory>
     ensures { IfOk result (λ packets. packets.now ≡ known_of events.now.events) }
 {

@@ -13,3 +13,4 @@ pub mod EventCounts
 pub mod FatesInOrder
 pub mod FifoQueues
 pub mod FifoRunLaws
+pub mod NamedPackets

@@ -14,7 +14,7 @@ use Rattle.journal_core.specs.declared.event.Event.TheVariants.{Accepted}
 use Rattle.journal_core.specs.declared.outcome.Answer.TheVariants as answer
 use Rattle.journal_core.specs.declared.step.Step.{Step}
 use Rattle.journal_core.specs.declared.step.Step.TheVariants.{Enqueue, Dequeue}
-use Rattle.journal_core.specs.Disciplines.{Given}
+use Rattle.journal_core.specs.Disciplines.{Given, given_packet}
 use Rattle.journal_core.specs.Runs.{Made, is_refused}
 use Rattle.journal_core.specs.Statistics.{sent_of}
 use Rattle.journal_core.specs.Steps.{Admits, Serves, drop_event, sent_events}
@@ -30,6 +30,7 @@ use Rattle.link_core.specs.Lines.{HasGiven, HasTakenIn, IsInLine, IsNewLine, IsO
 use Rattle.link_core.specs.Underway.{AreComing, ComesBy, IsUnderway, longest_wire_time, sent_count, units_of}
 use Rattle.link_core.proofs.LinkEngines.{asked_time, asked_underway}
 use Rattle.link_core.proofs.LinkSteps.{underway_on}
+use Rattle.link_core.proofs.NamedPackets.{gives_named, takes_named}
 use Rattle.link_core.proofs.LinkTimes.{all_come, asks_idle, comes_busy, dequeue_fits, enqueue_fits}
 use Rattle.link_core.proofs.SentIds.{given_ids, sent_ids_none, sent_ids_of, sent_more}
 
@@ -48,15 +49,20 @@ gives_few : (P : Waiting → Type 0) (queue queue' : List Waiting) (given : Opti
 gives_few P [] queue' given g all = rw (g.1, g.2) (All-nil P, omega arith)
 gives_few P (w ∷ rest) queue' given g all = rw (g.1, g.2) ((all_first P (w ∷ rest) rest w refl all).1, omega arith)
 
-given_in_line : (old new : Line) (moment : ℕ) (given : Option Given) → GivesHead old.waiting.items [] given new.waiting.items → new.events.items ≡ old.events.items ++ sent_events moment given → new.arrived ≡ old.arrived → IsInLine old
-    → IsInLine new
-given_in_line old new moment given g journal arrived line =
+given_in_line : (old new : Line) (moment : ℕ) (given : Option Given) → GivesHead old.waiting.items [] given new.waiting.items → new.events.items ≡ old.events.items ++ sent_events moment given → new.sent.items ≡ old.sent.items ++ given_packet given
+    → new.lost.items ≡ old.lost.items → new.arrived ≡ old.arrived → IsInLine old → IsInLine new
+given_in_line old new moment given g journal departed gone arrived line =
     let rest = gives_few (λ w. w.id < old.arrived) old.waiting.items new.waiting.items given g line.known in
     let ids : filter_map sent_of (sent_events moment given) ≡ given_ids given = sent_ids_of moment cause.Codel [] given in
     let more : sent_count new.events.items ≡ sent_count old.events.items + length (given_ids given) = ap sent_count journal ∙ sent_more old.events.items (sent_events moment given) ∙ ap (λ l. sent_count old.events.items + length l) ids in
     let few = line.few in
     let less = rest.1 in
-    record { known = rw arrived rest.0; few = omega arith }
+    let low = recursion_from_All (λ (w : Waiting). w.id < old.arrived) old.waiting.items line.known in
+    record {
+      known = rw arrived rest.0;
+      few = omega arith;
+      named = rw (journal, departed, gone, arrived) (gives_named old.arrived moment old.events.items old.waiting.items new.waiting.items old.sent.items old.lost.items given g low line.named);
+    }
 
 -- the link asks a queue
 pub given_on_fifo : (link : LinkFields) (arrivals : List Arrival) (steps : List Step) (last : ℕ) (old new : Line) (now : FreeAt) (busy : Option FreeAt) (point : LinkPoint)
@@ -74,7 +80,7 @@ given_on_fifo link arrivals steps last old new now busy point u line h moves bel
       last = now.moment;
       underway = rw (h.kept.params, h.kept.seed) (asked_underway d link arrivals steps (standing_of old last) (standing_of new now.moment) now h.given made busy point u (dequeue_fits (standing_of old last).state now.moment below later) serves h.journal h.sends (moves made));
       on_time = asked_time d link arrivals (standing_of old last) (standing_of new now.moment) now h.given made busy point.coming serves h.journal h.sends soon comes;
-      in_line = given_in_line old new now.moment h.given h.gives h.journal h.arrived line;
+      in_line = given_in_line old new now.moment h.given h.gives h.journal h.departed h.gone h.arrived line;
     }
 
 -- what a queue takes in, or not
@@ -99,7 +105,12 @@ module _ (old new : Line) (a : Arrival) (h : HasTakenIn old a new) where
       let more = all.1 in
       let few = line.few in
       let arrived = h.arrived in
-      record { known = rw h.arrived all.0; few = rw same_count (omega arith) }
+      let flow = flow_number old.params.classify old.params.flows old.seed a.packet.tuple in
+      record {
+        known = rw h.arrived all.0;
+        few = rw same_count (omega arith);
+        named = rw (h.journal, h.departed, h.gone, h.arrived) (takes_named old.arrived a.moment flow a.packet old.events.items old.waiting.items old.sent.items old.lost.items line.named old.params.limit new.waiting.items h.lost h.takes);
+      }
 
   pub taken_in_underway : (link : LinkFields) (arrivals : List Arrival) (steps : List Step) (last : ℕ) (rest : List Arrival) (state state' : LinkState)
       → IsUnderway (fifo old.params old.seed) link arrivals steps (standing_of old last) (record { state = state; coming = a ∷ rest })
@@ -171,7 +182,11 @@ opening_on_fifo p seed link arrivals l are new =
         opened = refl;
       };
       on_time = record { frees = tt; comes = all_come arrivals are };
-      in_line = record { known = rw new.waiting (All-nil (λ (w : Waiting). w.id < l.arrived)); few = omega arith };
+      in_line = record {
+        known = rw new.waiting (All-nil (λ (w : Waiting). w.id < l.arrived));
+        few = omega arith;
+        named = rw (new.arrived, new.events, new.waiting, new.sent, new.lost) (record { ids = refl; fates = tt; waits = tt; departed = refl; gone = refl });
+      };
     }
 
 pub fifo_has_run : (p : ParamFields) (seed : Seed) (link : LinkFields) (arrivals : List Arrival) (l : Line) (busy : Option FreeAt) → IsOnFifo link arrivals l busy [] → IfSome busy (λ f. ComesBy f.moment []) → l.params ≡ p → l.seed ≡ seed

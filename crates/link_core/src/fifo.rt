@@ -1,13 +1,14 @@
 //! A plain queue at the head of a link, to compare with.
 
 ghost use Rattle.std.specs.Prelude.{◌≡◌, [], IfOk};
+ghost use Rattle.journal_core.specs.Losses.{departed_packets, lost_packets};
 ghost use Rattle.link_core.specs.Arrivals.{AreArrivals};
 ghost use Rattle.link_core.specs.Fifo.{IsFifoJournal};
 
 use crate::arrival::Arrival;
 use crate::line::Line;
 use crate::link::Link;
-use journal_core::{Event, Keeps, Memory, Stored};
+use journal_core::{Event, EventList, Memory, Recorder};
 use packet_core::{Params, Seed};
 use sched_core::FlowChooser;
 use std::alloc::Global;
@@ -26,13 +27,12 @@ pub fn run_fifo(
     requires { AreArrivals arrivals.now }
     ensures { IfOk result (λ events. IsFifoJournal params seed link.now arrivals.now events.items) }
 {
-    let events = Stored::new(alloc);
-    Ok(run_fifo_with_keeper(alloc, params, seed, link, arrivals, events)?.into_items())
+    let events = EventList::new(alloc);
+    Ok(run_fifo_with_recorder(alloc, params, seed, link, arrivals, events)?.into_events())
 }
 
-/// The same as `run_fifo`, but it tells the events to a keeper that was told none, and hands that out. It tells drops as
-/// it tells other events: no packet is told as lost.
-pub fn run_fifo_with_keeper<K: Keeps<Event>>(
+/// The same as `run_fifo`, but over a recorder that was told nothing, which it hands out.
+pub fn run_fifo_with_recorder<K: Recorder>(
     alloc: Global,
     params: Params,
     seed: Seed,
@@ -42,18 +42,21 @@ pub fn run_fifo_with_keeper<K: Keeps<Event>>(
 ) -> Result<K, Memory>
     requires arrivals { AreArrivals arrivals.now }
     requires events { K.told events ≡ [] }
-    ensures journal { IfOk result (λ keeper. IsFifoJournal params seed link.now arrivals.now (K.told keeper)) }
-    ensures lost { IfOk result (λ keeper. K.lost keeper ≡ K.lost events) }
+    requires none_sent { K.sent events ≡ [] }
+    requires no_loss { K.lost events ≡ [] }
+    ensures journal { IfOk result (λ recorder. IsFifoJournal params seed link.now arrivals.now (K.told recorder)) }
+    ensures sent { IfOk result (λ recorder. K.sent recorder ≡ departed_packets (K.told recorder)) }
+    ensures lost { IfOk result (λ recorder. K.lost recorder ≡ lost_packets (K.told recorder)) }
 {
     // A digest takes more time than all else that is done for a packet.
     let mut chooser = FlowChooser::try_new_for(alloc, params, seed, arrivals.len() as u64)?;
-    let mut keeper = events;
+    let mut recorder = events;
     let mut line = Line::new(alloc, params, seed);
     let mut busy = None;
     for i in 0..arrivals.len() {
         let flow = chooser.flow_of(&arrivals[i].packet);
-        busy = line.meet_next(&mut keeper, link, arrivals, busy, &arrivals[i..], flow)?;
+        busy = line.meet_next(&mut recorder, link, arrivals, busy, &arrivals[i..], flow)?;
     }
-    line.ask_before(&mut keeper, link, arrivals, busy, &[])?;
-    Ok(keeper)
+    line.ask_before(&mut recorder, link, arrivals, busy, &[])?;
+    Ok(recorder)
 }

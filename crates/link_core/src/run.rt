@@ -13,7 +13,7 @@ use crate::arrival::{Arrival, MAX_ARRIVALS};
 use crate::free_at::FreeAt;
 use crate::link::Link;
 use packet_core::{Params, Seed};
-use sched_core::{Engine, Event, Keeps, Memory, Refusal, Step, Stored};
+use sched_core::{Engine, EventList, Memory, Recorder, Refusal, StepList, StepRecorder};
 use std::alloc::{AllocError, Global};
 
 /// Makes the steps of a link for these arrivals with a new engine of those parameters and that seed. Each packet comes
@@ -30,13 +30,13 @@ pub fn run_link(
     requires { AreArrivals arrivals.now }
     ensures { IfOk result (HasRunLink params seed link.now arrivals.now) }
 {
-    let (events, steps) = (Stored::new(alloc), Stored::new(alloc));
-    run_link_with_keepers(alloc, params, seed, link, arrivals, events, steps)
+    let (events, steps) = (EventList::new(alloc), StepList::new(alloc));
+    run_link_with_recorders(alloc, params, seed, link, arrivals, events, steps)
 }
 
-/// The same as `run_link`, but the engine tells its events and its steps to keepers that were told none. `Unstored` is
-/// for those that nobody reads: a run takes less memory then.
-pub fn run_link_with_keepers<K: Keeps<Event>, S: Keeps<Step>>(
+/// The same as `run_link`, but over recorders of events and of steps that were told none. `NullRecorder` is for those that
+/// nobody reads: a run takes less memory then.
+pub fn run_link_with_recorders<K: Recorder, S: StepRecorder>(
     alloc: Global,
     params: Params,
     seed: Seed,
@@ -47,11 +47,12 @@ pub fn run_link_with_keepers<K: Keeps<Event>, S: Keeps<Step>>(
 ) -> Result<Engine<K, S>, Memory>
     requires arrivals { AreArrivals arrivals.now }
     requires events { K.told events ≡ [] }
+    requires none_sent { K.sent events ≡ [] }
     requires no_loss { K.lost events ≡ [] }
     requires steps { S.told steps ≡ [] }
     ensures { IfOk result (HasRunLink params seed link.now arrivals.now) }
 {
-    let mut engine = Engine::try_with_keepers(alloc, params, seed, events, steps)?;
+    let mut engine = Engine::try_with_recorders(alloc, params, seed, events, steps)?;
     let mut busy = None;
     for i in 0..arrivals.len() {
         busy = meet_next(&mut engine, link, arrivals, busy, &arrivals[i..])?;
@@ -61,7 +62,7 @@ pub fn run_link_with_keepers<K: Keeps<Event>, S: Keeps<Step>>(
 }
 
 /// The link asks for packets until the next one comes, takes that in, and asks for one at once where it is idle.
-fn meet_next<K: Keeps<Event>, S: Keeps<Step>>(
+fn meet_next<K: Recorder, S: StepRecorder>(
     engine: &mut Engine<K, S>,
     link: &Link,
     arrivals: &[Arrival],
@@ -84,7 +85,7 @@ fn meet_next<K: Keeps<Event>, S: Keeps<Step>>(
 }
 
 /// Asks for packets as long as the link gets free before the next one comes, or none is to come.
-fn ask_before<K: Keeps<Event>, S: Keeps<Step>>(
+fn ask_before<K: Recorder, S: StepRecorder>(
     engine: &mut Engine<K, S>,
     link: &Link,
     arrivals: &[Arrival],
@@ -108,7 +109,7 @@ fn ask_before<K: Keeps<Event>, S: Keeps<Step>>(
 }
 
 /// The packet comes in, by lane 0.
-fn take_in<K: Keeps<Event>, S: Keeps<Step>>(
+fn take_in<K: Recorder, S: StepRecorder>(
     engine: &mut Engine<K, S>,
     arrival: &Arrival,
 ) -> Result<(), Memory>
@@ -126,7 +127,7 @@ fn take_in<K: Keeps<Event>, S: Keeps<Step>>(
 }
 
 /// The link asks for a packet, and sends it if there is one: when it gets free again.
-fn ask<K: Keeps<Event>, S: Keeps<Step>>(
+fn ask<K: Recorder, S: StepRecorder>(
     engine: &mut Engine<K, S>,
     link: &Link,
     arrivals: &[Arrival],

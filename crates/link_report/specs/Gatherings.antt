@@ -1,14 +1,15 @@
--- What a keeper that makes packets shows: the events that it was told.
+-- What a recorder that makes packets shows: the events that it was told.
 use Rattle.std.specs.Prelude.{◌≡◌, ℕ, ◌+◌, ◌-◌, ◌^◌, ◌<◌, ◌≤◌, ◌⊎◌, Bool, true, false, List, length}
 use Rattle.packet_core.specs.declared.packet.Waiting.{Waiting}
 use Rattle.journal_core.specs.declared.event.Event.{Event}
 use Rattle.link_report.specs.declared.gathered.Gathered.TheInside.{Inside}
 use Rattle.link_report.specs.Packets.{known_of}
 
--- The events and the packets lost that it was told, and how many events more it can be told. Then of how many events it
+-- The events, the packets sent and the packets lost that it was told, and how many events more it can be told. Then of how many events it
 -- makes packets at most, and whether one of these found no memory.
 pub record Gathering : Type 0 where
   pub events : List Event
+  pub sent : List Waiting
   pub lost : List Waiting
   pub room : ℕ
   pub most : ℕ
@@ -32,6 +33,7 @@ pub record KeepsOn (old new : Gathering) : Type 0 where
 abbrev pub gathering_of : Inside → Gathering
 gathering_of g = record {
   events = g.told.items;
+  sent = g.sent.items;
   lost = g.lost.items;
   room = g.told.room;
   most = g.most;

@@ -5,13 +5,13 @@ ghost use Rattle.std.specs.List.{flat_map};
 ghost use Rattle.link_report.specs.Tables as Tables;
 ghost use Rattle.link_report.specs.FlowTables.{all_line, delay_fields, first_flow, flow_lines, flows_header, flows_text, group_line, known_flows_text, known_lines, span_of, summary_fields};
 
-use crate::decimal::Digits;
 use crate::groups::{Group, grouped};
 use crate::packets::{PacketRecord, Packets};
 use crate::summary::{Delays, MAX_EVENTS, Summary, summarize};
 use crate::table::{Queue, Table};
 use journal_core::{Event, Memory};
 use std::alloc::Global;
+use text_core::{AddressText, Digits};
 
 /// The text of the table: a header, the rows of the scheduler's journal, and then those of the other queue's, where there
 /// is one. It fails for want of memory alone.
@@ -248,8 +248,8 @@ fn group_row(table: &mut Table, queue: Queue, span: u64, group: &Group) -> Resul
     let number = Digits::of(group.number());
     let tuple = group.tuple();
     let proto = Digits::of(u64::from(tuple.proto));
-    let src = table.address(tuple.src)?;
-    let dst = table.address(tuple.dst)?;
+    let src = AddressText::of(tuple.src);
+    let dst = AddressText::of(tuple.dst);
     let sport = Digits::of(u64::from(tuple.sport));
     let dport = Digits::of(u64::from(tuple.dport));
     let flow = Digits::of(u64::from(first_flow(group.packets())));

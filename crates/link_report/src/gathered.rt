@@ -1,17 +1,20 @@
-//! A keeper that makes the packets of the events that it is told.
+//! A recorder that makes the packets of the events that it is told.
 
 ghost use Rattle.std.specs.Prelude.{◌≡◌, ◌-◌, ◌<◌, ◌≤◌, ◌⊎◌, [], ◌∷◌, ◌++◌, IfErr, IfNone, IfOk, IfSome, OnErr, OnOk, false, length, true};
+ghost use Rattle.journal_core.specs.Steps.{accepted_event, drop_event, sent_event};
+ghost use Rattle.journal_core.specs.declared.event.Event.TheVariants.{Closed};
 ghost use Rattle.link_report.specs.Gatherings.{CanCount, KeepsOn, MakesPackets};
 ghost use Rattle.link_report.specs.Packets.{is_arrival, known_of};
 
 use crate::packets::Packets;
-use journal_core::{Event, GhostList, Keeps, Memory};
+use codel_core::Served;
+use journal_core::{Cause, Event, GhostList, Memory, Recorder};
 use packet_core::{Seed, Waiting};
 use std::alloc::{AllocError, Global};
 use std::marker::Model;
 
 /// It makes the packets of the events that it is told, and stores no event. So it takes less memory than a journal and
-/// the packets made of that. The events, and the packets that are lost, stand in proofs alone.
+/// the packets made of that. The events, and the packets that are sent and lost, stand in proofs alone.
 #[derive(Drop)]
 pub struct Gathered {
     packets: Packets,
@@ -24,6 +27,7 @@ pub struct Gathered {
     /// Whether an event found no memory, and isn't in the packets.
     is_short: bool,
     told: GhostList<Event>,
+    sent: GhostList<Waiting>,
     lost: GhostList<Waiting>,
 }
 
@@ -42,6 +46,7 @@ impl Gathered {
     /// five-tuples are found by a hash of that seed, and the packets are the same under every seed.
     pub fn new(alloc: Global, seed: &Seed, most: u64) -> Gathered
         ensures events { result.events ≡ [] }
+        ensures sent { result.sent ≡ [] }
         ensures lost { result.lost ≡ [] }
         ensures most { result.most ≡ most }
         ensures short { result.is_short ≡ false }
@@ -53,6 +58,7 @@ impl Gathered {
             room: 0,
             is_short: false,
             told: GhostList::new(),
+            sent: GhostList::new(),
             lost: GhostList::new(),
         }
     }
@@ -68,6 +74,25 @@ impl Gathered {
         } else {
             Some(&self.packets)
         }
+    }
+
+    /// Makes the packets of one event more.
+    fn add(&mut self, event: &Event)
+        requires { 0 < self.old.room }
+        ensures told { self.new.events ≡ self.old.events ++ event.now ∷ [] }
+        ensures sent { self.new.sent ≡ self.old.sent }
+        ensures lost { self.new.lost ≡ self.old.lost }
+        ensures room { self.new.room ≡ self.old.room - 1 }
+        ensures on { KeepsOn self.old self.new }
+        ensures others { is_arrival event.now ≡ false → self.new.is_short ≡ self.old.is_short }
+    {
+        if !self.is_short && self.count < self.most {
+            // Memory is reserved, so none is missing. That isn't proved, so it is looked at.
+            self.is_short = self.packets.add(event).is_err();
+        }
+        self.count += 1;
+        self.room -= 1;
+        self.told = self.told.and(event);
     }
 
     /// Whether it makes packets of the next event.
@@ -98,44 +123,67 @@ fn take_room(packets: &mut Packets, is_made: bool, more: usize) -> Result<usize,
     }
 }
 
-impl Keeps<Event> for Gathered {
+impl Recorder for Gathered {
     ghost told = { λ gathered. gathered.events };
+
+    ghost sent = { λ gathered. gathered.sent };
 
     ghost lost = { λ gathered. gathered.lost };
 
     ghost room = { λ gathered. gathered.room };
 
-    fn tell(&mut self, event: Event)
+    fn accept(&mut self, packet: &Waiting, lane: u32, flow: u32)
         requires { 0 < self.old.room }
-        ensures told { self.new.events ≡ self.old.events ++ event ∷ [] }
+        ensures told { self.new.events ≡ self.old.events ++ accepted_event lane flow packet.now ∷ [] }
+        ensures sent { self.new.sent ≡ self.old.sent }
         ensures lost { self.new.lost ≡ self.old.lost }
         ensures room { self.new.room ≡ self.old.room - 1 }
         ensures on { KeepsOn self.old self.new }
-        ensures others { is_arrival event ≡ false → self.new.is_short ≡ self.old.is_short }
     {
-        if !self.is_short && self.count < self.most {
-            // Memory is reserved, so none is missing. That isn't proved, so it is looked at.
-            self.is_short = self.packets.add(&event).is_err();
-        }
-        self.count += 1;
-        self.room -= 1;
-        self.told = self.told.and(&event);
+        self.add(&Event::acceptance(packet, lane, flow));
     }
 
-    fn tell_loss(&mut self, event: Event, packet: &Waiting)
+    fn send(&mut self, served: &Served, moment: u64)
         requires { 0 < self.old.room }
-        ensures told { self.new.events ≡ self.old.events ++ event ∷ [] }
+        ensures told { self.new.events ≡ self.old.events ++ sent_event moment served.now.mark served.now.waiting ∷ [] }
+        ensures sent { self.new.sent ≡ self.old.sent ++ served.now.waiting ∷ [] }
+        ensures lost { self.new.lost ≡ self.old.lost }
+        ensures room { self.new.room ≡ self.old.room - 1 }
+        ensures on { KeepsOn self.old self.new }
+        ensures short { self.new.is_short ≡ self.old.is_short }
+    {
+        self.add(&Event::departure(served, moment));
+        self.sent = self.sent.and(&served.waiting);
+    }
+
+    fn lose(&mut self, packet: &Waiting, moment: u64, cause: Cause)
+        requires { 0 < self.old.room }
+        ensures told { self.new.events ≡ self.old.events ++ drop_event moment cause packet.now ∷ [] }
+        ensures sent { self.new.sent ≡ self.old.sent }
         ensures lost { self.new.lost ≡ self.old.lost ++ packet.now ∷ [] }
         ensures room { self.new.room ≡ self.old.room - 1 }
         ensures on { KeepsOn self.old self.new }
-        ensures others { is_arrival event ≡ false → self.new.is_short ≡ self.old.is_short }
+        ensures short { self.new.is_short ≡ self.old.is_short }
     {
-        self.tell(event);
+        self.add(&Event::loss(packet, moment, cause));
         self.lost = self.lost.and(packet);
+    }
+
+    fn close(&mut self, moment: u64)
+        requires { 0 < self.old.room }
+        ensures told { self.new.events ≡ self.old.events ++ Closed moment ∷ [] }
+        ensures sent { self.new.sent ≡ self.old.sent }
+        ensures lost { self.new.lost ≡ self.old.lost }
+        ensures room { self.new.room ≡ self.old.room - 1 }
+        ensures on { KeepsOn self.old self.new }
+        ensures short { self.new.is_short ≡ self.old.is_short }
+    {
+        self.add(&Event::Closed { moment });
     }
 
     fn reserve(&mut self, more: usize) -> Result<(), Memory>
         ensures told { self.new.events ≡ self.old.events }
+        ensures sent { self.new.sent ≡ self.old.sent }
         ensures lost { self.new.lost ≡ self.old.lost }
         ensures room { self.old.room ≤ self.new.room }
         ensures ok { OnOk result (more ≤ self.new.room) }

@@ -2,7 +2,6 @@
 //! packets, with the delays of those that were sent.
 #![tactic(auto)]
 
-mod decimal;
 mod flows;
 mod gathered;
 mod groups;

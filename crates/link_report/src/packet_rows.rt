@@ -6,11 +6,11 @@ ghost use Rattle.link_report.specs.Packets.{known_of};
 ghost use Rattle.link_report.specs.Tables as Tables;
 ghost use Rattle.link_report.specs.PacketTables.{known_packets_text, packet_line, packet_lines, packets_header, packets_text};
 
-use crate::decimal::Digits;
 use crate::packets::{Fate, PacketRecord, Packets};
-use crate::table::{Queue, Table, cause_name, ecn_digit, mark_name};
+use crate::table::{Queue, Table};
 use journal_core::{Event, Memory};
 use std::alloc::Global;
+use text_core::{Digits, cause_name, ecn_digit, mark_name};
 
 /// The text of the table: a header, a row for each packet of the scheduler's journal, by id, and then a row for each of
 /// the other queue's, where there is one. It fails for want of memory alone.

@@ -7,12 +7,12 @@ ghost use Rattle.link_report.specs.Tables as Tables;
 ghost use Rattle.link_report.specs.SeriesTables as Spec;
 ghost use Rattle.link_report.specs.SeriesTables.{AreRows, IsAt, IsIn, Walk, lines_at, of_number, series_header, series_line, series_lines, series_text, still_waiting};
 
-use crate::decimal::Digits;
 use crate::packets::{PacketRecord, Packets};
 use crate::table::{Queue, Table};
 use journal_core::{Event, Mark, Memory};
 use packet_core::Seed;
 use std::alloc::Global;
+use text_core::Digits;
 
 /// What happened to the packets of a five-tuple in a bin, and what waits. Lengths are in bytes, delays in microseconds.
 #[derive(Clone, Copy)]

@@ -5,11 +5,11 @@ ghost use Rattle.std.specs.List.{flat_map};
 ghost use Rattle.link_report.specs.Tables as Tables;
 ghost use Rattle.link_report.specs.StepTables.{any_ipv6, is_ipv6, packet_fields, step_line, steps_text};
 
-use crate::decimal::Digits;
-use crate::table::{Table, ecn_digit};
+use crate::table::Table;
 use journal_core::{Memory, Step};
 use packet_core::Packet;
 use std::alloc::Global;
+use text_core::{AddressText, Digits, ecn_digit};
 
 /// The steps as a trace, a row for each: in its first version where all addresses are of IPv4, and else in its second,
 /// which the first row says. Lanes and tags aren't in it. It fails for want of memory alone.
@@ -85,8 +85,8 @@ fn enqueue_row(table: &mut Table, moment: u64, packet: &Packet) -> Result<(), Me
     let tuple = packet.tuple();
     let moment = Digits::of(moment);
     let proto = Digits::of(u64::from(tuple.proto));
-    let src = table.address(tuple.src)?;
-    let dst = table.address(tuple.dst)?;
+    let src = AddressText::of(tuple.src);
+    let dst = AddressText::of(tuple.dst);
     let sport = Digits::of(u64::from(tuple.sport));
     let dport = Digits::of(u64::from(tuple.dport));
     let len = Digits::of(u64::from(packet.len()));

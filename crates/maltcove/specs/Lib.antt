@@ -24,6 +24,7 @@ pub use Rattle.codel_core.specs.Queue
 pub use Rattle.codel_core.specs.Verdict
 pub use Rattle.codel_core.specs.declared.state.CodelState
 pub use Rattle.codel_core.specs.declared.served.Mark
+pub use Rattle.codel_core.specs.declared.served.Served
 -- The queues of all flows.
 pub use Rattle.flow_core.specs.Queues
 pub use Rattle.flow_core.specs.FlowLists
@@ -36,7 +37,7 @@ pub use Rattle.journal_core.specs.Happened
 pub use Rattle.journal_core.specs.JournalLaws
 pub use Rattle.journal_core.specs.Statistics
 pub use Rattle.journal_core.specs.TupleRows
-pub use Rattle.journal_core.specs.Keepers
+pub use Rattle.journal_core.specs.Recorders
 pub use Rattle.journal_core.specs.Losses
 pub use Rattle.journal_core.specs.Calls
 pub use Rattle.journal_core.specs.History

@@ -4,14 +4,16 @@
 //! journal names this crate alone. Threads stand above it, in `port_core`; C has the same scheduler by `maltcove_c`.
 #![tactic(auto)]
 
+pub use codel_core::Served;
 pub use packet_core::{
     Classify, Ecn, EcnUse, FiveTuple, Ip, LengthOutOfRange, MAX_LENGTH, Packet, ParamFault,
     ParamFields, ParamName, Params, Seed, Waiting, read_params,
 };
 pub use sched_core::{
-    Admitted, Answer, Cause, CloseFault, Engine, Event, FlowChooser, FlowView, GhostList, Keeps,
-    MAX_ACCEPTED, MAX_EVENTS, MAX_MOMENT, Mark, Memory, MomentFault, Outcome, Ran, Refusal, Sched,
-    Sent, Step, Stored, Totals, TupleRow, Unstored, run_steps,
+    Admitted, Answer, Cause, CloseFault, Engine, Event, EventList, FlowChooser, FlowView,
+    GhostList, GivenUp, MAX_ACCEPTED, MAX_EVENTS, MAX_MOMENT, Mark, Memory, MomentFault,
+    NullRecorder, Outcome, Ran, Recorder, Refusal, Remains, Sched, Sent, Step, StepList,
+    StepRecorder, Totals, TupleRow, run_steps,
 };
 pub use shaper_core::{
     Dequeued, Dropped, EnqueueFault, Enqueued, Flushed, RENEW_AFTER, Shaper, ShaperTotals,

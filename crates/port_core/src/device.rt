@@ -6,7 +6,9 @@ use crate::lane::Lane;
 use crate::lane_engine::LaneEngine;
 use crate::lane_sender::LaneEnd;
 use monitor_core::{BookName, PublishFault, Publisher, Receipt, Screen, Shown};
-use sched_core::{Engine, Event, Keeps, MAX_ACCEPTED, Memory, Refusal, Sent, Step, Stored};
+use sched_core::{
+    Engine, EventList, MAX_ACCEPTED, Memory, Recorder, Refusal, Sent, Step, StepList, StepRecorder,
+};
 use std::marker::Model;
 
 /// At most so many lanes.
@@ -17,21 +19,21 @@ pub const MAX_BURST: u64 = 1024;
 
 /// An engine with the device's end of each lane, and what shows its statistics to monitors. At every moment the packets
 /// that came out of a lane are those that the engine accepted from it, and what is shown is a beginning of its journal.
-/// The engine tells its events and its steps to keepers, which store all of them unless others are chosen. Contracts
+/// The engine tells its events and its steps to recorders, which store all of them unless others are chosen. Contracts
 /// see the engine, the lanes and what was published. Only `publish` and the device's end wait, for monitors that are
 /// just reading: the other calls stand on a part of it that has no screen.
 #[derive(Drop)]
 pub struct Device<
     J: BookName,
     X: Screen<Shown<J>> + Drop,
-    K: Keeps<Event> = Stored,
-    S: Keeps<Step> = Stored<Step>,
+    K: Recorder = EventList,
+    S: StepRecorder = StepList,
 > {
     fed: LaneEngine<K, S>,
     publisher: Publisher<J, X>,
 }
 
-impl<J: BookName, X: Screen<Shown<J>> + Drop, K: Keeps<Event>, S: Keeps<Step>> Model
+impl<J: BookName, X: Screen<Shown<J>> + Drop, K: Recorder, S: StepRecorder> Model
     for Device<J, X, K, S> {
     ghost use Rattle.port_core.specs.Devices.{BeginsJournal, Holding};
 
@@ -42,7 +44,7 @@ impl<J: BookName, X: Screen<Shown<J>> + Drop, K: Keeps<Event>, S: Keeps<Step>> M
     ghost invariant = { λ d. BeginsJournal d.publisher d.fed.engine.sched.standing.events };
 }
 
-impl<J: BookName, X: Screen<Shown<J>> + Drop, K: Keeps<Event>, S: Keeps<Step>> Device<J, X, K, S> {
+impl<J: BookName, X: Screen<Shown<J>> + Drop, K: Recorder, S: StepRecorder> Device<J, X, K, S> {
     ghost use mathlib.Core.List.{IsPrefix};
     ghost use Rattle.std.specs.Prelude.{◌≡◌, ◌≢◌, ◌≤◌, ◌<◌, ◌+◌, ◌-◌, ◌++◌, ◌∷◌, [], ℕ, IfErr, IfOk, None, OnErr, OnOk, Some, false, length, max, slice_get, slice_index_or, true};
     ghost use Rattle.journal_core.specs.State.{IsRefusal, refusal_of};

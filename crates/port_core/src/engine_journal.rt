@@ -2,17 +2,17 @@
 
 ghost use Rattle.std.specs.Prelude.{◌≡◌};
 
-use journal_core::Keeps;
+use journal_core::{Recorder, StepRecorder};
 use monitor_core::Journaled;
 use sched_core::{Engine, Event, Step, Totals};
 
 /// The journal of an engine, whether its events are stored or not.
 #[derive(Clone, Copy)]
-pub(crate) struct EngineJournal<'a, K: Keeps<Event>, S: Keeps<Step>> {
+pub(crate) struct EngineJournal<'a, K: Recorder, S: StepRecorder> {
     engine: &'a Engine<K, S>,
 }
 
-impl<'a, K: Keeps<Event>, S: Keeps<Step>> EngineJournal<'a, K, S> {
+impl<'a, K: Recorder, S: StepRecorder> EngineJournal<'a, K, S> {
     /// The journal of that engine.
     pub(crate) fn new(engine: &'a Engine<K, S>) -> EngineJournal<'a, K, S>
         ensures { result.engine.now ≡ engine.now }
@@ -21,7 +21,7 @@ impl<'a, K: Keeps<Event>, S: Keeps<Step>> EngineJournal<'a, K, S> {
     }
 }
 
-impl<'a, K: Keeps<Event>, S: Keeps<Step>> Journaled for EngineJournal<'a, K, S> {
+impl<'a, K: Recorder, S: StepRecorder> Journaled for EngineJournal<'a, K, S> {
     ghost events = { λ j. j.engine.now.sched.standing.events };
 
     fn totals(&self) -> Totals {

@@ -3,19 +3,19 @@
 use crate::device::{MAX_BURST, MAX_LANES};
 use crate::lane::Lane;
 use crate::lane_sender::LaneEnd;
-use sched_core::{Engine, Event, Keeps, MAX_ACCEPTED, Memory, Refusal, Sent, Step};
+use sched_core::{Engine, MAX_ACCEPTED, Memory, Recorder, Refusal, Sent, Step, StepRecorder};
 use std::marker::Model;
 
 /// An engine with the device's end of each lane. It has no screen and no handle, so none of its calls waits. At every
 /// moment the packets that came out of a lane are those that the engine accepted from it. Contracts see the engine and
 /// the lanes.
 #[derive(Drop)]
-pub(crate) struct LaneEngine<K: Keeps<Event>, S: Keeps<Step>> {
+pub(crate) struct LaneEngine<K: Recorder, S: StepRecorder> {
     engine: Engine<K, S>,
     lanes: Vec<Lane>,
 }
 
-impl<K: Keeps<Event>, S: Keeps<Step>> Model for LaneEngine<K, S> {
+impl<K: Recorder, S: StepRecorder> Model for LaneEngine<K, S> {
     ghost use Rattle.std.specs.Prelude.{◌≤◌, length};
     ghost use Rattle.port_core.specs.Devices.{Fed, KeepsLanes};
     ghost use Rattle.port_core.specs.declared.device.TheConstants.{MAX_LANES};
@@ -28,7 +28,7 @@ impl<K: Keeps<Event>, S: Keeps<Step>> Model for LaneEngine<K, S> {
         × (length e.lanes.items ≤ MAX_LANES) };
 }
 
-impl<K: Keeps<Event>, S: Keeps<Step>> LaneEngine<K, S> {
+impl<K: Recorder, S: StepRecorder> LaneEngine<K, S> {
     ghost use Rattle.std.specs.Prelude.{◌≡◌, ◌≢◌, ◌≤◌, ◌<◌, ◌-◌, ◌++◌, ◌∷◌, [], ℕ, IfErr, IfOk, MatchBool, None, OnErr, OnOk, Some, false, length, max, slice_get, slice_index_or, true};
     ghost use Rattle.journal_core.specs.State.{IsRefusal, refusal_of};
     ghost use Rattle.journal_core.specs.declared.outcome.Answer.TheVariants as answer;

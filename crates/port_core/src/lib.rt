@@ -29,7 +29,7 @@ pub use monitor_core::{
     BookBlank, BookName, LeftRight, Monitor, NoReader, OpenFault, PublishFault, Receipt, Screen,
     Seen, Shown,
 };
-pub use opening::{Layout, MAX_CAPACITY, MAX_MONITORS, Opened, lanes, lanes_with_keepers};
+pub use opening::{Layout, MAX_CAPACITY, MAX_MONITORS, Opened, lanes, lanes_with_recorders};
 pub use port::{LockedPort, Unsettled, Why};
 pub use seat::{MAX_SEATS, PortSeat};
 pub use sender::{LockedDone, send_locked};

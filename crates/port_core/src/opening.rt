@@ -16,7 +16,7 @@ use monitor_core::{
 };
 use packet_core::{Params, Seed};
 use rtrb::RingBuffer;
-use sched_core::{Engine, Event, Keeps, Step, Stored};
+use sched_core::{Engine, EventList, Recorder, StepList, StepRecorder};
 use std::alloc::{AllocError, Global};
 use std::sync::Wait;
 
@@ -42,8 +42,8 @@ pub struct Layout {
 pub struct Opened<
     J: BookName,
     X: Screen<Shown<J>> + Drop,
-    K: Keeps<Event> = Stored,
-    S: Keeps<Step> = Stored<Step>,
+    K: Recorder = EventList,
+    S: StepRecorder = StepList,
 > {
     /// The senders, in the order of their lanes.
     pub senders: Vec<LaneSender>,
@@ -100,20 +100,20 @@ pub fn lanes<J: BookName, R: Wait + Drop>(
     ensures monitors { IfOk result (λ o. o.monitors.items ≡ replicate layout.monitors []) }
     ensures no_place { IfErr result (λ why. layout.monitors ≡ 0 → why ≡ open_fault.Memory) }
 {
-    lanes_with_keepers(
+    lanes_with_recorders(
         rt,
         alloc,
         blank,
         params,
         seed,
         layout,
-        Stored::new(alloc),
-        Stored::new(alloc),
+        EventList::new(alloc),
+        StepList::new(alloc),
     )
 }
 
-/// The same with a device whose engine tells its events and its steps to keepers that were told none.
-pub fn lanes_with_keepers<J: BookName, R: Wait + Drop, K: Keeps<Event>, S: Keeps<Step>>(
+/// The same with a device whose engine tells its events and its steps to recorders that were told none.
+pub fn lanes_with_recorders<J: BookName, R: Wait + Drop, K: Recorder, S: StepRecorder>(
     rt: R,
     alloc: Global,
     blank: BookBlank,
@@ -128,6 +128,7 @@ pub fn lanes_with_keepers<J: BookName, R: Wait + Drop, K: Keeps<Event>, S: Keeps
     requires capacity { (0 < layout.capacity) × (layout.capacity ≤ MAX_CAPACITY) }
     requires monitors { layout.monitors ≤ MAX_MONITORS }
     requires events { K.told events ≡ [] }
+    requires none_sent { K.sent events ≡ [] }
     requires no_loss { K.lost events ≡ [] }
     requires steps { S.told steps ≡ [] }
     ensures engine { IfOk result (λ o. o.device.engine ≡ new_engine params seed) }
@@ -137,7 +138,7 @@ pub fn lanes_with_keepers<J: BookName, R: Wait + Drop, K: Keeps<Event>, S: Keeps
     ensures no_place { IfErr result (λ why. layout.monitors ≡ 0 → why ≡ open_fault.Memory) }
 {
     let (publisher, monitors) = open_publisher(rt, alloc, blank, layout.monitors)?;
-    let engine = Engine::try_with_keepers(alloc, params, seed, events, steps)?;
+    let engine = Engine::try_with_recorders(alloc, params, seed, events, steps)?;
     let (senders, lanes) = new_lanes(alloc, layout.lanes, layout.capacity)?;
     Ok(Opened {
         senders,

@@ -1,7 +1,7 @@
 //! The locked port: an engine that several threads use, one call at a time.
 
 ghost use Rattle.std.specs.Prelude.{[], ◌≡◌, ◌≤◌, ◌<◌, ◌+◌, ◌^◌, ◌⊎◌, All, IfOk, IfErr, IfSome, IfNone, OnErr, OnOk, IsTrue, length, sum_by};
-ghost use Rattle.journal_core.specs.Keepers.{stored_items, stored_losses};
+ghost use Rattle.journal_core.specs.Recorders.{listed_events, listed_losses, listed_sent, listed_steps};
 ghost use Rattle.journal_core.specs.Statistics.{statistics};
 ghost use Rattle.journal_core.specs.declared.step.Refusal.TheVariants as refusal;
 ghost use Rattle.journal_core.specs.declared.step.Step.TheVariants.{Close, Dequeue, Enqueue};
@@ -14,7 +14,7 @@ ghost use Rattle.port_core.specs.declared.port.Why.TheVariants as why;
 use crate::front::Front;
 use crate::seat::{PortSeat, seats_of};
 use packet_core::{Packet, Params, Seed};
-use sched_core::{Admitted, Engine, Memory, Refusal, Sent, Step, Stored, Totals};
+use sched_core::{Admitted, Engine, EventList, Memory, Refusal, Sent, Step, StepList, Totals};
 use std::alloc::Global;
 use std::marker::Model;
 use std::sync::ledger::{Blank, Ledger};
@@ -80,28 +80,29 @@ impl<A: Ledger, S: Ledger> LockedPort<A, S> {
         ensures port { IfOk result (λ r. r.0 ≡ record { params = params; seed = seed; seats = seats }) }
         ensures seats { IfOk result (λ r. r.1.items ≡ new_seats seats) }
     {
-        let (events, steps) = (Stored::new(alloc), Stored::new(alloc));
-        LockedPort::start_with_keepers(alloc, params, seed, seats, accepted, sent, events, steps)
+        let (events, steps) = (EventList::new(alloc), StepList::new(alloc));
+        LockedPort::start_with_recorders(alloc, params, seed, seats, accepted, sent, events, steps)
     }
 
     /// The same, of an engine that stores its events and its steps in lists that were told none. They may have memory
     /// for what comes.
-    pub fn start_with_keepers(
+    pub fn start_with_recorders(
         alloc: Global,
         params: Params,
         seed: Seed,
         seats: u32,
         accepted: Blank,
         sent: Blank,
-        events: Stored,
-        steps: Stored<Step>,
+        events: EventList,
+        steps: StepList,
     ) -> Result<(LockedPort<A, S>, Vec<PortSeat<A, S>>), Memory>
         requires number { (0 < seats) × (seats ≤ MAX_SEATS) }
         requires accepted { (accepted.name ≡ A.name) × (accepted.parts ≡ A.parts) × (A.parts ≡ seats) }
         requires sent { (sent.name ≡ S.name) × (sent.parts ≡ S.parts) × (S.parts ≡ seats) }
-        requires events { stored_items events ≡ [] }
-        requires no_loss { stored_losses events ≡ [] }
-        requires steps { stored_items steps ≡ [] }
+        requires events { listed_events events ≡ [] }
+        requires none_sent { listed_sent events ≡ [] }
+        requires no_loss { listed_losses events ≡ [] }
+        requires steps { listed_steps steps ≡ [] }
         ensures port { IfOk result (λ r. r.0 ≡ record { params = params; seed = seed; seats = seats }) }
         ensures seats { IfOk result (λ r. r.1.items ≡ new_seats seats) }
     {
@@ -109,7 +110,7 @@ impl<A: Ledger, S: Ledger> LockedPort<A, S> {
         let (other, sent) = sent.open::<S>();
         let all = seats_of(alloc, seats, accepted, sent)?;
         let front = Front {
-            engine: Engine::try_with_keepers(alloc, params, seed, events, steps)?,
+            engine: Engine::try_with_recorders(alloc, params, seed, events, steps)?,
             accepted: book,
             sent: other,
         };

@@ -21,7 +21,7 @@ use crate::senders_fault::SendersFault;
 use packet_core::{Packet, Params, Seed};
 use port_core::{
     BookBlank, BookName, Device, LaneDone, LaneSender, Layout, MAX_CAPACITY, MAX_MONITORS, Monitor,
-    Open, Opened, PublishFault, Screen, Seen, Shown, lanes_with_keepers,
+    Open, Opened, PublishFault, Screen, Seen, Shown, lanes_with_recorders,
 };
 use sched_core::{Engine, Refusal, Step};
 use sender_core::{Expected, MAX_SENDERS, device_moment, lists_of, packets_of, start_lanes};
@@ -112,7 +112,7 @@ fn run_in_book<J: BookName + Send + Sync, H: Threads + Wait + Sync>(
     ensures fault { IfErr result (IsLanesRunFault (length lists.now)) }
 {
     let (events, made) = stores(alloc, Expected::of(steps));
-    let opened = lanes_with_keepers::<J, _, _, _>(
+    let opened = lanes_with_recorders::<J, _, _, _>(
         rt, alloc, blank, params, seed, layout, events, made,
     )?;
     run_opened(rt, alloc, opened, steps, lists)

@@ -70,7 +70,7 @@ fn run_lists<A: Ledger + Send + Sync, S: Ledger + Send + Sync, H: Threads + Wait
     let count = lists.len() as u32 + 1;
     let expected = Expected::of(steps);
     let (events, made) = stores(alloc, expected);
-    let (port, mut seats) = LockedPort::<A, S>::start_with_keepers(
+    let (port, mut seats) = LockedPort::<A, S>::start_with_recorders(
         alloc, params, seed, count, accepted, sent, events, made,
     )?;
     let Some(seat) = seats.pop() else {

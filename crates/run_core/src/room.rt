@@ -1,9 +1,9 @@
 //! The lists of a run, with memory for all of it where so many packets are known to come.
 
 ghost use Rattle.std.specs.Prelude.{◌≡◌, []};
-ghost use Rattle.journal_core.specs.Keepers.{stored_items, stored_losses};
+ghost use Rattle.journal_core.specs.Recorders.{listed_events, listed_losses, listed_sent, listed_steps};
 
-use sched_core::{Keeps, Step, Stored};
+use sched_core::{EventList, Recorder, StepList, StepRecorder};
 use sender_core::Expected;
 use std::alloc::Global;
 
@@ -13,12 +13,13 @@ pub(crate) const BURST: u64 = 64;
 
 /// What stores the events and the steps of the run, with memory for all of them where packets are expected. Where memory
 /// is refused, a list grows as it is filled.
-pub(crate) fn stores(alloc: Global, expected: Expected) -> (Stored, Stored<Step>)
-    ensures events { stored_items result.0 ≡ [] }
-    ensures no_loss { stored_losses result.0 ≡ [] }
-    ensures steps { stored_items result.1 ≡ [] }
+pub(crate) fn stores(alloc: Global, expected: Expected) -> (EventList, StepList)
+    ensures events { listed_events result.0 ≡ [] }
+    ensures none_sent { listed_sent result.0 ≡ [] }
+    ensures no_loss { listed_losses result.0 ≡ [] }
+    ensures steps { listed_steps result.1 ≡ [] }
 {
-    let (mut events, mut steps) = (Stored::new(alloc), Stored::new(alloc));
+    let (mut events, mut steps) = (EventList::new(alloc), StepList::new(alloc));
     let room = expected.room(BURST as usize);
     let _ = events.reserve(room.events);
     let _ = steps.reserve(room.steps);

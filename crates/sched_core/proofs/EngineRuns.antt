@@ -56,7 +56,7 @@ goes_on steps step answer.Idle old new run fits g = (rw g.dequeues (served_on ru
 goes_on steps step answer.Closed old new run fits g = (advanced_on run g.advances, let e = g.room in omega arith)
 goes_on steps step (answer.Refused why) old new run fits g = let e : None ≡ Some why = sym fits ∙ g.0 in absurd cc
 
--- what an engine keeps, behind a step that it made and told to its keeper
+-- what an engine keeps, behind a step that it made and told to its recorder
 pub told_on : {old new : Scheduler} {steps told : List Step} {space space' reserved reserved' : ℕ} (step : Step) → EngineInvariant old steps space reserved
     → IsRunOf (discipline_of new) (steps ++ step ∷ []) new.standing → old.room ≤ new.room + 1
     → told ≡ steps ++ step ∷ [] → space ≤ space' + 1 → reserved' ≡ reserved - 1 → EngineInvariant new told space' reserved'
@@ -64,7 +64,7 @@ told_on step kept run room is less used =
     record {
       run = rw is run;
       in_sched = omega (arith, kept.in_sched);
-      in_keeper = omega (arith, kept.in_keeper);
+      in_recorder = omega (arith, kept.in_recorder);
     }
 
 -- A new engine has made no step yet.

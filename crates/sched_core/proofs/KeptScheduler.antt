@@ -24,7 +24,7 @@ use Rattle.journal_core.specs.declared.outcome.Answer.TheVariants as answer
 use Rattle.journal_core.specs.declared.step.Step.{Step}
 use Rattle.journal_core.specs.declared.step.Step.TheVariants.{Enqueue, Dequeue, Close}
 use Rattle.fair_core.specs.Backlogs.{DropsOverflow, Held, MakesChain, leaving, shown_service, with_arrival_listed}
-use Rattle.journal_core.specs.Books.{Book, count_accepted, count_drops, count_sent, with_event}
+use Rattle.journal_core.specs.Books.{Book, count_accepted, count_drops, count_sent, with_departure, with_event}
 use Rattle.journal_core.specs.Calls.{Advances, Standing, sent_at}
 use Rattle.journal_core.specs.Disciplines.{Batch, Given, IsFifoByFlow, given_packet, heads, packets_of, with_arrival}
 use Rattle.fair_core.specs.FairQueueing.{Arrives, ServesNext, dropped_in, given_in}
@@ -34,7 +34,7 @@ use Rattle.fair_core.specs.FqCodel.{fq_codel, fq_codel_policy}
 use Rattle.journal_core.specs.Happened.{Acceptance, acceptance_of, acceptances, fate_ids, fate_of, is_among, without_fate}
 use Rattle.journal_core.specs.History.{AreCounts, IsHistory}
 use Rattle.journal_core.specs.JournalLaws.{JournalLaws, WaitWithoutFate}
-use Rattle.journal_core.specs.Losses.{AreGivenBackOnce, lost_packets}
+use Rattle.journal_core.specs.Losses.{AreGivenBackOnce, departed_packets, lost_packets, with_field}
 use Rattle.sched_core.specs.declared.sched.Sched.TheInside.{Inside}
 use Rattle.sched_core.specs.Kept.{IsBookKept, IsKept, closes_left, scheduler_of}
 use Rattle.fair_core.specs.Overflow.{Overflow}
@@ -54,7 +54,7 @@ use Rattle.journal_core.proofs.HistoryRuns.{keeps_makes}
 use Rattle.journal_core.proofs.KnownPackets.{IsKnown, known_length, waiting_known}
 use Rattle.journal_core.proofs.LawsOfHistory.{laws_of_history, waits_of_history}
 use Rattle.journal_core.proofs.ListLemmas.{ByRecursion-append, ByRecursion-parts, ByRecursion-weaker, length_as_sum}
-use Rattle.journal_core.proofs.LossLemmas.{drops_accepted, losses_accept, losses_drops, losses_same}
+use Rattle.journal_core.proofs.LossLemmas.{departures_accept, departures_drops, departures_same, departures_send, drops_accepted, losses_accept, losses_drops, losses_same}
 use Rattle.journal_core.proofs.PacketsGivenBack.{given_back_once}
 use Rattle.journal_core.proofs.RefusalLemmas.{close_open, dequeue_next, enqueue_open}
 use Rattle.journal_core.proofs.WaitingPackets.{by_queues}
@@ -133,10 +133,10 @@ module _ (p : ParamFields) (seed : Seed) where
   -- A step that is made, whose events took their room and are counted, and whose losses were told: each event is a fate,
   -- the acceptance or the close.
   kept_on : {old new : State FairQueues} {places places' spare spare' : ℕ} {book book' : Book} (step : Step) (said : Answer) → IsBookKept p seed old places book spare
-      → (a : Advances (fq_codel p seed) (standing_of old book) step said (standing_of new book')) → book'.room ≡ book.room - length a.made → AreCounts book'.counts book'.events → book'.lost ≡ lost_packets book'.events
+      → (a : Advances (fq_codel p seed) (standing_of old book) step said (standing_of new book')) → book'.room ≡ book.room - length a.made → AreCounts book'.counts book'.events → book'.sent ≡ departed_packets book'.events → book'.lost ≡ lost_packets book'.events
       → length a.made + old.next_id + closes_left new.closed ≡ length (fate_ids a.made) + new.next_id + closes_left old.closed → new.next_id ≤ 2 ^ 40 → new.last < 2 ^ 60
       → spare' ≤ places' → spare' + new.next_id ≡ spare + old.next_id → IsBookKept p seed new places' book' spare'
-  kept_on {old} {new} {places} {places'} {spare} {spare'} {book} {book'} step said h a taken counts lost each few soon reserved spares =
+  kept_on {old} {new} {places} {places'} {spare} {spare'} {book} {book'} step said h a taken counts sent lost each few soon reserved spares =
       let d = fq_codel p seed in
       let flows = makes_as_many (fq_codel_policy p) (policy_drops p) p.flows d.flow_of old new step said a.made a.makes ∙ h.flows in
       let history : IsHistory d.flow_of (queue_of new.queues) book'.events new.next_id new.last new.closed =
@@ -156,6 +156,7 @@ module _ (p : ParamFields) (seed : Seed) where
         few = few;
         soon = soon;
         history = history;
+        sent = sent;
         lost = lost;
         counts = counts;
         credits = makes_credits (fq_codel_policy p) (policy_drops p) (longest (acceptances book'.events)) p.flows d.flow_of old new step said a.made a.makes (fitting a) (credits_weaker p.quantum (longest (acceptances book.events)) (longest (acceptances book'.events)) old.queues (longer a) h.credits);
@@ -175,7 +176,7 @@ module _ (p : ParamFields) (seed : Seed) where
       let open' = close_open s moment fits in
       let one : closes_left s.closed ≡ 1 = ap closes_left open'.open' in
       kept_on (Close moment) answer.Closed h (record { fits = fits; made = Closed moment ∷ []; makes = (refl, record { told = refl; state = refl }); journal = refl })
-      refl (counts_close book.counts book.events moment h.counts) (h.lost ∙ sym (losses_same book.events (Closed moment) refl refl)) (omega arith) h.few open'.next.soon h.reserved refl
+      refl (counts_close book.counts book.events moment h.counts) (h.sent ∙ sym (departures_same book.events (Closed moment) refl (λ _. refl))) (h.lost ∙ sym (losses_same book.events (Closed moment) refl refl)) (omega arith) h.few open'.next.soon h.reserved refl
 
 -- one close at most is still to come
 one_close : (closed : Bool) → closes_left closed ≤ 1
@@ -198,6 +199,7 @@ kept_takes {closed = closed} m h =
       few = h.few;
       soon = h.soon;
       history = h.history;
+      sent = h.sent;
       lost = h.lost;
       counts = h.counts;
       credits = h.credits;
@@ -279,6 +281,8 @@ module _ {p : ParamFields} {seed : Seed} {held mid new : Held} {book book' : Boo
       let counts = counts_drops cause.Overflow moment _ _ lost (lengths_named entered.events lost named) first in
       let told : entered.lost ++ lost ≡ lost_packets (with_drops entered moment cause.Overflow lost).events =
       ap (λ l. l ++ lost) (h.lost ∙ sym (losses_accept book.events held.arrived moment lane flow packet found)) ∙ sym (losses_drops moment cause.Overflow entered.events lost named) in
+      let departed : entered.sent ≡ departed_packets (with_drops entered moment cause.Overflow lost).events =
+      h.sent ∙ sym (departures_accept book.events held.arrived moment lane flow packet found) ∙ sym (departures_drops moment cause.Overflow entered.events lost) in
       let left = ap (λ (b : Book). b.room) a.drops.journal in
       let each = length-map lost (drop_event moment cause.Overflow) in
       let room_is : new.room ≡ mid.room = ap (λ (x : Held). x.room) a.drops.rest in
@@ -286,7 +290,7 @@ module _ {p : ParamFields} {seed : Seed} {held mid new : Held} {book book' : Boo
       let open' = enqueue_open (state_of held last closed) moment lane packet a.fits in
       let drops = map (drop_event moment cause.Overflow) lost in
       let fates : length (fate_ids drops) ≡ length drops = rw append-nil at (all_fates moment cause.Overflow lost None) in
-      kept_on p seed (Enqueue moment lane packet) answer.Accepted h advances (omega arith) (rw a.drops.journal counts) (rw a.drops.journal told)
+      kept_on p seed (Enqueue moment lane packet) answer.Accepted h advances (omega arith) (rw a.drops.journal counts) (rw a.drops.journal departed) (rw a.drops.journal told)
       (omega arith) (omega (arith, open'.1)) open'.0.next.soon (omega (arith, h.reserved, a.reserved)) (omega (arith, a.some))
 
   -- the comparisons since the arrival, and the events
@@ -302,7 +306,7 @@ module _ {p : ParamFields} {seed : Seed} {held mid new : Held} {book book' : Boo
 -- The dequeue: the journal, once the packet that is served is sent, if one is.
 abbrev pub with_sent : Book → ℕ → Option Served → Book
 with_sent book moment None = book
-with_sent book moment (Some s) = with_event book (Sent s.waiting.id moment s.waiting.packet.ecn s.mark) (count_sent book.counts s.waiting.packet.len s.mark)
+with_sent book moment (Some s) = with_departure book (Sent s.waiting.id moment s.waiting.packet.ecn s.mark) (count_sent book.counts s.waiting.packet.len s.mark) s.waiting
 
 abbrev served_book : Book → ℕ → Option Service → Book
 served_book book moment service = with_sent (with_drops book moment cause.Codel (dropped_in service)) moment (option_map shown_service service)
@@ -347,6 +351,17 @@ served_losses book moment (Some s) named h =
     ap (λ l. l ++ s.dropped) h
     ∙ sym (losses_same (book.events ++ map (drop_event moment cause.Codel) s.dropped) (Sent s.given.waiting.id moment (sent_ecn s.given.mark s.given.waiting.packet.ecn) s.given.mark) refl refl ∙ losses_drops moment cause.Codel book.events s.dropped parts.0)
 
+-- and which departs where it is sent
+served_departures : (book : Book) (moment : ℕ) (service : Option Service) → AllByRecursion (IsNamed book.events) (packets_in service) → book.sent ≡ departed_packets book.events
+    → (served_book book moment service).sent ≡ departed_packets (served_book book moment service).events
+served_departures book moment None named h = h ∙ sym (departures_drops moment cause.Codel book.events [])
+served_departures book moment (Some s) named h =
+    let drops = map (drop_event moment cause.Codel) s.dropped in
+    let ecn = sent_ecn s.given.mark s.given.waiting.packet.ecn in
+    let parts = ByRecursion-parts (IsNamed book.events) s.dropped (s.given.waiting ∷ []) named in
+    ap (λ l. l ++ with_field ecn s.given.waiting ∷ []) (h ∙ sym (departures_drops moment cause.Codel book.events s.dropped))
+    ∙ sym (departures_send (book.events ++ drops) s.given.waiting moment ecn s.given.mark (rw (drops_accepted moment cause.Codel book.events s.dropped) parts.1.0))
+
 -- a packet that is given
 one_given : (served : Served) (service : Option Service) → Some served ≡ option_map shown_service service → length (given_packet (given_in service)) ≡ 1
 one_given served None e = absurd cc
@@ -386,7 +401,8 @@ module _ (p : ParamFields) (seed : Seed) where
       let waiting = waiting_known (fq_codel p seed).flow_of (queue_of held.queues) book.events held.arrived last closed h.history left.0 in
       let named = (ByRecursion-parts (IsNamed book.events) (packets_in (service_in s.turns)) (queue_of held'.queues left.0) (rw left.1 at waiting)).0 in
       kept_on p seed (Dequeue moment) (dequeue_answer (given_in (service_in s.turns))) h (record { fits = fits; made = served_events moment (service_in s.turns); makes = (given_in (service_in s.turns), refl, served s last closed arrived); journal = journal_is s })
-      (rw (book_is s) (served_room book moment (service_in s.turns))) (rw (book_is s) (served_counts book moment (service_in s.turns) named h.counts)) (rw (book_is s) (served_losses book moment (service_in s.turns) named h.lost))
+      (rw (book_is s) (served_room book moment (service_in s.turns))) (rw (book_is s) (served_counts book moment (service_in s.turns) named h.counts))
+      (rw (book_is s) (served_departures book moment (service_in s.turns) named h.sent)) (rw (book_is s) (served_losses book moment (service_in s.turns) named h.lost))
       (omega (arith, all_fates moment cause.Codel (dropped_in (service_in s.turns)) (given_in (service_in s.turns)))) (rw arrived h.few) (dequeue_next (state_of held last closed) moment fits).soon (rw same_room h.reserved) (ap (λ n. room + n) arrived)
 
   -- what is answered to a dequeue
@@ -463,6 +479,9 @@ pub seen_number : {K : Type 0} (s : Inside K) (v : Scheduler) → scheduler_of s
 seen_number s v e h = rw (← e) (
     omega (arith, number_of_events s.journal.events h.book.history.closed_for_good, h.book.counts.accepted, h.book.counts.fates, ap (λ b. bool_byte b) h.book.history.close)
     )
+
+pub seen_departures : {K : Type 0} (s : Inside K) (v : Scheduler) → scheduler_of s ≡ v → IsKept s → s.journal.sent ≡ departed_packets v.standing.events
+seen_departures s v e h = rw (← e) h.book.sent
 
 pub seen_losses : {K : Type 0} (s : Inside K) (v : Scheduler) → scheduler_of s ≡ v → IsKept s → s.journal.lost ≡ lost_packets v.standing.events
 seen_losses s v e h = rw (← e) h.book.lost

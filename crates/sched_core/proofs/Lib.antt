@@ -10,3 +10,4 @@ pub mod RunShares
 pub mod LongestPackets
 pub mod QueueLengths
 pub mod PacketsAheadInRuns
+pub mod RemainingPackets

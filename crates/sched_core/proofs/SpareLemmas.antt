@@ -16,13 +16,13 @@ takes_none n held book = record {
 
 -- what flows and a journal take
 pub takes_some : (old new : ℕ) (held held' : Held) (book book' : Book) → held'.queues ≡ held.queues → held'.arrived ≡ held.arrived → held'.comparisons ≡ held.comparisons
-    → book'.events ≡ book.events → book'.lost ≡ book.lost → book'.counts ≡ book.counts → ((closes : ℕ) → closes ≤ 1 → HasMemoryFor old closes held book → HasMemoryFor new closes held' book')
+    → book'.events ≡ book.events → book'.sent ≡ book.sent → book'.lost ≡ book.lost → book'.counts ≡ book.counts → ((closes : ℕ) → closes ≤ 1 → HasMemoryFor old closes held book → HasMemoryFor new closes held' book')
     → TakesMemory old held book new held' book'
-takes_some old new held held' book book' queues arrived comparisons events lost counts enough = record {
+takes_some old new held held' book book' queues arrived comparisons events sent lost counts enough = record {
   places = held'.room;
   in_flows = λ i. record { queues = queues i; arrived = arrived i; room = held'.room; comparisons = comparisons i };
   events = book'.room;
-  in_journal = λ i. record { events = events i; lost = lost i; counts = counts i; room = book'.room };
+  in_journal = λ i. record { events = events i; sent = sent i; lost = lost i; counts = counts i; room = book'.room };
   enough = enough;
 }
 

@@ -29,12 +29,12 @@ pub record WantsRoomFor (old : Running) (step : Step) : Type 0 where
   pub fits : refusal_of old.sched.standing.state step ≡ None
   pub none : old.room ≡ 0
 
--- What an engine keeps of its scheduler, its steps, their keeper's room and the steps that are reserved: the scheduler
+-- What an engine keeps of its scheduler, its steps, their recorder's room and the steps that are reserved: the scheduler
 -- is the run of the steps, and each reserved step has its room in both.
-pub record EngineInvariant (sched : Scheduler) (steps : List Step) (keeper_room reserved : ℕ) : Type 0 where
+pub record EngineInvariant (sched : Scheduler) (steps : List Step) (recorder_room reserved : ℕ) : Type 0 where
   pub run : IsRunOf (discipline_of sched) steps sched.standing
   pub in_sched : reserved ≤ sched.room
-  pub in_keeper : reserved ≤ keeper_room
+  pub in_recorder : reserved ≤ recorder_room
 
 -- A new engine of those parameters and that seed has made the first of these steps, with those outcomes.
 pub record HasRun (p : ParamFields) (seed : Seed) (steps first : List Step) (outcomes : List Outcome)

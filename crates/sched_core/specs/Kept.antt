@@ -9,7 +9,7 @@ use Rattle.fair_core.specs.FairQueues.{FairQueues, queue_of}
 use Rattle.fair_core.specs.FqCodel.{fq_codel}
 use Rattle.journal_core.specs.Happened.{acceptances}
 use Rattle.journal_core.specs.History.{AreCounts, IsHistory}
-use Rattle.journal_core.specs.Losses.{lost_packets}
+use Rattle.journal_core.specs.Losses.{departed_packets, lost_packets}
 use Rattle.sched_core.specs.Classifiers.{classifier_by}
 use Rattle.sched_core.specs.Schedulers.{Scheduler}
 use Rattle.sched_core.specs.Shares.{longest}
@@ -41,8 +41,8 @@ closes_left closed = if closed then 0 else 1
 
 -- What holds of the state, of how many packets more its flows have memory for, of the journal, and of how many enqueues
 -- there is memory for: the journal has room for each waiting packet's fate, for the close, and for the acceptance and
--- the fate of each of those enqueues; it is a history of the state; its keeper was told of the dropped packets as lost,
--- each as it was accepted; and each flow's credits are in the range of the longest packet so far.
+-- the fate of each of those enqueues; it is a history of the state; its recorder was told of the packets that left as
+-- sent, and of the dropped packets as lost, each as it was accepted; and each flow's credits are in the range of the longest packet so far.
 pub record IsBookKept (p : ParamFields) (seed : Seed) (s : State FairQueues) (places : ℕ) (book : Book)
     (spare : ℕ) : Type 0 where
   pub some : 0 < p.flows
@@ -54,6 +54,7 @@ pub record IsBookKept (p : ParamFields) (seed : Seed) (s : State FairQueues) (pl
   pub few : s.next_id ≤ 2 ^ 40
   pub soon : s.last < 2 ^ 60
   pub history : IsHistory (fq_codel p seed).flow_of (queue_of s.queues) book.events s.next_id s.last s.closed
+  pub sent : book.sent ≡ departed_packets book.events
   pub lost : book.lost ≡ lost_packets book.events
   pub counts : AreCounts book.counts book.events
   pub credits : AreCreditsKept p.quantum (longest (acceptances book.events)) s.queues

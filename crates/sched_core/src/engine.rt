@@ -2,27 +2,28 @@
 
 ghost use Rattle.std.specs.Prelude.{◌≡◌, ◌≢◌, ◌+◌, ◌-◌, ◌<◌, ◌≤◌, ◌++◌, ◌∷◌, [], All, max, None, IfOk, IfErr, OnOk, OnErr, length};
 
+use crate::given_up::GivenUp;
 use crate::sched::{MAX_ACCEPTED, Sched};
 use fair_core::FlowView;
 use journal_core::{
-    Admitted, Answer, Event, Keeps, MAX_MOMENT, Memory, Refusal, Sent, Step, Stored, Totals,
-    TupleRow,
+    Admitted, Answer, Event, EventList, MAX_MOMENT, Memory, Recorder, Refusal, Sent, Step,
+    StepList, StepRecorder, Totals, TupleRow,
 };
 use packet_core::{Packet, Params, Seed};
 use std::alloc::Global;
 use std::marker::Model;
 
 /// A scheduler that keeps the list of its steps. At every moment it is the run of those steps with the parameters
-/// and the seed that it was made with: whoever has the three has the whole of it again. It tells its steps to a keeper,
-/// as its journal tells its events to another; both store all that they are told unless others are chosen.
+/// and the seed that it was made with: whoever has the three has the whole of it again. It tells its steps to a recorder,
+/// as its journal tells another what becomes of packets; both store all that they are told unless others are chosen.
 #[derive(Debug, Drop)]
-pub struct Engine<K: Keeps<Event> = Stored, S: Keeps<Step> = Stored<Step>> {
+pub struct Engine<K: Recorder = EventList, S: StepRecorder = StepList> {
     sched: Sched<K>,
     steps: S,
     room: u64,
 }
 
-impl<K: Keeps<Event>, S: Keeps<Step>> Model for Engine<K, S> {
+impl<K: Recorder, S: StepRecorder> Model for Engine<K, S> {
     ghost use Rattle.sched_core.specs.Engines.{EngineInvariant, Running};
 
     ghost Value = { Running };
@@ -32,14 +33,14 @@ impl<K: Keeps<Event>, S: Keeps<Step>> Model for Engine<K, S> {
     ghost invariant = { λ e. EngineInvariant e.sched (S.told e.steps) (S.room e.steps) e.room };
 }
 
-impl<K: Keeps<Event>, S: Keeps<Step>> Engine<K, S> {
+impl<K: Recorder, S: StepRecorder> Engine<K, S> {
     ghost use Rattle.flow_core.specs.FlowLists.{waiting_in};
     ghost use Rattle.sched_core.specs.AnyStep.{GoesOn};
     ghost use Rattle.journal_core.specs.Calls.{admitted_at};
     ghost use Rattle.sched_core.specs.Engines.{WantsRoomFor, new_engine, room_behind};
     ghost use Rattle.fair_core.specs.FairQueues.{queue_of};
     ghost use Rattle.journal_core.specs.JournalLaws.{JournalLaws, WaitWithoutFate};
-    ghost use Rattle.journal_core.specs.Losses.{AreGivenBackOnce, lost_packets};
+    ghost use Rattle.journal_core.specs.Losses.{AreGivenBackOnce, departed_packets, lost_packets};
     ghost use Rattle.journal_core.specs.Runs.{IsRunOf, Takes, unless_refused};
     ghost use Rattle.sched_core.specs.Schedulers.{ComparesFew, IsAdvanced, IsServed, discipline_of, flows_of};
     ghost use Rattle.fair_core.specs.Shown.{flow_shown};
@@ -48,8 +49,8 @@ impl<K: Keeps<Event>, S: Keeps<Step>> Engine<K, S> {
     ghost use Rattle.journal_core.specs.declared.step.Step.TheVariants.{Enqueue, Dequeue, Close};
     ghost use Rattle.journal_core.specs.declared.outcome.Answer.TheVariants as answer;
 
-    /// An engine before its first step, which tells its events and its steps to keepers that were told none.
-    pub fn try_with_keepers(
+    /// An engine before its first step, over recorders of events and of steps that were told none.
+    pub fn try_with_recorders(
         alloc: Global,
         params: Params,
         seed: Seed,
@@ -57,12 +58,13 @@ impl<K: Keeps<Event>, S: Keeps<Step>> Engine<K, S> {
         steps: S,
     ) -> Result<Engine<K, S>, Memory>
         requires events { K.told events ≡ [] }
+        requires none_sent { K.sent events ≡ [] }
         requires no_loss { K.lost events ≡ [] }
         requires steps { S.told steps ≡ [] }
         ensures { IfOk result (λ e. e ≡ new_engine params seed) }
     {
         Ok(Engine {
-            sched: Sched::try_with_keeper(alloc, params, seed, events)?,
+            sched: Sched::try_with_recorder(alloc, params, seed, events)?,
             steps,
             room: 0,
         })
@@ -112,7 +114,7 @@ impl<K: Keeps<Event>, S: Keeps<Step>> Engine<K, S> {
         self.sched.test_enqueue(moment)?;
         self.steps.reserve(1)?;
         let admitted = self.sched.admit(moment, lane, packet)?;
-        self.steps.tell(Step::Enqueue {
+        self.steps.record(Step::Enqueue {
             moment,
             lane,
             packet,
@@ -137,7 +139,7 @@ impl<K: Keeps<Event>, S: Keeps<Step>> Engine<K, S> {
         self.sched.test_dequeue(moment)?;
         self.steps.reserve(1)?;
         let sent = self.sched.serve(moment);
-        self.steps.tell(Step::Dequeue { moment });
+        self.steps.record(Step::Dequeue { moment });
         self.room = self.room.saturating_sub(1);
         Ok(sent)
     }
@@ -158,7 +160,7 @@ impl<K: Keeps<Event>, S: Keeps<Step>> Engine<K, S> {
         self.sched.test_close(moment)?;
         self.steps.reserve(1)?;
         self.sched.end(moment);
-        self.steps.tell(Step::Close { moment });
+        self.steps.record(Step::Close { moment });
         self.room = self.room.saturating_sub(1);
         Ok(())
     }
@@ -196,7 +198,7 @@ impl<K: Keeps<Event>, S: Keeps<Step>> Engine<K, S> {
         }
         self.steps.reserve(1)?;
         let answer = self.sched.make_tested(step)?;
-        self.steps.tell(*step);
+        self.steps.record(*step);
         self.room = self.room.saturating_sub(1);
         Ok(answer)
     }
@@ -208,15 +210,34 @@ impl<K: Keeps<Event>, S: Keeps<Step>> Engine<K, S> {
         let _ = &self.steps;
     }
 
-    /// What it tells its events to. It was told of each drop with the packet that is lost, as that was accepted. So an
-    /// embedder gets each packet back once, with its tag, or it waits.
-    pub fn keeper(&self) -> &K
+    /// Who is told what becomes of each packet: of each that left as sent, and of each drop with the packet that is
+    /// lost. So an embedder gets each packet back once, with its tag, or it waits.
+    pub fn recorder(&self) -> &K
         ensures told { K.told result.now ≡ self.now.sched.standing.events }
+        ensures sent { K.sent result.now ≡ departed_packets self.now.sched.standing.events }
         ensures lost { K.lost result.now ≡ lost_packets self.now.sched.standing.events }
         ensures once { AreGivenBackOnce (flows_of self.now.sched).lists.queues
             (K.lost result.now) self.now.sched.standing.events }
     {
-        self.sched.keeper()
+        self.sched.recorder()
+    }
+
+    /// Gives the engine up: the recorder of its events comes back, with the packets that wait, and that of its steps.
+    pub fn give_up(self) -> (GivenUp<K>, S)
+        ensures told { K.told result.0.recorder ≡ self.sched.standing.events }
+        ensures sent { K.sent result.0.recorder ≡ departed_packets self.sched.standing.events }
+        ensures lost { K.lost result.0.recorder ≡ lost_packets self.sched.standing.events }
+        ensures waits { result.0.remains ≡ (flows_of self.sched).lists.queues }
+        ensures once { AreGivenBackOnce result.0.remains
+            (K.lost result.0.recorder) self.sched.standing.events }
+        ensures steps { S.told result.1 ≡ self.steps }
+    {
+        let Engine {
+            sched,
+            steps,
+            room: _,
+        } = self;
+        (sched.give_up(), steps)
     }
 
     /// The laws of the journal at every moment, whether its events are stored or not.
@@ -314,11 +335,12 @@ impl Engine {
     pub fn try_new(alloc: Global, params: Params, seed: Seed) -> Result<Engine, Memory>
         ensures { IfOk result (λ e. e ≡ new_engine params seed) }
     {
-        Engine::try_with_keepers(alloc, params, seed, Stored::new(alloc), Stored::new(alloc))
+        let (events, steps) = (EventList::new(alloc), StepList::new(alloc));
+        Engine::try_with_recorders(alloc, params, seed, events, steps)
     }
 }
 
-impl<S: Keeps<Step>> Engine<Stored, S> {
+impl<S: StepRecorder> Engine<EventList, S> {
     ghost use Rattle.fair_core.specs.FairQueues.{queue_of};
     ghost use Rattle.journal_core.specs.JournalLaws.{JournalLaws, WaitWithoutFate};
     ghost use Rattle.journal_core.specs.TupleRows.{tuple_rows};
@@ -344,7 +366,7 @@ impl<S: Keeps<Step>> Engine<Stored, S> {
     }
 }
 
-impl<K: Keeps<Event>> Engine<K, Stored<Step>> {
+impl<K: Recorder> Engine<K, StepList> {
     ghost use Rattle.journal_core.specs.Runs.{IsRunOf};
     ghost use Rattle.sched_core.specs.Schedulers.{discipline_of};
 
@@ -353,6 +375,6 @@ impl<K: Keeps<Event>> Engine<K, Stored<Step>> {
         ensures value { result.now ≡ self.now.steps }
         ensures run { IsRunOf (discipline_of self.now.sched) result.now self.now.sched.standing }
     {
-        self.steps.items()
+        self.steps.steps()
     }
 }

@@ -29,7 +29,7 @@ ghost use Rattle.fair_core.specs.Turns.{Chain, TurnMade, service_in};
 
 use crate::engine::Engine;
 use codel_core::one_verdict;
-use journal_core::{Event, Keeps, Step as MadeStep};
+use journal_core::{Recorder, StepRecorder};
 
 /// Of every list of steps: each accepted packet is sent once, dropped once or still queued, the packets of one
 /// five-tuple leave in the order of acceptance, nothing is accepted after the close, and marks are honest.
@@ -132,9 +132,9 @@ pub fn journal_tells_what_waits()
 {}
 
 /// Each packet that was handed in is given back once, with its tag, or waits: the accepted packets are, in another
-/// order, those that were sent, those that were lost and those in the flows' queues. A keeper is told of the lost ones
-/// (`Sched::keeper`). What a dequeue answers is the packet that was accepted under its id, but for the ECN field, which
-/// follows from its mark.
+/// order, those that were sent, those that were lost and those in the flows' queues. A recorder is told of the sent ones
+/// and of the lost ones (`Sched::recorder`). What a dequeue answers is the packet that was accepted under its id, but for
+/// the ECN field, which follows from its mark.
 pub fn packets_are_given_back()
     ensures once { (p : ParamFields) (seed : Seed) → AreInRange p
         → (steps : List Step) (made : List Made) (new : State FairQueues)
@@ -151,7 +151,7 @@ pub fn packets_are_given_back()
 /// dropped and whichever flows are new in between (RFC 8290, section 4.2). A point is a number of steps that the engine
 /// made. The longest packet is that accepted up to b, and bytes are those of the events of the steps between, with
 /// lengths as accepted.
-pub fn fair_shares<K: Keeps<Event>, S: Keeps<MadeStep>>(
+pub fn fair_shares<K: Recorder, S: StepRecorder>(
     engine: &Engine<K, S>,
     a: u64,
     b: u64,

@@ -5,6 +5,7 @@
 mod classifier;
 mod engine;
 mod flow_numbers;
+mod given_up;
 pub mod laws;
 mod run;
 mod sched;
@@ -14,9 +15,11 @@ pub use classifier::FlowChooser;
 pub use codel_core::Mark;
 pub use engine::Engine;
 pub use fair_core::FlowView;
+pub use given_up::{GivenUp, Remains};
 pub use journal_core::{
-    Admitted, Answer, Cause, CloseFault, Event, GhostList, Keeps, MAX_EVENTS, MAX_MOMENT, Memory,
-    MomentFault, Outcome, Refusal, Sent, Step, Stored, Totals, TupleRow, Unstored,
+    Admitted, Answer, Cause, CloseFault, Event, EventList, GhostList, MAX_EVENTS, MAX_MOMENT,
+    Memory, MomentFault, NullRecorder, Outcome, Recorder, Refusal, Sent, Step, StepList,
+    StepRecorder, Totals, TupleRow,
 };
 pub use run::{Ran, run_steps};
 pub use sched::{MAX_ACCEPTED, Sched};

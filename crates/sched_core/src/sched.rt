@@ -6,12 +6,13 @@ ghost use Rattle.journal_core.specs.declared.outcome.Answer.TheVariants as answe
 ghost use Rattle.journal_core.specs.declared.step.Refusal.TheVariants as refusal;
 
 use crate::classifier::Classifier;
+use crate::given_up::{GivenUp, Remains};
 use crate::spare::Spare;
 use codel_core::Served;
 use fair_core::{Backlog, FlowView};
 use journal_core::{
-    Admitted, Answer, CloseFault, Event, Journal, Keeps, MAX_MOMENT, Memory, MomentFault, Refusal,
-    Sent, Step, Stored, Totals, TupleRow, gather_rows_with_seed,
+    Admitted, Answer, CloseFault, Event, EventList, Journal, MAX_MOMENT, Memory, MomentFault,
+    Recorder, Refusal, Sent, Step, Totals, TupleRow, gather_rows_with_seed,
 };
 use packet_core::{Packet, Params, Seed, Waiting};
 use std::alloc::Global;
@@ -50,10 +51,10 @@ fn sent_of(served: &Served, moment: u64) -> Sent
     }
 }
 
-/// A packet scheduler by FQ-CoDel (RFC 8290), with the journal of what became of every packet. The journal tells its
-/// events to a keeper, which stores all of them unless another is chosen.
+/// A packet scheduler by FQ-CoDel (RFC 8290), with the journal of what became of every packet. A recorder is told each
+/// fate, and stores all of them unless another is chosen.
 #[derive(Debug, Drop)]
-pub struct Sched<K: Keeps<Event> = Stored> {
+pub struct Sched<K: Recorder = EventList> {
     params: Params,
     seed: Seed,
     classifier: Classifier,
@@ -65,7 +66,7 @@ pub struct Sched<K: Keeps<Event> = Stored> {
     spare: Spare,
 }
 
-impl<K: Keeps<Event>> Model for Sched<K> {
+impl<K: Recorder> Model for Sched<K> {
     ghost use Rattle.sched_core.specs.Schedulers.{Scheduler};
 
     ghost Value = { Scheduler };
@@ -77,13 +78,13 @@ impl<K: Keeps<Event>> Model for Sched<K> {
     ghost invariant = { IsKept };
 }
 
-impl<K: Keeps<Event>> Sched<K> {
+impl<K: Recorder> Sched<K> {
     ghost use Rattle.flow_core.specs.FlowLists.{waiting_in};
     ghost use Rattle.sched_core.specs.AnyStep.{GoesOn, WantsRoom};
     ghost use Rattle.journal_core.specs.Calls.{admitted_at, close_refusal};
     ghost use Rattle.fair_core.specs.FairQueues.{queue_of};
     ghost use Rattle.journal_core.specs.JournalLaws.{JournalLaws, WaitWithoutFate};
-    ghost use Rattle.journal_core.specs.Losses.{AreGivenBackOnce, lost_packets};
+    ghost use Rattle.journal_core.specs.Losses.{AreGivenBackOnce, departed_packets, lost_packets};
     ghost use Rattle.journal_core.specs.Runs.{Takes};
     ghost use Rattle.sched_core.specs.Schedulers.{ComparesFew, IsAdvanced, IsServed, discipline_of, flows_of, new_scheduler};
     ghost use Rattle.fair_core.specs.Shown.{flow_shown};
@@ -91,22 +92,23 @@ impl<K: Keeps<Event>> Sched<K> {
     ghost use Rattle.journal_core.specs.Statistics.{statistics};
     ghost use Rattle.journal_core.specs.declared.step.Step.TheVariants.{Enqueue, Dequeue, Close};
 
-    /// A scheduler before its first step, which tells its events to a keeper that was told none. Room for the close,
+    /// A scheduler before its first step, over a recorder that was told nothing. Room for the close,
     /// for both lists of flows, for the credits, for CoDel's states and for flow numbers is taken here.
-    pub fn try_with_keeper(
+    pub fn try_with_recorder(
         alloc: Global,
         params: Params,
         seed: Seed,
-        keeper: K,
+        recorder: K,
     ) -> Result<Sched<K>, Memory>
-        requires untold { K.told keeper ≡ [] }
-        requires no_loss { K.lost keeper ≡ [] }
+        requires untold { K.told recorder ≡ [] }
+        requires none_sent { K.sent recorder ≡ [] }
+        requires no_loss { K.lost recorder ≡ [] }
         ensures { IfOk result (λ s. s ≡ new_scheduler params seed) }
     {
         let classifier = Classifier::try_new(alloc, &params, seed)?;
         Ok(Sched {
             backlog: Backlog::try_new(alloc, params.flows())?,
-            journal: Journal::try_over(keeper, 1)?,
+            journal: Journal::try_over(recorder, 1)?,
             params,
             seed,
             classifier,
@@ -350,16 +352,44 @@ impl<K: Keeps<Event>> Sched<K> {
         self.backlog.view(flow)
     }
 
-    /// What it tells its events to. It was told of each drop with the packet that is lost, as that was accepted. So an
-    /// embedder gets each packet back once, with its tag, or it waits: the packets that were accepted are, in another
-    /// order, those that were sent, those that the keeper was told of as lost and those in the flows' queues.
-    #[tactic(auto, using(crate::proofs::KeptScheduler::seen_losses))]
-    pub fn keeper(&self) -> &K
+    /// Who is told what becomes of each packet. It was told of each packet that left as sent, with the ECN field that it
+    /// left with, and of each drop with the packet that is lost, each as it was accepted. So an embedder gets each packet
+    /// back once, with its tag, or it waits: the packets that were accepted are, in another order, those that were sent,
+    /// those that the recorder was told of as lost and those in the flows' queues.
+    #[tactic(auto, using(crate::proofs::KeptScheduler::seen_departures, crate::proofs::KeptScheduler::seen_losses))]
+    pub fn recorder(&self) -> &K
         ensures told { K.told result.now ≡ self.now.standing.events }
+        ensures sent { K.sent result.now ≡ departed_packets self.now.standing.events }
         ensures lost { K.lost result.now ≡ lost_packets self.now.standing.events }
         ensures once { AreGivenBackOnce (flows_of self.now).lists.queues (K.lost result.now) self.now.standing.events }
     {
-        self.journal.keeper()
+        self.journal.recorder()
+    }
+
+    /// Gives the scheduler up: its recorder comes back, and the packets that wait. So an embedder gets those back, too.
+    pub fn give_up(self) -> GivenUp<K>
+        ensures told { K.told result.recorder ≡ self.standing.events }
+        ensures sent { K.sent result.recorder ≡ departed_packets self.standing.events }
+        ensures lost { K.lost result.recorder ≡ lost_packets self.standing.events }
+        ensures waits { result.remains ≡ (flows_of self).lists.queues }
+        ensures once { AreGivenBackOnce result.remains (K.lost result.recorder) self.standing.events }
+    {
+        self.recorder();
+        let Sched {
+            params: _,
+            seed: _,
+            classifier: _,
+            backlog,
+            journal,
+            last_moment: _,
+            is_closed: _,
+            turns: _,
+            spare: _,
+        } = self;
+        GivenUp {
+            recorder: journal.into_recorder(),
+            remains: Remains::of(backlog.into_flows()),
+        }
     }
 
     /// The laws of the journal at every moment, whether its events are stored or not.
@@ -481,7 +511,7 @@ impl<K: Keeps<Event>> Sched<K> {
     }
 }
 
-impl Sched<Stored> {
+impl Sched<EventList> {
     ghost use Rattle.fair_core.specs.FairQueues.{queue_of};
     ghost use Rattle.journal_core.specs.JournalLaws.{JournalLaws, WaitWithoutFate};
     ghost use Rattle.sched_core.specs.Schedulers.{discipline_of, flows_of, new_scheduler};
@@ -492,7 +522,7 @@ impl Sched<Stored> {
     pub fn try_new(alloc: Global, params: Params, seed: Seed) -> Result<Sched, Memory>
         ensures { IfOk result (λ s. s ≡ new_scheduler params seed) }
     {
-        Sched::try_with_keeper(alloc, params, seed, Stored::new(alloc))
+        Sched::try_with_recorder(alloc, params, seed, EventList::new(alloc))
     }
 
     /// The journal: what became of every packet, in order.

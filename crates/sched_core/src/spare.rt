@@ -6,7 +6,7 @@ ghost use Rattle.sched_core.specs.Spares.{TakesMemory, room_of};
 
 use crate::sched::MAX_ACCEPTED;
 use fair_core::Backlog;
-use journal_core::{Event, Journal, Keeps, Memory};
+use journal_core::{Event, Journal, Memory, Recorder};
 
 /// Memory is taken for so many enqueues at once where there is none.
 const TAKEN_AHEAD: u64 = 64;
@@ -30,7 +30,7 @@ impl Spare {
     }
 
     /// Reserves so many enqueues, and takes memory for them where there is less.
-    pub(crate) fn reserve<K: Keeps<Event>>(
+    pub(crate) fn reserve<K: Recorder>(
         &mut self,
         enqueues: u64,
         backlog: &mut Backlog,
@@ -55,7 +55,7 @@ impl Spare {
 
     /// Sees to memory for an enqueue. It is refused only where there is none and none for one enqueue can be taken.
     #[inline(always)]
-    pub(crate) fn provide<K: Keeps<Event>>(
+    pub(crate) fn provide<K: Recorder>(
         &mut self,
         backlog: &mut Backlog,
         journal: &mut Journal<K>,
@@ -76,7 +76,7 @@ impl Spare {
     /// Takes memory for several enqueues at once or, where that is refused, for one.
     // Kept out of an enqueue: most find memory.
     #[inline(never)]
-    fn take_ahead<K: Keeps<Event>>(
+    fn take_ahead<K: Recorder>(
         &mut self,
         backlog: &mut Backlog,
         journal: &mut Journal<K>,
@@ -95,7 +95,7 @@ impl Spare {
     }
 
     /// Takes memory for so many enqueues. No more are reserved than before.
-    fn grow<K: Keeps<Event>>(
+    fn grow<K: Recorder>(
         &mut self,
         enqueues: u64,
         backlog: &mut Backlog,

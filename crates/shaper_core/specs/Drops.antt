@@ -1,5 +1,5 @@
 -- The drops that a journal tells, and those of them that are kept.
-use Rattle.std.specs.Prelude.{◌≡◌, ℕ, ◌+◌, ◌≤◌, ◌==◌, Bool, true, false, List, [], ◌∷◌, ◌++◌, map, length, Option, Some, None, IsSomeAnd, slice_get, if◌then◌else◌}
+use Rattle.std.specs.Prelude.{◌≡◌, ℕ, ◌+◌, Bool, true, false, List, [], ◌∷◌, ◌++◌, map, length, Option, Some, None, IsSomeAnd, slice_get, if◌then◌else◌}
 use Rattle.std.specs.List.{filter_map, list_any}
 use Rattle.packet_core.specs.declared.packet.Waiting.{Waiting}
 use Rattle.journal_core.specs.declared.event.Cause.{Cause}
@@ -41,34 +41,22 @@ pub record IsDropAt (events : List Event) (lost : List Waiting) (n : ℕ) (d : D
 abbrev pub loss_of : Waiting → Handle
 loss_of w = record { tag = w.packet.tag; id = w.id }
 
--- Of the lost packets and of the causes the same number is forgotten, and no more than stand before the last acceptance.
-pub record AreRecent (losses : List Handle) (causes : List Cause) (told : List Event) (lost : List Waiting)
-    : Type 0 where
+-- what a drop's packet is known by
+abbrev pub packet_of : Drop → Handle
+packet_of d = record { tag = d.tag; id = d.id }
+
+-- The drops that are kept are the last ones: those before are forgotten, which are the ones before the last acceptance.
+pub record AreRecent (drops : List Drop) (told : List Event) (lost : List Waiting) : Type 0 where
   pub past_losses : List Handle
   pub past_causes : List Cause
-  pub losses_are : map loss_of lost ≡ past_losses ++ losses
-  pub causes_are : causes_of told ≡ past_causes ++ causes
+  pub losses_are : map loss_of lost ≡ past_losses ++ map packet_of drops
+  pub causes_are : causes_of told ≡ past_causes ++ map (λ (d : Drop). d.cause) drops
   pub as_many : length past_losses ≡ length past_causes
-  pub settled : length past_causes ≤ settled_drops told
+  pub settled : length past_causes ≡ settled_drops told
 
--- the packets that are kept after an event
-abbrev pub noted_losses : Event → List Handle → List Cause → List Handle
-noted_losses (Accepted lane id moment flow packet) losses causes =
-    if length losses == length causes then [] else losses
-noted_losses (Sent id moment ecn mark) losses causes = losses
-noted_losses (Dropped id moment cause) losses causes = losses
-noted_losses (Closed moment) losses causes = losses
-
--- the causes that are kept after an event
-abbrev pub noted_causes : Event → List Handle → List Cause → List Cause
-noted_causes (Accepted lane id moment flow packet) losses causes =
-    if length losses == length causes then [] else causes
-noted_causes (Sent id moment ecn mark) losses causes = causes
-noted_causes (Dropped id moment cause) losses causes = causes ++ cause ∷ []
-noted_causes (Closed moment) losses causes = causes
-
--- what a keeper was told: the events and the packets lost, and how many events more it can be told
+-- what a recorder was told: the events, the packets sent and the packets lost, and how many events more it can be told
 pub record Tale : Type 0 where
   pub events : List Event
+  pub sent : List Waiting
   pub lost : List Waiting
   pub room : ℕ

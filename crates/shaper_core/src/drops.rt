@@ -1,22 +1,22 @@
-//! The keeper of a shaper's scheduler: it has the drops since the last acceptance, and no other event.
+//! The recorder of a shaper's scheduler: it has the drops since the last acceptance, and nothing else.
 
-ghost use Rattle.std.specs.Prelude.{◌≡◌, ℕ, ◌+◌, ◌-◌, ◌<◌, ◌≤◌, [], length, vec_capacity, vec_len};
-ghost use Rattle.shaper_core.specs.Drops.{IsDropAt, causes_of, noted_causes, noted_losses, settled_drops};
+ghost use Rattle.std.specs.Prelude.{◌≡◌, ◌+◌, ◌-◌, ◌<◌, ◌≤◌, [], length};
+ghost use Rattle.shaper_core.specs.Drops.{IsDropAt, causes_of, settled_drops};
 
-use crate::answers::{Dropped, Handle};
+use crate::answers::Dropped;
+use codel_core::Served;
 use packet_core::Waiting;
-use sched_core::{Cause, Event, GhostList, Keeps, Memory};
+use sched_core::{Cause, Event, GhostList, Memory, Recorder};
 use std::alloc::Global;
 use std::marker::Model;
 
-/// It keeps the packets that were lost since the last acceptance, and the causes of the drops since then. Where a packet
-/// is accepted it forgets them, so they have to be read before. Each event that it has room for may be a drop, and so
-/// there is memory for as many packets and causes.
+/// It keeps the drops since the last acceptance. Where a packet is accepted it forgets them, so they have to be read
+/// before. Each event that it has room for may be a drop, and so there is memory for as many.
 #[derive(Debug, Drop)]
 pub(crate) struct Drops {
-    losses: Vec<Handle>,
-    causes: Vec<Cause>,
+    drops: Vec<Dropped>,
     told: GhostList<Event>,
+    sent: GhostList<Waiting>,
     lost: GhostList<Waiting>,
 }
 
@@ -31,53 +31,32 @@ impl Model for Drops {
     ghost invariant = { AreKept };
 }
 
-/// An event is told. At an acceptance, what was kept is forgotten where each packet has its cause.
-fn note(event: &Event, losses: &mut Vec<Handle>, causes: &mut Vec<Cause>)
-    requires { vec_len causes.old < vec_capacity causes.old }
-    ensures losses { losses.new.items ≡ noted_losses event.now losses.old.items causes.old.items }
-    ensures causes { causes.new.items ≡ noted_causes event.now losses.old.items causes.old.items }
-    ensures fewer_losses { vec_len losses.new ≤ vec_len losses.old }
-    ensures few_causes { vec_len causes.new ≤ vec_len causes.old + 1 }
-    ensures loss_memory { vec_capacity losses.new ≡ vec_capacity losses.old }
-    ensures cause_memory { vec_capacity causes.new ≡ vec_capacity causes.old }
-{
-    match event {
-        Event::Accepted { .. } => {
-            if losses.len() == causes.len() {
-                losses.clear();
-                causes.clear();
-            }
-        }
-        Event::Dropped { cause, .. } => causes.push_reserved(*cause),
-        Event::Sent { .. } => {}
-        Event::Closed { .. } => {}
-    }
-}
-
 impl Drops {
     /// Nothing was told yet.
     pub(crate) fn new(alloc: Global) -> Drops
         ensures told { result.events ≡ [] }
+        ensures sent { result.sent ≡ [] }
         ensures lost { result.lost ≡ [] }
     {
         Drops {
-            losses: Vec::new(alloc),
-            causes: Vec::new(alloc),
+            drops: Vec::new(alloc),
             told: GhostList::new(),
+            sent: GhostList::new(),
             lost: GhostList::new(),
         }
     }
 
     /// Where its memory comes from.
     pub(crate) fn allocator(&self) -> Global {
-        *self.losses.allocator()
+        *self.drops.allocator()
     }
 
-    /// How many losses are kept: those since the last acceptance at least.
+    /// How many drops are kept: those since the last acceptance.
+    #[inline(always)]
     pub(crate) fn kept(&self) -> u64
-        ensures { length self.now.lost ≤ result + settled_drops self.now.events }
+        ensures { length self.now.lost ≡ result + settled_drops self.now.events }
     {
-        self.losses.len() as u64
+        self.drops.len() as u64
     }
 
     /// The drop that stands at that place from the end: the last one has 1.
@@ -87,41 +66,47 @@ impl Drops {
         requires told { length self.now.lost ≡ length (causes_of self.now.events) }
         ensures { IsDropAt self.now.events self.now.lost (length self.now.lost - back) result }
     {
-        let loss = self.losses[self.losses.len() - back];
-        let cause = self.causes[self.causes.len() - back];
-        Dropped {
-            tag: loss.tag,
-            id: loss.id,
-            cause,
-        }
+        self.drops[self.drops.len() - back]
     }
 }
 
-impl Keeps<Event> for Drops {
+impl Recorder for Drops {
     ghost told = { λ drops. drops.events };
+
+    ghost sent = { λ drops. drops.sent };
 
     ghost lost = { λ drops. drops.lost };
 
     ghost room = { λ drops. drops.room };
 
-    fn tell(&mut self, event: Event) {
-        note(&event, &mut self.losses, &mut self.causes);
-        self.told = self.told.and(&event);
+    #[inline(always)]
+    fn accept(&mut self, packet: &Waiting, lane: u32, flow: u32) {
+        self.drops.clear();
+        self.told = self.told.and(&Event::acceptance(packet, lane, flow));
     }
 
-    fn tell_loss(&mut self, event: Event, packet: &Waiting) {
-        note(&event, &mut self.losses, &mut self.causes);
-        self.losses.push_reserved(Handle {
+    #[inline(always)]
+    fn send(&mut self, served: &Served, moment: u64) {
+        self.told = self.told.and(&Event::departure(served, moment));
+        self.sent = self.sent.and(&served.waiting);
+    }
+
+    fn lose(&mut self, packet: &Waiting, moment: u64, cause: Cause) {
+        self.drops.push_reserved(Dropped {
             tag: packet.packet.tag(),
             id: packet.id,
+            cause,
         });
-        self.told = self.told.and(&event);
+        self.told = self.told.and(&Event::loss(packet, moment, cause));
         self.lost = self.lost.and(packet);
     }
 
+    fn close(&mut self, moment: u64) {
+        self.told = self.told.and(&Event::Closed { moment });
+    }
+
     fn reserve(&mut self, more: usize) -> Result<(), Memory> {
-        self.losses.reserve(more)?;
-        self.causes.reserve(more)?;
+        self.drops.reserve(more)?;
         self.told = self.told.with_room(more);
         Ok(())
     }

@@ -11,7 +11,7 @@ ghost use Rattle.fair_core.specs.Shown.{flow_shown};
 ghost use Rattle.flow_core.specs.FlowLists.{waiting_in};
 ghost use Rattle.sched_core.specs.Schedulers.{IsServed, flows_of};
 ghost use Rattle.shaper_core.specs.Ahead.{free_enqueues};
-ghost use Rattle.shaper_core.specs.Drops.{causes_of};
+ghost use Rattle.shaper_core.specs.Drops.{causes_of, settled_drops};
 ghost use Rattle.shaper_core.specs.Laws.{IsLawful};
 ghost use Rattle.shaper_core.specs.Shapers.{open_scheduler, renumbered, sent_handle, sent_handles};
 ghost use Rattle.shaper_core.specs.declared.answers.EnqueueFault.TheVariants as fault;
@@ -76,7 +76,7 @@ fn has_laws(sched: &Sched<Drops>)
     ensures queued { (statistics sched.now.standing.events).queued ≡ waiting_in (flows_of sched.now).lists }
 {
     sched.journal_laws();
-    sched.keeper();
+    sched.recorder();
     sched.ids_left();
     sched.queued();
 }
@@ -89,22 +89,21 @@ fn drops_have_causes(sched: &Sched<Drops>)
     sched.journal_laws();
 }
 
-/// How many packets were dropped.
+/// How many packets were dropped since the last acceptance.
 #[inline(always)]
-fn count_drops(sched: &Sched<Drops>) -> u64
-    ensures lost { result ≡ length (lost_packets sched.now.standing.events) }
-    ensures causes { result ≡ length (causes_of sched.now.standing.events) }
+fn recent_drops(sched: &Sched<Drops>) -> u64
+    ensures lost { length (lost_packets sched.now.standing.events) ≡ result + settled_drops sched.now.standing.events }
+    ensures causes { length (causes_of sched.now.standing.events) ≡ result + settled_drops sched.now.standing.events }
 {
     drops_have_causes(sched);
-    let totals = sched.totals();
-    totals.dropped_codel + totals.dropped_overflow
+    sched.recorder().kept()
 }
 
 /// A scheduler before its first step, with memory for `limit` packets and one more.
 fn open_sched(alloc: Global, params: Params, seed: Seed) -> Result<Sched<Drops>, Memory>
     ensures { IfOk result (λ s. s ≡ open_scheduler params seed) }
 {
-    let mut sched = Sched::try_with_keeper(alloc, params, seed, Drops::new(alloc))?;
+    let mut sched = Sched::try_with_recorder(alloc, params, seed, Drops::new(alloc))?;
     sched.reserve(u64::from(params.limit()) + 1)?;
     Ok(sched)
 }
@@ -125,7 +124,7 @@ fn keep_ahead(sched: &mut Sched<Drops>, ahead: u64) -> u64
     take_ahead(sched)
 }
 
-/// Reserves as many enqueues as packets may come before as many wait as may, but for drops that the keeper has. There is
+/// Reserves as many enqueues as packets may come before as many wait as may, but for drops that the recorder has. There is
 /// memory for all of these since the shaper was opened, so none is taken. It says how many they are.
 // Kept out of an enqueue: few come here.
 #[inline(never)]
@@ -137,7 +136,7 @@ fn take_ahead(sched: &mut Sched<Drops>) -> u64
     ensures most { sched.new.room ≤ max sched.old.room (free_enqueues sched.old) }
 {
     let most = u64::from(sched.params().limit()) + 1;
-    let used = sched.queued().saturating_add(sched.keeper().kept());
+    let used = sched.queued().saturating_add(sched.recorder().kept());
     let enqueues = most.saturating_sub(used).max(1);
     match sched.reserve(enqueues) {
         Ok(()) => enqueues,
@@ -288,7 +287,7 @@ impl Shaper {
     {
         let totals = self.totals();
         has_laws(&self.sched);
-        let alloc = self.sched.keeper().allocator();
+        let alloc = self.sched.recorder().allocator();
         let params = *self.sched.params();
         let Ok(sched) = open_sched(alloc, params, self.sched.seed()) else {
             return false;
@@ -337,11 +336,12 @@ impl Shaper {
         ensures unchanged { OnErr result (self.new ≡ self.old) }
     {
         has_laws(&self.sched);
-        let before = count_drops(&self.sched);
+        drops_have_causes(&self.sched);
         let admitted = self.sched.enqueue(moment, 0, packet)?;
         self.ahead = keep_ahead(&mut self.sched, self.ahead);
         has_laws(&self.sched);
-        self.unread = count_drops(&self.sched) - before;
+        // The acceptance forgot the drops before it.
+        self.unread = recent_drops(&self.sched);
         let id = self.past.accepted + admitted.id;
         self.packets.accept(Handle {
             tag: packet.tag(),
@@ -366,10 +366,10 @@ impl Shaper {
         ensures unchanged { OnErr result (self.new ≡ self.old) }
     {
         has_laws(&self.sched);
-        let before = count_drops(&self.sched);
+        let before = recent_drops(&self.sched);
         let sent = self.sched.dequeue(moment)?;
         has_laws(&self.sched);
-        let drops = count_drops(&self.sched) - before;
+        let drops = recent_drops(&self.sched) - before;
         self.unread += drops;
         Ok(Dequeued {
             sent: give(sent, self.past.accepted, &mut self.packets),
@@ -396,7 +396,7 @@ impl Shaper {
     {
         has_laws(&self.sched);
         drops_have_causes(&self.sched);
-        let mut dropped = self.sched.keeper().dropped(self.unread as usize);
+        let mut dropped = self.sched.recorder().dropped(self.unread as usize);
         dropped.id = self.past.accepted + dropped.id;
         self.unread -= 1;
         self.packets.read(Handle {
@@ -452,10 +452,10 @@ impl Shaper {
     {
         has_laws(&self.sched);
         let before = self.sched.totals();
-        let drops = count_drops(&self.sched);
+        let drops = recent_drops(&self.sched);
         let sent = dequeue_at_last(&mut self.sched);
         has_laws(&self.sched);
-        self.unread += count_drops(&self.sched) - drops;
+        self.unread += recent_drops(&self.sched) - drops;
         let after = self.sched.totals();
         self.aside = self.aside.and(&before, &after);
         take_out(sent, self.past.accepted, &mut self.packets)

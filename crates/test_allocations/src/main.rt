@@ -10,11 +10,11 @@ mod calls;
 mod devices;
 mod engines;
 mod flow_lists;
-mod keepers;
 mod pictures;
 mod ports;
 mod programs;
 mod quiet;
+mod recorders;
 mod runs;
 mod schedulers;
 mod steps;
@@ -166,7 +166,7 @@ fn make<H: Print + Threads + Wait + Sync>(
         "quiet_port" => quiet::port(rt, values, calls),
         "trace" => traces::trace(values, calls),
         "journal" => traces::journal(values, calls),
-        "gathered" => keepers::gathered(values, calls),
+        "gathered" => recorders::gathered(values, calls),
         "lists" => runs::lists(values, calls),
         "run_closed" => runs::closed(rt, values, calls),
         "run_dequeues" => runs::dequeues(rt, values, calls),

@@ -4,13 +4,13 @@ ghost use Rattle.std.specs.Prelude.{◌≡◌};
 
 use crate::calls::Memory::{Keeps, Spares, Takes};
 use crate::calls::{Answer, Calls, Row, Subject, compared};
-use crate::keepers::take;
 use crate::pictures::first_of;
+use crate::recorders::{take, take_steps};
 use crate::steps::{admitted, gave};
 use crate::values::{SEED, Values};
 use packet_core::Packet;
 use port_core::{LockedPort, Open, PortSeat, Stop, send_locked};
-use sched_core::{Event, Refusal, Stored, Totals};
+use sched_core::{Event, EventList, Refusal, StepList, Totals};
 use std::marker::Brand;
 use std::sync::Wait;
 use std::sync::ledger::{Blank, Ledger};
@@ -126,10 +126,10 @@ fn started<A: Ledger, S: Ledger, R: Wait>(
 {
     let Values { alloc, params, .. } = *values;
     let port = if is_quiet {
-        let (mut events, mut steps) = (Stored::new(alloc), Stored::new(alloc));
+        let (mut events, mut steps) = (EventList::new(alloc), StepList::new(alloc));
         take(&mut events, ROOM, calls);
-        take(&mut steps, ROOM, calls);
-        LockedPort::<A, S>::start_with_keepers(
+        take_steps(&mut steps, ROOM, calls);
+        LockedPort::<A, S>::start_with_recorders(
             alloc, params, SEED, 1, accepted, sent, events, steps,
         )
     } else {

@@ -12,7 +12,7 @@ use port_core::{
     BookBlank, BookName, Device, Gate, LaneEnd, LaneFull, LaneSender, MAX_BURST, MAX_CAPACITY,
     MAX_LANES, Open, Opened, Screen, Shown, Stop, send_lane,
 };
-use sched_core::{Event, Keeps, MAX_ACCEPTED, Memory, Refusal, Sent, Step};
+use sched_core::{Event, MAX_ACCEPTED, Memory, Recorder, Refusal, Sent, Step, StepRecorder};
 use std::alloc::Global;
 use std::marker::Brand;
 use std::process::Abort;
@@ -129,7 +129,7 @@ fn at_unstored<J: BookName, R: Wait + Abort>(
 }
 
 /// The calls are made in turn.
-fn makes<J: BookName, X: Screen<Shown<J>> + Drop, K: Keeps<Event>, S: Keeps<Step>, R: Abort>(
+fn makes<J: BookName, X: Screen<Shown<J>> + Drop, K: Recorder, S: StepRecorder, R: Abort>(
     rt: &R,
     opened: &mut Opened<J, X, K, S>,
     calls: &[Call<'_>],
@@ -168,7 +168,7 @@ pub(crate) fn submits<R: Abort>(
 
 /// The last sender and the number of its lane.
 #[tactic(auto, using(crate::proofs::LaneEndLemmas::first_rest))]
-fn last<J: BookName, X: Screen<Shown<J>> + Drop, K: Keeps<Event>, S: Keeps<Step>, R: Abort>(
+fn last<J: BookName, X: Screen<Shown<J>> + Drop, K: Recorder, S: StepRecorder, R: Abort>(
     rt: &R,
     opened: &mut Opened<J, X, K, S>,
 ) -> (LaneSender, usize)
@@ -181,7 +181,7 @@ fn last<J: BookName, X: Screen<Shown<J>> + Drop, K: Keeps<Event>, S: Keeps<Step>
 }
 
 /// The last sender submits nothing more, and so many packets are left in its lane.
-fn finishes<J: BookName, X: Screen<Shown<J>> + Drop, K: Keeps<Event>, S: Keeps<Step>, R: Abort>(
+fn finishes<J: BookName, X: Screen<Shown<J>> + Drop, K: Recorder, S: StepRecorder, R: Abort>(
     rt: &R,
     opened: &mut Opened<J, X, K, S>,
     left: u64,
@@ -195,14 +195,12 @@ fn finishes<J: BookName, X: Screen<Shown<J>> + Drop, K: Keeps<Event>, S: Keeps<S
 }
 
 /// The last sender sends its packets through the gate, and so many packets are left in its lane.
-fn sends<
-    J: BookName,
-    X: Screen<Shown<J>> + Drop,
-    K: Keeps<Event>,
-    S: Keeps<Step>,
-    G: Gate,
-    R: Abort,
->(rt: &R, opened: &mut Opened<J, X, K, S>, gate: &G, sending: Sending<'_>)
+fn sends<J: BookName, X: Screen<Shown<J>> + Drop, K: Recorder, S: StepRecorder, G: Gate, R: Abort>(
+    rt: &R,
+    opened: &mut Opened<J, X, K, S>,
+    gate: &G,
+    sending: Sending<'_>,
+)
     requires { AreFirst (sender_rings opened.old.senders.items) (rings_of opened.old.device.lanes) }
     ensures { AreFirst (sender_rings opened.new.senders.items) (rings_of opened.new.device.lanes) }
 {
@@ -217,7 +215,7 @@ fn sends<
 }
 
 /// The lane is settled by that end, and so many packets are left in it.
-fn settles<J: BookName, X: Screen<Shown<J>> + Drop, K: Keeps<Event>, S: Keeps<Step>, R: Abort>(
+fn settles<J: BookName, X: Screen<Shown<J>> + Drop, K: Recorder, S: StepRecorder, R: Abort>(
     rt: &R,
     device: &mut Device<J, X, K, S>,
     lane: usize,
@@ -233,7 +231,7 @@ fn settles<J: BookName, X: Screen<Shown<J>> + Drop, K: Keeps<Event>, S: Keeps<St
 }
 
 /// The device answers the call as it has to.
-fn is_answered<J: BookName, X: Screen<Shown<J>> + Drop, K: Keeps<Event>, S: Keeps<Step>, R: Abort>(
+fn is_answered<J: BookName, X: Screen<Shown<J>> + Drop, K: Recorder, S: StepRecorder, R: Abort>(
     rt: &R,
     device: &mut Device<J, X, K, S>,
     call: &Call<'_>,
@@ -257,7 +255,7 @@ fn is_answered<J: BookName, X: Screen<Shown<J>> + Drop, K: Keeps<Event>, S: Keep
 }
 
 /// The device's pump of the lane is answered like that.
-fn pumps<J: BookName, X: Screen<Shown<J>> + Drop, K: Keeps<Event>, S: Keeps<Step>, R: Abort>(
+fn pumps<J: BookName, X: Screen<Shown<J>> + Drop, K: Recorder, S: StepRecorder, R: Abort>(
     rt: &R,
     device: &mut Device<J, X, K, S>,
     lane: u32,

@@ -8,9 +8,9 @@ ghost use Rattle.test_lanes.specs.Ends.{AreFirst, sender_rings};
 use packet_core::{Ecn, Packet, Params};
 use port_core::{
     BookBlank, BookName, Layout, LeftRight, MAX_CAPACITY, MAX_LANES, Opened, Shown, lanes,
-    lanes_with_keepers,
+    lanes_with_recorders,
 };
-use sched_core::{Event, Step, Unstored};
+use sched_core::{Event, NullRecorder, Step};
 use std::alloc::Global;
 use std::process::Abort;
 use std::sync::Wait;
@@ -81,17 +81,17 @@ pub(crate) fn open_unstored<'a, J: BookName, R: Wait + Abort>(
     rt: &'a R,
     alloc: Global,
     blank: BookBlank,
-) -> Opened<J, LeftRight<Shown<J>, &'a R>, Unstored, Unstored<Step>>
+) -> Opened<J, LeftRight<Shown<J>, &'a R>, NullRecorder, NullRecorder>
     requires { blank ≡ J.book }
     ensures { AreFirst (sender_rings result.senders.items) (rings_of result.device.lanes) }
 {
-    let (events, steps) = (Unstored::new(), Unstored::new());
+    let (events, steps) = (NullRecorder::new(), NullRecorder::new());
     let layout = Layout {
         lanes: 2,
         capacity: 2,
         monitors: 0,
     };
-    lanes_with_keepers(rt, alloc, blank, one_flow(rt), SEED, layout, events, steps).expect(
+    lanes_with_recorders(rt, alloc, blank, one_flow(rt), SEED, layout, events, steps).expect(
         rt, "lanes",
     )
 }

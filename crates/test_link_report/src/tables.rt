@@ -1,12 +1,15 @@
 //! The tables of a journal.
 
+ghost use Rattle.std.specs.Prelude.{◌<◌};
+
 use crate::journals::{closed_journal, crowd, journal, late_journal};
-use journal_core::{Event, Keeps, Step};
+use codel_core::Served;
+use journal_core::{Event, Recorder, Step};
 use link_report::{
     Gathered, MAX_EVENTS, Packets, flows_text, flows_text_of, packets_text, packets_text_of,
     percentile, series_text, steps_text,
 };
-use packet_core::{Ecn, FiveTuple, Ip, Packet, Seed};
+use packet_core::{Ecn, FiveTuple, Ip, Packet, Seed, Waiting};
 use std::process::Abort;
 
 /// The bytes are this text.
@@ -179,18 +182,70 @@ fn tables_of_a_closed_journal(rt: HostRuntime) {
     assert!(rt; packets_text(rt.alloc(), &whole[5..], None).is_ok());
 }
 
-/// A keeper that was told these events, and makes packets of so many.
+/// The recorder is told that event. A packet that leaves is any that has the field which it is sent with.
+fn tell<R: Abort>(rt: &R, gathered: &mut Gathered, event: &Event)
+    requires { 0 < gathered.old.room }
+{
+    match *event {
+        Event::Accepted {
+            lane,
+            id,
+            moment,
+            flow,
+            packet,
+        } => gathered.accept(&waiting(id, moment, packet), lane, flow),
+        Event::Sent {
+            id,
+            moment,
+            ecn,
+            mark,
+        } => {
+            let served = Served {
+                waiting: waiting(id, moment, any_packet(rt, ecn)),
+                mark,
+            };
+            gathered.send(&served, moment);
+        }
+        Event::Dropped { id, moment, cause } => {
+            gathered.lose(
+                &waiting(id, moment, any_packet(rt, Ecn::NotEct)),
+                moment,
+                cause,
+            );
+        }
+        Event::Closed { moment } => gathered.close(moment),
+    }
+}
+
+/// The packet, as it waits from that moment on.
+fn waiting(id: u64, stamp: u64, packet: Packet) -> Waiting {
+    Waiting { id, stamp, packet }
+}
+
+/// A packet with that field.
+fn any_packet<R: Abort>(rt: &R, ecn: Ecn) -> Packet {
+    let tuple = FiveTuple {
+        proto: 17,
+        src: Ip::V4([10, 0, 0, 1]),
+        dst: Ip::V4([10, 0, 0, 2]),
+        sport: 5_000,
+        dport: 53,
+    };
+    Packet::try_new(tuple, 100, ecn).expect(rt, "a packet")
+}
+
+/// A recorder that was told these events, and makes packets of so many.
 fn told<R: Abort + AllocGlobal>(rt: &R, events: &[Event], most: u64) -> Gathered {
     let mut gathered = Gathered::new(rt.alloc(), &Seed([0; 16]), most);
     for event in events {
         gathered.reserve(1).expect(rt, "memory");
-        gathered.tell(*event);
+        tell(rt, &mut gathered, event);
     }
     assert_eq!(rt; gathered.event_count(), events.len() as u64);
     gathered
 }
 
-/// A keeper has packets of as many events as it takes, and none of more.
+/// A recorder has packets of as many events as it takes, and none of more.
 #[test]
 fn packets_of_so_many_events(rt: HostRuntime) {
     let events = journal(&rt);
@@ -208,9 +263,9 @@ fn packets_of_so_many_events(rt: HostRuntime) {
     assert!(rt; told(&rt, &[], 0).packets().is_some());
 }
 
-/// A keeper that is told a journal makes the same tables of it, and counts its events.
+/// A recorder that is told a journal makes the same tables of it, and counts its events.
 #[test]
-fn tables_of_a_keeper(rt: HostRuntime) {
+fn tables_of_a_recorder(rt: HostRuntime) {
     let events = journal(&rt);
     let gathered = told(&rt, &events, events.len() as u64);
     let packets = gathered.packets().expect(&rt, "packets");

@@ -10,7 +10,7 @@ use port_core::{
     BookBlank, BookName, Device, LaneSender, Layout, MAX_BURST, MAX_CAPACITY, MAX_MONITORS,
     Monitor, Opened, Receipt, Screen, Seen, Shown, lanes,
 };
-use sched_core::{Event, Keeps, Mark, Sent, Step, Totals};
+use sched_core::{Event, Mark, Recorder, Sent, Step, StepRecorder, Totals};
 use std::alloc::Global;
 use std::marker::Brand;
 use std::process::Abort;
@@ -130,8 +130,8 @@ pub(crate) fn submits<R: Abort>(rt: &R, senders: &mut Vec<LaneSender>, packet: P
 pub(crate) fn publishes<
     J: BookName,
     X: Screen<Shown<J>> + Drop,
-    K: Keeps<Event>,
-    S: Keeps<Step>,
+    K: Recorder,
+    S: StepRecorder,
     R: Abort,
 >(rt: &R, device: &mut Device<J, X, K, S>, events: u64) -> Receipt<J> {
     let receipt = device.publish().expect(rt, "a receipt");
@@ -210,8 +210,8 @@ fn is_answered<J: BookName, X: Screen<Shown<J>> + Drop, R: Abort>(
 pub(crate) fn pumps<
     J: BookName,
     X: Screen<Shown<J>> + Drop,
-    K: Keeps<Event>,
-    S: Keeps<Step>,
+    K: Recorder,
+    S: StepRecorder,
     R: Abort,
 >(rt: &R, device: &mut Device<J, X, K, S>, now: u64, packets: u64) {
     assert!(rt; 0 < device.lanes());

@@ -6,8 +6,8 @@ ghost use Rattle.std.specs.Prelude.{◌≡◌};
 use crate::calls::{SEED, publishes, pumps, submits};
 use crate::fixtures::{one_flow, packet};
 use packet_core::Ecn;
-use port_core::{BookBlank, BookName, Layout, Opened, Screen, Seen, Shown, lanes_with_keepers};
-use sched_core::{Event, Keeps, Step, Unstored};
+use port_core::{BookBlank, BookName, Layout, Opened, Screen, Seen, Shown, lanes_with_recorders};
+use sched_core::{Event, NullRecorder, Recorder, Step, StepRecorder};
 use std::alloc::Global;
 use std::marker::Brand;
 use std::process::Abort;
@@ -26,13 +26,13 @@ fn many_events_at_once(rt: HostRuntime) {
 fn plays<J: BookName, R: Wait + Abort>(rt: &R, alloc: Global, blank: BookBlank)
     requires { blank ≡ J.book }
 {
-    let (events, steps) = (Unstored::new(), Unstored::new());
+    let (events, steps) = (NullRecorder::new(), NullRecorder::new());
     let layout = Layout {
         lanes: 1,
         capacity: 1,
         monitors: 1,
     };
-    let mut opened = lanes_with_keepers::<J, _, _, _>(
+    let mut opened = lanes_with_recorders::<J, _, _, _>(
         rt,
         alloc,
         blank,
@@ -49,7 +49,7 @@ fn plays<J: BookName, R: Wait + Abort>(rt: &R, alloc: Global, blank: BookBlank)
 }
 
 /// So many packets come, one by one.
-fn comes<J: BookName, X: Screen<Shown<J>> + Drop, K: Keeps<Event>, S: Keeps<Step>, R: Abort>(
+fn comes<J: BookName, X: Screen<Shown<J>> + Drop, K: Recorder, S: StepRecorder, R: Abort>(
     rt: &R,
     opened: &mut Opened<J, X, K, S>,
     packets: u64,
@@ -62,7 +62,7 @@ fn comes<J: BookName, X: Screen<Shown<J>> + Drop, K: Keeps<Event>, S: Keeps<Step
 }
 
 /// The device publishes more than so many events, and its monitor sees them all.
-fn is_seen<J: BookName, X: Screen<Shown<J>> + Drop, K: Keeps<Event>, S: Keeps<Step>, R: Abort>(
+fn is_seen<J: BookName, X: Screen<Shown<J>> + Drop, K: Recorder, S: StepRecorder, R: Abort>(
     rt: &R,
     opened: &mut Opened<J, X, K, S>,
     least: u64,

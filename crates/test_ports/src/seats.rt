@@ -7,7 +7,7 @@ use crate::calls::{Call, makes};
 use crate::together::{all_send, both_send};
 use packet_core::Params;
 use port_core::{LockedPort, MAX_SEATS, PortSeat, Stop, Unsettled, Why};
-use sched_core::{Engine, Keeps, Stored};
+use sched_core::{Engine, EventList, Recorder, StepList, StepRecorder};
 use std::alloc::Global;
 use std::marker::Brand;
 use std::process::Abort;
@@ -99,10 +99,10 @@ fn started<A: Ledger, S: Ledger, R: Abort>(
     let started = match room {
         None => LockedPort::<A, S>::start(alloc, params, SEED, number, accepted, sent),
         Some(room) => {
-            let (mut events, mut steps) = (Stored::new(alloc), Stored::new(alloc));
+            let (mut events, mut steps) = (EventList::new(alloc), StepList::new(alloc));
             events.reserve(room as usize).expect(rt, "memory");
             steps.reserve(room as usize).expect(rt, "memory");
-            LockedPort::<A, S>::start_with_keepers(
+            LockedPort::<A, S>::start_with_recorders(
                 alloc, params, SEED, number, accepted, sent, events, steps,
             )
         }

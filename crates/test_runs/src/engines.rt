@@ -3,8 +3,8 @@
 use crate::packets::{SEED, enqueue, four_flows, packet, params_of, tuple};
 use packet_core::{Packet, Params, Seed};
 use sched_core::{
-    Admitted, Answer, Engine, Event, Keeps, Mark, MomentFault, Refusal, Sent, Step, Totals,
-    TupleRow, Unstored,
+    Admitted, Answer, Engine, Event, Mark, MomentFault, NullRecorder, Recorder, Refusal, Sent,
+    Step, StepRecorder, Totals, TupleRow,
 };
 use std::process::Abort;
 
@@ -105,7 +105,7 @@ fn has_rows(engine: &Engine, wanted: &[TupleRow]) -> bool {
 }
 
 /// Makes a hundred steps, an enqueue and a dequeue every microsecond, and the close.
-fn make_hundred<K: Keeps<Event>, S: Keeps<Step>, R: Abort>(rt: &R, engine: &mut Engine<K, S>) {
+fn make_hundred<K: Recorder, S: StepRecorder, R: Abort>(rt: &R, engine: &mut Engine<K, S>) {
     let packet = packet(rt, 0);
     for moment in 0..50 {
         assert!(rt; engine.enqueue(moment, 0, packet).is_ok());
@@ -257,16 +257,20 @@ fn has_totals_unstored(rt: &(impl Abort + AllocGlobal), wanted: &Totals) {
 }
 
 /// A new engine with four flows that stores neither its events nor its steps.
-fn unstored(rt: &(impl Abort + AllocGlobal)) -> Engine<Unstored, Unstored<Step>> {
+fn unstored(rt: &(impl Abort + AllocGlobal)) -> Engine<NullRecorder, NullRecorder> {
     let params = params_of(rt, four_flows());
-    Engine::try_with_keepers(rt.alloc(), params, SEED, Unstored::new(), Unstored::new()).expect(
-        rt,
-        "an engine",
+    Engine::try_with_recorders(
+        rt.alloc(),
+        params,
+        SEED,
+        NullRecorder::new(),
+        NullRecorder::new(),
     )
+    .expect(rt, "an engine")
 }
 
 /// The totals of an engine after those hundred steps.
-fn totals_after_hundred<K: Keeps<Event>, S: Keeps<Step>, R: Abort>(
+fn totals_after_hundred<K: Recorder, S: StepRecorder, R: Abort>(
     rt: &R,
     engine: &mut Engine<K, S>,
 ) -> Totals {

@@ -14,7 +14,7 @@ mod flow_states;
 #[cfg(test)]
 mod journals;
 #[cfg(test)]
-mod keepers;
+mod recorders;
 #[cfg(test)]
 mod refusals;
 #[cfg(test)]

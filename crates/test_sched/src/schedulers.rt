@@ -2,7 +2,7 @@
 //! out of a function, and its proof takes each of them.
 
 use packet_core::{Ecn, EcnUse, FiveTuple, Packet, ParamFields, Params, Seed};
-use sched_core::{Event, Keeps, Sched};
+use sched_core::{Event, Recorder, Sched};
 use std::process::Abort;
 use test_support::by_port;
 
@@ -59,7 +59,7 @@ pub(crate) fn packet_of<R: Abort>(rt: &R, tuple: FiveTuple, len: u32, ecn: Ecn) 
 }
 
 /// The packet comes so many times at that moment.
-pub(crate) fn come<K: Keeps<Event>, R: Abort>(
+pub(crate) fn come<K: Recorder, R: Abort>(
     rt: &R,
     sched: &mut Sched<K>,
     times: u64,

@@ -2,13 +2,13 @@
 
 use crate::sizes::{BELOW, LARGEST, SIZES, first, packet, params, size};
 use link_core::{
-    Arrival, Link, LinkFields, run_fifo, run_fifo_with_keeper, run_link, run_link_with_keepers,
+    Arrival, Link, LinkFields, run_fifo, run_fifo_with_recorder, run_link, run_link_with_recorders,
 };
 use link_picture::picture_text;
 use link_report::{
     Gathered, MAX_EVENTS, Packets, flows_text, packets_text, series_text_with_seed, steps_text,
 };
-use sched_core::{Event, Unstored};
+use sched_core::{Event, NullRecorder};
 use std::process::Abort;
 use test_support::SEED;
 
@@ -142,19 +142,19 @@ fn gathered(rt: &(impl Abort + AllocGlobal), link: &Link, arrivals: &[Arrival]) 
     let alloc = rt.alloc();
     assert!(rt; Arrival::may_come(arrivals));
     let made = Gathered::new(alloc, &SEED, u64::MAX);
-    let engine = run_link_with_keepers(
+    let engine = run_link_with_recorders(
         alloc,
         params(rt),
         SEED,
         link,
         arrivals,
         made,
-        Unstored::new(),
+        NullRecorder::new(),
     )
     .expect(rt, "memory");
-    has_all(rt, engine.keeper(), arrivals.len());
+    has_all(rt, engine.recorder(), arrivals.len());
     let made = Gathered::new(alloc, &SEED, u64::MAX);
-    let fifo = run_fifo_with_keeper(alloc, params(rt), SEED, link, arrivals, made).expect(
+    let fifo = run_fifo_with_recorder(alloc, params(rt), SEED, link, arrivals, made).expect(
         rt, "memory",
     );
     has_all(rt, &fifo, arrivals.len());

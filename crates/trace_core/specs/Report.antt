@@ -3,9 +3,6 @@ use Rattle.std.specs.Prelude.{◌≡◌, ◌<◌, length, ℕ, Bool, true, false
 use Rattle.std.specs.Prelude.{codes}
 use Rattle.std.specs.Fmt.{decimal}
 use Rattle.std.specs.List.{flat_map, join_with_byte}
-use Rattle.csv.specs.Writing.{default_writer, fields_written, has_written, text_written, with_flexible, with_style, writer_setup}
-use Rattle.csv.specs.declared.writer.QuoteStyle.TheVariants as style
-use Rattle.csv.specs.declared.writer.WriterBuilder.{WriterBuilder}
 use Rattle.journal_core.specs.Runs.{Made, Runs, journal_of}
 use Rattle.journal_core.specs.Statistics.{statistics}
 use Rattle.journal_core.specs.declared.event.Cause.{Cause}
@@ -24,12 +21,7 @@ use Rattle.journal_core.specs.declared.note.Note.TheVariants as note
 use Rattle.journal_core.specs.declared.tuple_rows.TupleRow.{TupleRow}
 use Rattle.journal_core.specs.Happened.{Acceptance, acceptance_of, acceptances}
 use Rattle.journal_core.specs.TupleRows.{tuple_rows}
-use Rattle.hex.specs.Hex.{encode_lower}
 use Rattle.packet_core.specs.declared.flow.Seed.{Seed}
-use Rattle.packet_core.specs.declared.packet.Ecn.{Ecn}
-use Rattle.packet_core.specs.declared.packet.Ecn.TheVariants.{NotEct, Ect1, Ect0, Ce}
-use Rattle.packet_core.specs.declared.packet.Ip.{Ip}
-use Rattle.packet_core.specs.declared.packet.Ip.TheVariants.{V4, V6}
 use Rattle.packet_core.specs.declared.params.ParamFields.{ParamFields}
 use Rattle.fair_core.specs.FairQueues.{FairQueues, no_queues}
 use Rattle.fair_core.specs.FqCodel.{fq_codel}
@@ -41,22 +33,9 @@ use Rattle.journal_core.specs.Steps.{Steps}
 use Rattle.row_core.specs.Traces.{steps_of, trace_of}
 use Rattle.trace_core.specs.declared.journal_report.SenderRow.{SenderRow}
 use Rattle.trace_core.specs.declared.report.Rows.{Rows}
-
--- a row: its fields with a comma between each two, and one line feed
-unfoldable pub line_of : List (List ℕ) → List ℕ
-line_of fields = join_with_byte 44 fields ++ 10 ∷ []
-
--- the digit for an ECN field
-abbrev pub ecn_digit : Ecn → List ℕ
-ecn_digit NotEct = codes "0"
-ecn_digit Ect1 = codes "1"
-ecn_digit Ect0 = codes "2"
-ecn_digit Ce = codes "3"
-
--- the word for a cause
-abbrev pub cause_name : Cause → List ℕ
-cause_name cause.Codel = codes "codel"
-cause_name cause.Overflow = codes "overflow"
+use Rattle.text_core.specs.Texts as texts
+pub use Rattle.text_core.specs.Texts.{IsFilled, address_text, cause_name, ecn_digit}
+unfoldable pub use Rattle.text_core.specs.Texts.{line_of}
 
 -- the word for whether there was a close
 abbrev pub state_name : Bool → List ℕ
@@ -116,15 +95,6 @@ totals_row t =
     ∷ decimal t.dropped_codel ∷ decimal t.dropped_overflow ∷ decimal t.dropped_bytes ∷ decimal t.marked
     ∷ decimal t.threshold_marked ∷ decimal t.queued ∷ decimal t.queued_bytes ∷ state_name t.closed ∷ []
 
--- numbers with a dot between each two
-abbrev pub dotted : List ℕ → List ℕ
-dotted numbers = join_with_byte 46 (map decimal numbers)
-
--- an address: one of IPv4 with dots, and one of IPv6 as two hexadecimal digits of lower case for each byte
-abbrev pub address_text : Ip → List ℕ
-address_text (V4 bytes) = dotted bytes
-address_text (V6 bytes) = encode_lower bytes
-
 -- the fields of the row of a five-tuple
 abbrev pub tuple_row : TupleRow → List (List ℕ)
 tuple_row row =
@@ -169,23 +139,11 @@ pub record IsReportOf (p : ParamFields) (seed : Seed) (bytes text : List ℕ) : 
   pub runs : Runs (fq_codel p seed) (opening_state (no_queues p.flows)) steps made last
   pub told : text ≡ report_of made
 
--- how a report is written: rows have different numbers of fields, and no field has quotes
-abbrev pub report_writer : WriterBuilder
-report_writer = with_style (with_flexible default_writer true) style.Never
-
 -- The rows that were written are this text, and the next row starts at its end.
-pub record HasText (rows : Rows) (text : List ℕ) : Type 0 where
-  pub setup : writer_setup rows.writer ≡ report_writer
-  pub fields : fields_written rows.writer ≡ 0
-  pub wrote : has_written rows.writer ≡ false
-  pub written : text_written (λ v. Some v.items) rows.writer ≡ Some text
+abbrev pub HasText : Rows → List ℕ → Type 0
+HasText rows text = texts.HasText rows.rows text
 
--- a row whose first field isn't empty: `csv` writes quotes for one that shows no byte
-abbrev pub IsFilled : List (List ℕ) → Type 0
-IsFilled [] = ⊥
-IsFilled (field ∷ rest) = 0 < length field
-
--- These bytes are written behind the rows so far, whatever those are.
+-- These bytes are written after the rows so far, whatever those are.
 unfoldable pub Adds : Rows → Rows → List ℕ → Type 0
 Adds old new more = (text : List ℕ) → HasText old text → HasText new (text ++ more)
 

@@ -5,8 +5,6 @@
 //! happen, then one with the totals, and at its end one for each five-tuple.
 #![tactic(auto)]
 
-mod address;
-mod decimal;
 mod journal_report;
 mod report;
 mod streams;

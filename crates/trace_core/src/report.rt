@@ -7,21 +7,16 @@ ghost use Rattle.journal_core.specs.Tallies.{HasSeen};
 ghost use Rattle.journal_core.specs.TupleRows.{tuple_rows};
 ghost use Rattle.trace_core.specs.Report as Report;
 
-use crate::address::AddressText;
-use crate::decimal::Digits;
 use crate::journal_report::SenderRow;
-use csv::{QuoteStyle, Writer, WriterBuilder};
 use journal_core::{Note, Noted, Tally};
-use packet_core::Ecn;
-use sched_core::{
-    Answer, Cause, Engine, Event, Memory, MomentFault, Refusal, Sched, Totals, TupleRow,
-};
-use std::alloc::{AllocError, Global};
+use sched_core::{Answer, Engine, Event, Memory, MomentFault, Refusal, Sched, Totals, TupleRow};
+use std::alloc::Global;
+use text_core::{AddressText, Digits, cause_name, ecn_digit};
 
 /// The rows of a report, as they are written.
 #[derive(Drop)]
 pub(crate) struct Rows {
-    writer: Writer<Vec<u8>>,
+    rows: text_core::Rows,
 }
 
 impl Rows {
@@ -30,11 +25,7 @@ impl Rows {
         ensures { Report.HasText result [] }
     {
         Rows {
-            // Rows have different numbers of fields. These are words, numbers and addresses, which need no quotes.
-            writer: WriterBuilder::new()
-                .flexible(true)
-                .quote_style(QuoteStyle::Never)
-                .from_writer(Vec::new(alloc)),
+            rows: text_core::Rows::new(alloc),
         }
     }
 
@@ -59,7 +50,7 @@ impl Rows {
     {
         self.totals(&sched.totals())?;
         sched.journal_laws();
-        self.tuples(&tally.rows(&sched.seed(), sched.keeper())?)
+        self.tuples(&tally.rows(&sched.seed(), sched.recorder())?)
     }
 
     /// The text of an engine's journal: the rows so far, of which there are none, a row for each event, the row of the
@@ -93,8 +84,8 @@ impl Rows {
         ensures { IfOk result (λ text. (written : List ℕ)
             → Report.HasText self written → text.items ≡ written) }
     {
-        let Rows { writer } = self;
-        writer.into_inner().map_err(|_| AllocError)
+        let Rows { rows } = self;
+        rows.into_text()
     }
 
     /// One row. A write to a `Vec` fails for want of memory alone.
@@ -102,10 +93,7 @@ impl Rows {
         requires { Report.IsFilled (map (λ f. f.now) fields.now) }
         ensures { OnOk result (Report.Adds self.old self.new (Report.line_of (map (λ f. f.now) fields.now))) }
     {
-        match self.writer.write_fields(fields) {
-            Ok(()) => Ok(()),
-            Err(_) => Err(AllocError),
-        }
+        self.rows.row(fields)
     }
 
     /// The rows of a step with this answer and notes of these events: one for each event, and one where the step made
@@ -302,28 +290,6 @@ impl Rows {
             accepted.as_bytes(),
             left.as_bytes(),
         ])
-    }
-}
-
-/// The two bits of an ECN field as a number.
-fn ecn_digit(ecn: Ecn) -> &'static [u8]
-    ensures { result.now ≡ Report.ecn_digit ecn }
-{
-    match ecn {
-        Ecn::NotEct => b"0",
-        Ecn::Ect1 => b"1",
-        Ecn::Ect0 => b"2",
-        Ecn::Ce => b"3",
-    }
-}
-
-/// The word for a cause.
-fn cause_name(cause: Cause) -> &'static [u8]
-    ensures { result.now ≡ Report.cause_name cause }
-{
-    match cause {
-        Cause::Codel => b"codel",
-        Cause::Overflow => b"overflow",
     }
 }
 

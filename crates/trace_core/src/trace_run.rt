@@ -132,7 +132,7 @@ fn run_text(alloc: Global, text: &[u8], params: Params, seed: Seed) -> Result<Ve
         → (reader : TextReader) × IsRowsFault text.now reader why) }
     ensures write { IfErr result (λ fault. fault ≢ RunFault.Write) }
 {
-    let mut sched = Sched::try_with_keeper(alloc, params, seed, Noted::new(alloc))?;
+    let mut sched = Sched::try_with_recorder(alloc, params, seed, Noted::new(alloc))?;
     text_of(alloc, text, &mut sched)
 }
 
@@ -197,9 +197,9 @@ fn run_step(
     ensures made { OnOk result (RunsStep step.now sched.old sched.new report.old report.new) }
     ensures seen { OnOk result (HasSeen tally.new (acceptances sched.new.standing.events)) }
 {
-    let first = sched.keeper().notes().len();
+    let first = sched.recorder().notes().len();
     let answer = sched.make(step)?;
-    let own_notes = &sched.keeper().notes()[first..];
+    let own_notes = &sched.recorder().notes()[first..];
     tally_step(tally, step, own_notes)?;
     report.step(answer, own_notes)
 }

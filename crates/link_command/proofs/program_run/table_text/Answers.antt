@@ -18,7 +18,7 @@ returns-then-eq-clause-text g c =
 pub returns-clause-text : goal.returns-clause-text
 returns-clause-text g c =
     let other : c.args.request.now.table ≢ Steps = same_false the_type _ _ (sym c.if-eq.ensures) in
-    let made = rw c.keeper.ensures.told at c.compared_text.ensures.text in
+    let made = rw c.recorder.ensures.told at c.compared_text.ensures.text in
     IfOk-weaker c.compared_text.result _ _
     (λ text h. record {
       steps = c.in_ok-engine.engine.steps;
@@ -29,7 +29,7 @@ returns-clause-text g c =
 
 pub compared_text-requires-clause-events_few : goal.compared_text-requires-clause-events_few
 compared_text-requires-clause-events_few g c =
-    rw c.keeper.ensures.told (few_of_engine (parts_of c.args.run.now) c.args.arrivals.now c.in_ok-engine.engine c.few_events.ensures c.in_ok-engine.ensures c.requires.few)
+    rw c.recorder.ensures.told (few_of_engine (parts_of c.args.run.now) c.args.arrivals.now c.in_ok-engine.engine c.few_events.ensures c.in_ok-engine.ensures c.requires.few)
 
 pub returns-clause-quiet : goal.returns-clause-quiet
 returns-clause-quiet g c = λ none. Keeps-trans _ _ _ (c.note_stage.ensures none) (c.compared_text.ensures.quiet none)

@@ -13,7 +13,7 @@ are_own : (c : After-notes) → take (length c.notes.result.now - length c.notes
 are_own c =
     let takes = (c.in_ok-answer.ensures {u = tt}).made in
     own_notes c.args.sched.now.standing.events c.make.new.self.standing.events takes.made _ takes.journal
-    (rw (c.notes.ensures, c.keeper-2.ensures.told, c.notes-first.ensures, c.keeper.ensures.told) refl)
+    (rw (c.notes.ensures, c.recorder-2.ensures.told, c.notes-first.ensures, c.recorder.ensures.told) refl)
 
 pub returns-clause-made : goal.returns-clause-made
 returns-clause-made c =

@@ -24,5 +24,4 @@ loop-busy-preserved g c =
           (soon_enough free.moment (sent_count old.events.items) frees.soon few) frees.later frees.soon (coming_after on.last free.moment c.args.coming.now later on.on_time.comes);
       kept = record { params = given.kept.params ∙ inv.kept.params; seed = given.kept.seed ∙ inv.kept.seed };
       told = (c.in_ok-busy.ensures {u = tt}).told;
-      lost = (c.in_ok-busy.ensures {u = tt}).lost ∙ inv.lost;
     }

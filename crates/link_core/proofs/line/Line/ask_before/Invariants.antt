@@ -1,15 +1,14 @@
-use Rattle.std.proofs.Common.{◌≡◌, ◌+◌, ◌*◌, length}
-use Rattle.link_core.specs.Lines.{IsOnFifo, KeepsLine}
+use Rattle.std.proofs.Common.{◌+◌, ◌*◌, length}
+use Rattle.link_core.specs.Lines.{AreTold, IsOnFifo, KeepsLine}
 use Rattle.link_core.specs.Underway.{busy_count}
 use Rattle.link_core.proofs.line.Line.ask_before.Given as goal
 
--- the link has gone on, and the keeper was told of it, and of no loss
+-- the link has gone on, and the recorder was told of it
 abbrev pub invariant-loop-busy : goal.invariant-loop-busy
 invariant-loop-busy g l = record {
   on_link : IsOnFifo l.link l.arrivals l.self l.busy l.coming;
   kept : KeepsLine l.initial.self l.self;
-  told : g.K.Keeps.told l.keeper ≡ l.self.events.items;
-  lost : g.K.Keeps.lost l.keeper ≡ g.K.Keeps.lost l.initial.keeper;
+  told : AreTold (g.K.Recorder.told l.recorder) (g.K.Recorder.sent l.recorder) (g.K.Recorder.lost l.recorder) l.self;
 }
 
 -- what waits, and whether the link is busy

@@ -8,4 +8,4 @@ invariant_of-self-2 g c =
     let reserved = c.in_ok-reserve.ensures {u = tt} in
     let done = c.end.ensures in
     told_on (Close c.args.moment) c.self.invariant (advanced_on c.self.invariant.run done.made) (omega (arith, done.room))
-    (rw (c.tell.ensures.told, reserved.told) refl) (omega (arith, c.tell.ensures.room, reserved.room)) c.saturating_sub-self-inside.ensures
+    (rw (c.record.ensures.told, reserved.told) refl) (omega (arith, c.record.ensures.room, reserved.room)) c.saturating_sub-self-inside.ensures

@@ -1,8 +1,8 @@
-use Rattle.std.proofs.Common.{◌≡◌, ◌+◌, ◌-◌, ◌≤◌, length, sym, subst, ◌∙◌}
+use Rattle.std.proofs.Common.{◌≡◌, ◌+◌, ◌-◌, ◌≤◌, length, sym, subst, ◌∙◌, arith}
 use Rattle.shaper_core.specs.Drops.{IsDropAt, Tale, causes_of, settled_drops}
 use Rattle.shaper_core.specs.DropsKept.{tale_of}
 use Rattle.shaper_core.proofs.drops.Drops.dropped.Goals as goal
-use Rattle.shaper_core.proofs.RecentDrops.{recent_drop}
+use Rattle.shaper_core.proofs.RecentDrops.{reach, recent_drop}
 
 pub returns : goal.returns
 returns c =
@@ -13,8 +13,5 @@ returns c =
     subst (λ (t : Tale). back + settled_drops t.events ≤ length (causes_of t.events)) (sym view) c.requires.recent in
     let many : length s.lost.items ≡ length (causes_of s.told.items) =
     subst (λ (t : Tale). length t.lost ≡ length (causes_of t.events)) (sym view) c.requires.told in
-    let loss = c.index-loss.result.now in
-    let cause = c.index-cause.result.now in
-    subst (λ (t : Tale). IsDropAt t.events t.lost (length t.lost - back) (record { tag = loss.tag; id = loss.id; cause = cause })) view
-    (recent_drop s.losses.items s.causes.items s.told.items s.lost.items c.self.invariant.recent back few many loss cause c.len.result c.len-2.result c.requires.some
-    (c.len.ensures ∙ s.losses.ok.0) (c.len-2.ensures ∙ s.causes.ok.0) c.index-loss.ensures c.index-cause.ensures)
+    subst (λ (t : Tale). IsDropAt t.events t.lost (length t.lost - back) c.index.result.now) view
+    (recent_drop s.drops.items s.told.items s.lost.items c.self.invariant.recent back few many c.index.result.now c.len.result c.requires.some (c.len.ensures ∙ s.drops.ok.0) c.index.ensures)

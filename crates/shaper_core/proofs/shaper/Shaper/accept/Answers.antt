@@ -10,13 +10,6 @@ use Rattle.shaper_core.proofs.ShaperSteps.{advanced_with_room}
 use Rattle.shaper_core.proofs.StepDrops.{enqueue_settles}
 use Rattle.shaper_core.proofs.shaper.Shaper.accept.Goals as goal
 
-pub overflow_sub-self : goal.overflow_sub-self
-overflow_sub-self c =
-    let old : Scheduler = c.self.inside.sched in
-    let made = advanced_with_room c.in_ok-admitted.ensures.made c.keep_ahead-self-inside.ensures.rest in
-    let settles = enqueue_settles (discipline_of old) old.standing c.keep_ahead-self-inside.new.sched.standing c.args.moment 0 c.args.packet made.advances in
-    omega (arith, settles.more, c.count_drops.ensures.causes, c.count_drops-before.ensures.causes)
-
 pub overflow_add-id : goal.overflow_add-id
 overflow_add-id c =
     let old : Scheduler = c.self.inside.sched in
@@ -26,7 +19,7 @@ overflow_add-id c =
 abbrev new_of : goal.After-accept → Shaping
 new_of c = record {
   sched = c.keep_ahead-self-inside.new.sched;
-  unread = c.count_drops.result - c.count_drops-before.result;
+  unread = c.recent_drops-self-inside.result;
   aside = c.self.inside.aside;
   past = c.self.inside.past;
   renew_after = c.self.inside.renew_after;
@@ -37,7 +30,7 @@ abbrev said_of : goal.After-accept → Enqueued
 said_of c = record {
   id = c.self.inside.past.accepted + c.in_ok-admitted.admitted.id;
   flow = c.in_ok-admitted.admitted.flow;
-  drops = c.count_drops.result - c.count_drops-before.result;
+  drops = c.recent_drops-self-inside.result;
 }
 
 made_of : (c : goal.After-accept) → c.self.inside.unread ≡ 0 → IsAccepted (shaping_of c.self.inside) c.args.moment c.args.packet (said_of c) (new_of c)
@@ -53,11 +46,11 @@ made_of c read =
       flow = ap (λ (a : Admitted). a.flow) c.in_ok-admitted.ensures.admitted;
       read = read;
       unread = refl;
-      drops = omega (arith, settles.more, c.count_drops.ensures.lost, c.count_drops-before.ensures.lost, c.count_drops.ensures.causes, c.count_drops-before.ensures.causes);
+      drops = omega (arith, settles.settled, c.recent_drops-self-inside.ensures.lost, c.drops_have_causes.ensures);
       room = omega (arith, c.in_ok-admitted.ensures.room, c.keep_ahead-self-inside.ensures.room);
       rest = λ i. record (shaping_of c.self.inside) {
         sched = new;
-        unread = c.count_drops.result - c.count_drops-before.result;
+        unread = c.recent_drops-self-inside.result;
         packets = (c.accept.ensures ∙ (λ j. record c.self.inside.packets {
           accepted = c.self.inside.packets.accepted ++ record { tag = c.tag.ensures j; id = c.self.inside.past.accepted + c.in_ok-admitted.admitted.id } ∷ [];
         })) i;

@@ -12,7 +12,7 @@ pub overflow_sub-drops : goal.overflow_sub-drops
 overflow_sub-drops c =
     let old : Scheduler = c.self.inside.sched in
     let settles = dequeue_settles (discipline_of old) old.standing c.dequeue.new.self.standing c.args.moment c.in_ok-sent.sent c.in_ok-sent.ensures.made.gives in
-    omega (arith, settles.more, c.count_drops.ensures.causes, c.count_drops-before.ensures.causes)
+    omega (arith, settles.more, settles.settled, c.recent_drops.ensures.causes, c.recent_drops-before.ensures.causes)
 
 pub give-requires : goal.give-requires
 give-requires c =
@@ -23,7 +23,7 @@ give-requires c =
 abbrev new_of : goal.After-give → Shaping
 new_of c = record {
   sched = c.dequeue.new.self;
-  unread = c.self.inside.unread + (c.count_drops.result - c.count_drops-before.result);
+  unread = c.self.inside.unread + (c.recent_drops.result - c.recent_drops-before.result);
   aside = c.self.inside.aside;
   past = c.self.inside.past;
   renew_after = c.self.inside.renew_after;
@@ -31,7 +31,7 @@ new_of c = record {
 }
 
 abbrev said_of : goal.After-give → Dequeued
-said_of c = record { sent = c.give.result; drops = c.count_drops.result - c.count_drops-before.result }
+said_of c = record { sent = c.give.result; drops = c.recent_drops.result - c.recent_drops-before.result }
 
 made_of : (c : goal.After-give) → IsDequeued (shaping_of c.self.inside) c.args.moment (said_of c) (new_of c)
 made_of c =
@@ -44,10 +44,10 @@ made_of c =
       packet = sent_accepted old new c.args.moment c.in_ok-sent.sent c.has_laws.ensures.laws c.in_ok-sent.ensures.made;
       told = c.give.ensures.told;
       unread = refl;
-      drops = omega (arith, settles.more, c.count_drops.ensures.lost, c.count_drops-before.ensures.lost, c.count_drops.ensures.causes, c.count_drops-before.ensures.causes);
+      drops = omega (arith, settles.more, settles.settled, c.recent_drops.ensures.lost, c.recent_drops-before.ensures.lost, c.recent_drops.ensures.causes, c.recent_drops-before.ensures.causes);
       rest = λ i. record (shaping_of c.self.inside) {
         sched = new;
-        unread = c.self.inside.unread + (c.count_drops.result - c.count_drops-before.result);
+        unread = c.self.inside.unread + (c.recent_drops.result - c.recent_drops-before.result);
         packets = c.give.ensures.packets i;
       };
     }

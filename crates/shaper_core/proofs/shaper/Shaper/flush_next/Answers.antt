@@ -15,7 +15,7 @@ pub overflow_sub-self : goal.overflow_sub-self
 overflow_sub-self c =
     let old : Scheduler = c.self.inside.sched in
     let settles = dequeue_settles (discipline_of old) old.standing c.dequeue_at_last-sent.new.sched.standing old.standing.state.last c.dequeue_at_last-sent.result c.dequeue_at_last-sent.ensures.gives in
-    omega (arith, settles.more, c.count_drops.ensures.causes, c.count_drops-drops.ensures.causes)
+    omega (arith, settles.more, settles.settled, c.recent_drops.ensures.causes, c.recent_drops-drops.ensures.causes)
 
 pub and-self-inside-requires-clause-grown : goal.and-self-inside-requires-clause-grown
 and-self-inside-requires-clause-grown c =
@@ -32,7 +32,7 @@ take_out-requires c =
 abbrev new_of : goal.After-take_out → Shaping
 new_of c = record {
   sched = c.dequeue_at_last-sent.new.sched;
-  unread = c.self.inside.unread + (c.count_drops.result - c.count_drops-drops.result);
+  unread = c.self.inside.unread + (c.recent_drops.result - c.recent_drops-drops.result);
   aside = c.and-self-inside.result;
   past = c.self.inside.past;
   renew_after = c.self.inside.renew_after;
@@ -50,7 +50,7 @@ one_of c =
     subst (λ (o : Option Handle). FlushesOne (shaping_of c.self.inside) o (new_of c)) (sym c.take_out.ensures.told)
     (taken_one (shaping_of c.self.inside) (new_of c) c.dequeue_at_last-sent.result c.dequeue_at_last-sent.ensures
     (sent_accepted old new old.standing.state.last c.dequeue_at_last-sent.result c.has_laws.ensures.laws c.dequeue_at_last-sent.ensures)
-    (omega (arith, settles.more, c.count_drops.ensures.lost, c.count_drops-drops.ensures.lost, c.count_drops.ensures.causes, c.count_drops-drops.ensures.causes))
+    (omega (arith, settles.more, settles.settled, c.recent_drops.ensures.lost, c.recent_drops-drops.ensures.lost, c.recent_drops.ensures.causes, c.recent_drops-drops.ensures.causes))
     (aside_of c)
     (λ i. record (new_of c) { packets = c.take_out.ensures.packets i }))
 

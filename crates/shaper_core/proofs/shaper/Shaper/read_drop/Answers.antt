@@ -16,8 +16,8 @@ overflow_add-dropped c =
     let events : List Event = s.sched.standing.events in
     let n : ℕ = length (lost_of s) - s.unread in
     let drop : IsDropAt events (lost_packets events) n c.dropped-dropped.result =
-    subst (λ (es : List Event). IsDropAt es (lost_packets events) n c.dropped-dropped.result) c.keeper.ensures.told
-    (subst (λ (ws : List Waiting). IsDropAt c.keeper.result.now.events ws (length ws - s.unread) c.dropped-dropped.result) c.keeper.ensures.lost c.dropped-dropped.ensures) in
+    subst (λ (es : List Event). IsDropAt es (lost_packets events) n c.dropped-dropped.result) c.recorder.ensures.told
+    (subst (λ (ws : List Waiting). IsDropAt c.recorder.result.now.events ws (length ws - s.unread) c.dropped-dropped.result) c.recorder.ensures.lost c.dropped-dropped.ensures) in
     omega (arith, drop_below events n c.dropped-dropped.result c.has_laws.ensures.laws.laws.ids_in_order drop, c.self.invariant.shaped.counted, c.has_laws.ensures.ids, c.self.invariant.shaped.few)
 
 abbrev new_of : goal.After-read → Shaping
@@ -32,8 +32,8 @@ made_of c =
     let events : List Event = s.sched.standing.events in
     let n : ℕ = length (lost_of s) - s.unread in
     let drop : IsDropAt events (lost_packets events) n c.dropped-dropped.result =
-    subst (λ (es : List Event). IsDropAt es (lost_packets events) n c.dropped-dropped.result) c.keeper.ensures.told
-    (subst (λ (ws : List Waiting). IsDropAt c.keeper.result.now.events ws (length ws - s.unread) c.dropped-dropped.result) c.keeper.ensures.lost c.dropped-dropped.ensures) in
+    subst (λ (es : List Event). IsDropAt es (lost_packets events) n c.dropped-dropped.result) c.recorder.ensures.told
+    (subst (λ (ws : List Waiting). IsDropAt c.recorder.result.now.events ws (length ws - s.unread) c.dropped-dropped.result) c.recorder.ensures.lost c.dropped-dropped.ensures) in
     let some : 0 < s.unread = subst (λ (t : Shaping). 0 < t.unread) (sym c.self.view_is) c.requires in
     record {
       drop = record { packet = drop_known s.past.accepted (lost_of s) n c.dropped-dropped.result drop.packet; cause = drop.cause };

@@ -3,11 +3,11 @@ use Rattle.trace_core.specs.Report.{Adds}
 use Rattle.trace_core.proofs.report.Rows.statistics.Goals as goal
 
 pub rows-requires-clause-follow : goal.rows-requires-clause-follow
-rows-requires-clause-follow c = rw c.keeper.ensures.told c.journal_laws.ensures.laws.fates_follow
+rows-requires-clause-follow c = rw c.recorder.ensures.told c.journal_laws.ensures.laws.fates_follow
 
 pub returns : goal.returns
 unfolding Adds
 returns c =
     on_ok_weaker c.tuples.result
-    (λ adds written h. rw (c.totals.ensures.value, c.deref.ensures.value, c.in_ok-rows.ensures.rows, c.keeper.ensures.told) at (adds _ (c.in_ok-totals.ensures {u = tt} _ h)))
+    (λ adds written h. rw (c.totals.ensures.value, c.deref.ensures.value, c.in_ok-rows.ensures.rows, c.recorder.ensures.told) at (adds _ (c.in_ok-totals.ensures {u = tt} _ h)))
     c.tuples.ensures

@@ -1,0 +1,33 @@
+use Rattle.std.proofs.Common.{◌∙◌, List, refl, subst}
+use Rattle.link_core.specs.declared.arrival.Arrival.{Arrival}
+use Rattle.link_core.specs.Underway.{IsOnLink}
+use Rattle.link_core.proofs.LinkEngines.{has_run, next_of, none_left, opening_on_link, rest_of}
+use Rattle.link_core.proofs.run.run_link_with_recorders.Goals as goal
+
+pub loop-i-init : goal.loop-i-init
+loop-i-init g c =
+    let new = c.in_ok-engine.ensures {u = tt} in
+    rw new (record { on_link = opening_on_link c.args.params c.args.seed c.args.link.now c.args.arrivals.now c.requires.arrivals; params = refl; seed = refl })
+
+pub meet_next-requires-clause-on_link : goal.meet_next-requires-clause-on_link
+meet_next-requires-clause-on_link g c = rw (rest_of c.args.arrivals.now c.loop-i.i) c.loop-i.invariant.on_link
+
+pub loop-i-preserved : goal.loop-i-preserved
+loop-i-preserved g c =
+    let done = c.in_ok-busy.ensures {u = tt} in
+    let inv = c.loop-i.invariant in
+    record {
+      on_link = subst (λ (l : List Arrival). IsOnLink c.args.link.now c.args.arrivals.now c.meet_next.new.engine c.in_ok-busy.busy l) (next_of c.args.arrivals.now c.loop-i.i) done.on_link;
+      params = done.params.params ∙ inv.params;
+      seed = done.params.seed ∙ inv.seed;
+    }
+
+pub ask_before-requires-clause-on_link : goal.ask_before-requires-clause-on_link
+ask_before-requires-clause-on_link g c =
+    subst (λ (l : List Arrival). IsOnLink c.args.link.now c.args.arrivals.now c.loop-i.engine c.loop-i.busy l) (none_left c.args.arrivals.now c.loop-i.i c.loop-i-test.false) c.loop-i.invariant.on_link
+
+pub returns : goal.returns
+returns g c =
+    let done = c.in_ok-ask_before.ensures {u = tt} in
+    let inv = c.loop-i.invariant in
+    has_run c.args.params c.args.seed c.args.link.now c.args.arrivals.now c.ask_before.new.engine c.in_ok-ask_before.field-0 done.on_link done.waits (done.params.params ∙ inv.params) (done.params.seed ∙ inv.seed)

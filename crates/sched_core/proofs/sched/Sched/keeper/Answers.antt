@@ -1,5 +1,0 @@
-use Rattle.sched_core.proofs.KeptScheduler.{seen_once}
-use Rattle.sched_core.proofs.sched.Sched.keeper.Goals as goal
-
-pub returns-clause-once : goal.returns-clause-once
-returns-clause-once g c = rw c.keeper.ensures.lost (seen_once c.self.inside _ c.self.view_is c.self.invariant)

@@ -1,0 +1,105 @@
+//! Recorders: memory for what they will be told, and one that makes packets of events.
+
+ghost use Rattle.std.specs.Prelude.{◌≡◌, ◌-◌, ◌<◌, ◌≤◌, true};
+
+use crate::calls::Calls;
+use crate::values::Values;
+use codel_core::Served;
+use journal_core::{Mark, Recorder, StepRecorder};
+use link_report::Gathered;
+use packet_core::{Ecn, Packet, Seed, Waiting};
+use test_support::tuple;
+
+/// So many packets come, each of another five-tuple, and then go. For so many a recorder stores the flows' latest ones.
+const PACKETS: u64 = 80;
+
+/// Memory is reserved for several events, where there is some for fewer, and to tell them takes none. So at the end each
+/// packet is there. Where no memory is given for the flows' latest five-tuples, no call is refused.
+pub(crate) fn gathered(values: &Values, calls: &mut Calls<'_>) {
+    let mut gathered = Gathered::new(values.alloc, &Seed([0; 16]), u64::MAX);
+    for (fewer, count) in [(0, 1), (2, 20), (3, 90), (1, 49)] {
+        take(&mut gathered, fewer, calls);
+        tell(&mut gathered, count, values, calls);
+    }
+    calls.wanted(has_all(&gathered), "Gathered::packets");
+}
+
+/// Tells it so many events, for which memory is reserved at once.
+fn tell(gathered: &mut Gathered, count: usize, values: &Values, calls: &mut Calls<'_>) {
+    let told = gathered.event_count();
+    if take(gathered, count, calls) {
+        calls.wanted(gathered.event_count() == told, "Recorder::reserve");
+        for _event in 0..count {
+            tell_next(gathered, values.packet);
+        }
+    }
+}
+
+/// Tells it the next event: each packet comes, and then each goes.
+fn tell_next(gathered: &mut Gathered, packet: Packet)
+    requires { 0 < gathered.old.room }
+    ensures { gathered.new.room ≡ gathered.old.room - 1 }
+{
+    let number = gathered.event_count();
+    if number < PACKETS {
+        let port = (number % PACKETS) as u16;
+        let packet = Packet::try_new(tuple(port), 1_000, Ecn::NotEct).unwrap_or(packet);
+        gathered.accept(&waiting(number, packet), 0, u32::from(port));
+    } else {
+        let served = Served {
+            waiting: waiting(number - PACKETS, packet),
+            mark: Mark::NoMark,
+        };
+        gathered.send(&served, 2);
+    }
+}
+
+/// The packet, as it waits since moment 1.
+fn waiting(id: u64, packet: Packet) -> Waiting {
+    Waiting {
+        id,
+        stamp: 1,
+        packet,
+    }
+}
+
+/// Reserves memory for so many events more of a recorder, and answers whether there is. Where it is refused it is reserved
+/// once more.
+pub(crate) fn take<K: Recorder>(recorder: &mut K, more: usize, calls: &mut Calls<'_>) -> bool
+    ensures room { result ≡ true → more ≤ K.room recorder.new }
+    ensures told { K.told recorder.new ≡ K.told recorder.old }
+    ensures sent { K.sent recorder.new ≡ K.sent recorder.old }
+    ensures lost { K.lost recorder.new ≡ K.lost recorder.old }
+{
+    if recorder.reserve(more).is_ok() {
+        return true;
+    }
+    calls.note();
+    let is_there = recorder.reserve(more).is_ok();
+    calls.wanted(is_there, "Recorder::reserve");
+    is_there
+}
+
+/// The same for so many steps more.
+pub(crate) fn take_steps<S: StepRecorder>(recorder: &mut S, more: usize, calls: &mut Calls<'_>)
+    ensures { S.told recorder.new ≡ S.told recorder.old }
+{
+    if recorder.reserve(more).is_err() {
+        calls.note();
+        let is_there = recorder.reserve(more).is_ok();
+        calls.wanted(is_there, "StepRecorder::reserve");
+    }
+}
+
+/// Whether each packet is among its packets, with a five-tuple of its own, and was sent.
+fn has_all(gathered: &Gathered) -> bool {
+    match gathered.packets() {
+        Some(packets) => {
+            let (tuples, records) = (packets.tuples(), packets.records());
+            records.len() as u64 == PACKETS
+                && tuples.len() == records.len()
+                && records.iter().all(|record| record.is_sent())
+        }
+        None => false,
+    }
+}
