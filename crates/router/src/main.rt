@@ -14,6 +14,7 @@ use std::cell::Cell;
 const BUFFERS: u64 = 4;
 
 /// The buffers: a bit of each, 1 where it is free.
+#[derive(Drop)]
 struct Pool {
     free: Cell<u64>,
 }
