@@ -6,7 +6,7 @@ ghost use Rattle.codel_core.specs.Schedule.{IsStateInRange, StaysInRange};
 ghost use Rattle.codel_core.specs.Verdict.{ServesLine};
 
 use crate::heads::{judge_heads, serve_heads};
-use crate::line::{DropSink, Heads, Held, Pull};
+use crate::line::{DropSink, Held, Peek, Pull};
 use crate::served::Served;
 use crate::state::CodelState;
 use packet_core::Params;
@@ -84,7 +84,7 @@ impl Codel {
 
     /// Serves as `serve` does. Each packet stays where it stands until it is dropped or given.
     #[inline(always)]
-    pub fn serve_in_place<L: Heads, S: DropSink>(
+    pub fn serve_in_place<L: Peek, S: DropSink>(
         &mut self,
         line: &mut L,
         now: u64,

@@ -9,14 +9,14 @@ ghost use Rattle.codel_core.specs.Heads.{DropsHead, JudgesLine, MarksHead};
 
 use crate::control_law::spacing;
 use crate::judge::{enter, may_mark, passes, should_drop};
-use crate::line::{DropSink, Heads, Judged, take_head};
+use crate::line::{DropSink, Judged, Peek, take_head};
 use crate::served::{Mark, Served, mark_by_threshold};
 use crate::state::CodelState;
 use packet_core::{Params, Waiting};
 
 /// Serves as `Codel::serve_in_place` does, over the numbers alone.
 #[inline(always)]
-pub(crate) fn serve_heads<L: Heads, S: DropSink>(
+pub(crate) fn serve_heads<L: Peek, S: DropSink>(
     state: &mut CodelState,
     line: &mut L,
     now: u64,

@@ -16,7 +16,7 @@ mod wide;
 pub use codel::Codel;
 pub use control_law::spacing;
 pub use laws::{one_spacing, one_verdict};
-pub use line::{DropSink, Heads, Pull};
+pub use line::{DropSink, Peek, Pull};
 pub use served::{Mark, Served};
 pub use state::CodelState;
 pub use wide::root;

@@ -31,7 +31,7 @@ pub trait Pull {
 }
 
 /// A line whose head can be read where it stands.
-pub trait Heads: Pull {
+pub trait Peek: Pull {
     /// The head. None where nothing waits.
     fn head(&self) -> Option<&Waiting>
         ensures { option_copied result ≡ slice_get (Self.items self.now) 0 };
@@ -72,7 +72,7 @@ pub(crate) trait Judged {
     ghost advanced_more: { (a b c : Self) (n : ℕ) → advanced a n b → advanced b 1 c → advanced a (n + 1) c };
 }
 
-impl<L: Heads> Judged for L {
+impl<L: Peek> Judged for L {
     ghost judged = { L.items };
 
     ghost advanced = { L.pulled };

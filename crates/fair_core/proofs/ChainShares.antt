@@ -5,11 +5,11 @@ use Rattle.std.proofs.lemmas.Bool.{cases_eq, eq-eqb, ne_eqb}
 use Rattle.std.proofs.lemmas.List.{get_or-set_other, get_or-set_same}
 use Rattle.packet_core.specs.declared.packet.Waiting.{Waiting}
 use Rattle.flow_core.specs.FlowLists.{FlowLists, with_queue}
-use Rattle.fair_core.specs.declared.account.Account.{Account}
-use Rattle.fair_core.specs.declared.backlog.FlowList.{FlowList}
-use Rattle.fair_core.specs.declared.backlog.FlowList.TheVariants.{New, Old}
-use Rattle.fair_core.specs.declared.backlog.Head.{Head}
-use Rattle.fair_core.specs.FairQueues.{AreSound, FairQueues, account_at, emptied_by, new_account, queue_of, unlisted, with_account}
+use Rattle.fair_core.specs.declared.flow_state.FlowState.{FlowState}
+use Rattle.fair_core.specs.declared.fair_queue.FlowList.{FlowList}
+use Rattle.fair_core.specs.declared.fair_queue.FlowList.TheVariants.{New, Old}
+use Rattle.fair_core.specs.declared.fair_queue.Head.{Head}
+use Rattle.fair_core.specs.FairQueues.{AreSound, FairQueues, flow_state_at, emptied_by, new_flow_state, queue_of, unlisted, with_flow_state}
 use Rattle.fair_core.specs.Turns.{Chain, Does, Policy, Sends, Service, Turn, TurnKind, TurnMade, service_by, service_in}
 use Rattle.fair_core.specs.Turns.TurnKind.{used_up, emptied, serving}
 use Rattle.fair_core.proofs.FairFifo.{within_from_packet}
@@ -20,7 +20,7 @@ use Rattle.fair_core.proofs.OldFlows.{Has, Moves, has_cases, has_right, lead, mo
 use Rattle.fair_core.proofs.OldFlows.Moves.{passes, takes_f, takes_g}
 
 abbrev pub credits_of : FairQueues → ℕ → ℤ
-credits_of s flow = (account_at s flow).credits
+credits_of s flow = (flow_state_at s flow).credits
 
 -- both flows are old
 abbrev pub Olds : ℕ → ℕ → FairQueues → Type 0
@@ -82,45 +82,45 @@ module _ (p : Policy) (some_quantum : 0 < p.quantum) (now f g : ℕ) (differ : f
   Even old of_f of_g new = Balanced p.quantum f g old of_f of_g new
 
   -- The head went to the end of the old flows, with so many credits more, or left.
-  module _ (s : FairQueues) (head : Head) (sound : AreSound s) (at : IsHead s.lists head) (olds : Olds f g s) (account : Account) where
-    within : head.flow < length s.accounts
-    within = rw sound.accounts (head_fits s head sound at).within
+  module _ (s : FairQueues) (head : Head) (sound : AreSound s) (at : IsHead s.lists head) (olds : Olds f g s) (flow_state : FlowState) where
+    within : head.flow < length s.flow_states
+    within = rw sound.flow_states (head_fits s head sound at).within
 
-    moved : (from : FlowList) → (from ≡ New → head.from ≡ Old → account.credits ≡ (account_at s head.flow).credits +ℤ pos p.quantum)
-        → (next : FairQueues) → next ≡ with_account s (emptied_by from s.lists head) head.flow account → Has (listed next) f → Has (listed next) g → Olds f g next × Even s 0 0 next
+    moved : (from : FlowList) → (from ≡ New → head.from ≡ Old → flow_state.credits ≡ (flow_state_at s head.flow).credits +ℤ pos p.quantum)
+        → (next : FairQueues) → next ≡ with_flow_state s (emptied_by from s.lists head) head.flow flow_state → Has (listed next) f → Has (listed next) g → Olds f g next × Even s 0 0 next
     moved from raised next is in_f in_g =
         let in_f' = subst (λ (x : FairQueues). Has (listed x) f) is in_f in
         let in_g' = subst (λ (x : FairQueues). Has (listed x) g) is in_g in
         rw is (by_moves (moves p.quantum f g differ s.lists head at from sound.listed.once olds.0 olds.1 in_f' in_g'))
       where
-        here : (x : ℕ) → head.flow ≡ x → credits_of (with_account s (emptied_by from s.lists head) head.flow account) x ≡ account.credits
-        here x same = rw (← same) (ap (λ (a : Account). a.credits) (get_or-set_same s.accounts head.flow account new_account within))
+        here : (x : ℕ) → head.flow ≡ x → credits_of (with_flow_state s (emptied_by from s.lists head) head.flow flow_state) x ≡ flow_state.credits
+        here x same = rw (← same) (ap (λ (a : FlowState). a.credits) (get_or-set_same s.flow_states head.flow flow_state new_flow_state within))
 
-        there : (x : ℕ) → head.flow ≢ x → credits_of (with_account s (emptied_by from s.lists head) head.flow account) x ≡ credits_of s x
-        there x other = ap (λ (a : Account). a.credits) (get_or-set_other s.accounts head.flow x account new_account (λ e. other (sym e)))
+        there : (x : ℕ) → head.flow ≢ x → credits_of (with_flow_state s (emptied_by from s.lists head) head.flow flow_state) x ≡ credits_of s x
+        there x other = ap (λ (a : FlowState). a.credits) (get_or-set_other s.flow_states head.flow x flow_state new_flow_state (λ e. other (sym e)))
 
         by_moves : Moves p.quantum f g s.lists.old_flows head from (emptied_by from s.lists head).old_flows
-            → Olds f g (with_account s (emptied_by from s.lists head) head.flow account) × Even s 0 0 (with_account s (emptied_by from s.lists head) head.flow account)
+            → Olds f g (with_flow_state s (emptied_by from s.lists head) head.flow flow_state) × Even s 0 0 (with_flow_state s (emptied_by from s.lists head) head.flow flow_state)
         by_moves (passes not_f not_g in_f in_g same) = ((in_f, in_g), rw (there f not_f, there g not_g, same) refl)
         by_moves (takes_f is_f to_end from_old in_f in_g before after) =
             let of_f = here f is_f in
             let of_g = there g (λ e. differ (sym is_f ∙ e)) in
             let more = raised to_end from_old in
-            let own : (account_at s head.flow).credits ≡ credits_of s f = ap (credits_of s) is_f in
+            let own : (flow_state_at s head.flow).credits ≡ credits_of s f = ap (credits_of s) is_f in
             ((in_f, in_g), rw (of_f, of_g, before, after, more, own) (omega (arith, ints)))
         by_moves (takes_g is_g to_end from_old in_f in_g before after) =
             let of_g = here g is_g in
             let of_f = there f (λ e. differ (sym e ∙ is_g)) in
             let more = raised to_end from_old in
-            let own : (account_at s head.flow).credits ≡ credits_of s g = ap (credits_of s) is_g in
+            let own : (flow_state_at s head.flow).credits ≡ credits_of s g = ap (credits_of s) is_g in
             ((in_f, in_g), rw (of_f, of_g, before, after, more, own) (omega (arith, ints)))
 
   turn_moves : (s next : FairQueues) (made : TurnMade) → AreSound s → Turn p now s made next → service_by made.kind ≡ None → Olds f g s → Has (listed next) f → Has (listed next) g → Olds f g next × Even s 0 0 next
   turn_moves s next made sound t unserved olds in_f in_g = go made.kind t.does unserved
     where
       go : (kind : TurnKind) → Does p now s made.head kind next → service_by kind ≡ None → Olds f g next × Even s 0 0 next
-      go used_up d none = moved s made.head sound t.looks olds (record (account_at s made.head.flow) { credits = (account_at s made.head.flow).credits +ℤ pos p.quantum }) New (λ _ _. refl) next d.leaves in_f in_g
-      go emptied d none = moved s made.head sound t.looks olds (record (account_at s made.head.flow) { codel = d.codel }) made.head.from (λ is_new is_old. let e : New ≡ Old = sym is_new ∙ is_old in absurd cc) next d.leaves in_f in_g
+      go used_up d none = moved s made.head sound t.looks olds (record (flow_state_at s made.head.flow) { credits = (flow_state_at s made.head.flow).credits +ℤ pos p.quantum }) New (λ _ _. refl) next d.leaves in_f in_g
+      go emptied d none = moved s made.head sound t.looks olds (record (flow_state_at s made.head.flow) { codel = d.codel }) made.head.from (λ is_new is_old. let e : New ≡ Old = sym is_new ∙ is_old in absurd cc) next d.leaves in_f in_g
       go (serving service) d none = absurd cc
 
   turn_sends : (s next : FairQueues) (head : Head) (service : Service) → AreSound s → Sends p now s head service next → Olds f g s
@@ -130,19 +130,19 @@ module _ (p : Policy) (some_quantum : 0 < p.quantum) (now f g : ℕ) (differ : f
       len : ℕ
       len = service.given.waiting.packet.len
 
-      account : Account
-      account = record { credits = (account_at s head.flow).credits -ℤ pos service.given.waiting.packet.len; codel = d.codel }
+      flow_state : FlowState
+      flow_state = record { credits = (flow_state_at s head.flow).credits -ℤ pos service.given.waiting.packet.len; codel = d.codel }
 
       left : FairQueues
-      left = with_account s (with_queue s.lists head.flow (drop (d.drops + 1) (queue_of s head.flow))) head.flow account
+      left = with_flow_state s (with_queue s.lists head.flow (drop (d.drops + 1) (queue_of s head.flow))) head.flow flow_state
 
       here : (x : ℕ) → head.flow ≡ x → credits_of left x ≡ credits_of s x -ℤ pos len
       here x same =
           subst (λ (y : ℕ). credits_of left y ≡ credits_of s y -ℤ pos len) same
-          (ap (λ (a : Account). a.credits) (get_or-set_same s.accounts head.flow account new_account (rw sound.accounts (within_from_packet s.lists.queues head.flow d.drops service.given.waiting d.stands))))
+          (ap (λ (a : FlowState). a.credits) (get_or-set_same s.flow_states head.flow flow_state new_flow_state (rw sound.flow_states (within_from_packet s.lists.queues head.flow d.drops service.given.waiting d.stands))))
 
       there : (x : ℕ) → head.flow ≢ x → credits_of left x ≡ credits_of s x
-      there x other = ap (λ (a : Account). a.credits) (get_or-set_other s.accounts head.flow x account new_account (λ e. other (sym e)))
+      there x other = ap (λ (a : FlowState). a.credits) (get_or-set_other s.flow_states head.flow x flow_state new_flow_state (λ e. other (sym e)))
 
       balanced : Even s (share_of head.flow f len) (share_of head.flow g len) left
       balanced =

@@ -8,10 +8,10 @@ use Rattle.std.proofs.lemmas.List.Sums.{sum_by-le}
 use Rattle.packet_core.specs.declared.packet.FiveTuple.{FiveTuple}
 use Rattle.packet_core.specs.declared.packet.Waiting.{Waiting}
 use Rattle.flow_core.specs.FlowLists.{queue_at}
-use Rattle.fair_core.specs.declared.account.Account.{Account}
+use Rattle.fair_core.specs.declared.flow_state.FlowState.{FlowState}
 use Rattle.journal_core.specs.declared.step.Step.{Step}
 use Rattle.fair_core.specs.FairQueueing.{Arrives, fair_queueing, is_listed, with_flow_listed}
-use Rattle.fair_core.specs.FairQueues.{FairQueues, account_at, new_account, no_queues, queue_of}
+use Rattle.fair_core.specs.FairQueues.{FairQueues, flow_state_at, new_flow_state, no_queues, queue_of}
 use Rattle.fair_core.specs.Policies.{DropsFromHeads}
 use Rattle.journal_core.specs.Runs.{Made, Runs, journal_of}
 use Rattle.journal_core.specs.State.{State}
@@ -55,8 +55,8 @@ module _ (quantum longest : ℕ) where
 
   pub opening_credits : (flows : ℕ) → 0 < longest → AreCreditsKept quantum longest (no_queues flows)
   opening_credits flows some = record {
-    low = replicate_keeps (λ (a : Account). pos 0 <ℤ (a.credits +ℤ pos longest)) new_account flows (omega (arith, ints));
-    high = replicate_keeps (λ (a : Account). a.credits ≤ℤ pos quantum) new_account flows (omega (arith, ints));
+    low = replicate_keeps (λ (a : FlowState). pos 0 <ℤ (a.credits +ℤ pos longest)) new_flow_state flows (omega (arith, ints));
+    high = replicate_keeps (λ (a : FlowState). a.credits ≤ℤ pos quantum) new_flow_state flows (omega (arith, ints));
     short = replicate_keeps (AllByRecursion IsShort) [] flows tt;
   }
 
@@ -71,9 +71,9 @@ one_owed quantum credits some short =
 
 pub short_bound : (quantum longest : ℕ) (s : FairQueues) → 0 < quantum → longest ≤ quantum → AreCreditsKept quantum longest s → turns_at_most quantum s ≤ 3 * length s.lists.new_flows + 2 * length s.lists.old_flows
 short_bound quantum longest s some short kept =
-    let one = λ (flow : ℕ). let low = kept.low flow in one_owed quantum ((account_at s flow).credits) some (omega (arith, ints)) in
-    let new = sum_by-le (λ flow. quanta_owed quantum ((account_at s flow).credits) + 2) 3 s.lists.new_flows (λ i d below. let o = one (get_or s.lists.new_flows i d) in omega arith) in
-    let old = sum_by-le (λ flow. quanta_owed quantum ((account_at s flow).credits) + 1) 2 s.lists.old_flows (λ i d below. let o = one (get_or s.lists.old_flows i d) in omega arith) in
+    let one = λ (flow : ℕ). let low = kept.low flow in one_owed quantum ((flow_state_at s flow).credits) some (omega (arith, ints)) in
+    let new = sum_by-le (λ flow. quanta_owed quantum ((flow_state_at s flow).credits) + 2) 3 s.lists.new_flows (λ i d below. let o = one (get_or s.lists.new_flows i d) in omega arith) in
+    let old = sum_by-le (λ flow. quanta_owed quantum ((flow_state_at s flow).credits) + 1) 2 s.lists.old_flows (λ i d below. let o = one (get_or s.lists.old_flows i d) in omega arith) in
     omega arith
 
 -- a longer packet may have come
@@ -89,50 +89,50 @@ module _ (p : Policy) (drops : DropsFromHeads p) (longest : ℕ) where
   abbrev Kept : FairQueues → Type 0
   Kept s = AreCreditsKept p.quantum longest s
 
-  abbrev IsFew : Account → Type 0
+  abbrev IsFew : FlowState → Type 0
   IsFew a = (pos 0 <ℤ (a.credits +ℤ pos longest)) × (a.credits ≤ℤ pos p.quantum)
 
-  few : (s : FairQueues) → Kept s → (flow : ℕ) → IsFew (account_at s flow)
+  few : (s : FairQueues) → Kept s → (flow : ℕ) → IsFew (flow_state_at s flow)
   few s kept flow = (kept.low flow, kept.high flow)
 
   turn_credits : (now : ℕ) (old new : FairQueues) (made : TurnMade) → Turn p now old made new → Kept old → Kept new
   turn_credits now old new made t kept = go made.kind t.does (queues_stay p now old new made t)
     where
-      passed : (account : Account) → IsFew account → new.accounts ≡ set old.accounts made.head.flow account → ((flow : ℕ) → AllByRecursion (IsShort p.quantum longest) (queue_of new flow)) → Kept new
-      passed account is_few accounts short =
-          let all = set_keeps IsFew new_account old.accounts made.head.flow account is_few (few old kept) in
-          record { low = λ flow. rw accounts (all flow).0; high = λ flow. rw accounts (all flow).1; short = short }
+      passed : (flow_state : FlowState) → IsFew flow_state → new.flow_states ≡ set old.flow_states made.head.flow flow_state → ((flow : ℕ) → AllByRecursion (IsShort p.quantum longest) (queue_of new flow)) → Kept new
+      passed flow_state is_few flow_states short =
+          let all = set_keeps IsFew new_flow_state old.flow_states made.head.flow flow_state is_few (few old kept) in
+          record { low = λ flow. rw flow_states (all flow).0; high = λ flow. rw flow_states (all flow).1; short = short }
 
       go : (kind : TurnKind) → Does p now old made.head kind new → (service_by kind ≡ None → new.lists.queues ≡ old.lists.queues) → Kept new
       go used_up d stay =
           let low = kept.low made.head.flow in
           let none = d.credits in
-          passed (record (account_at old made.head.flow) { credits = (account_at old made.head.flow).credits +ℤ pos p.quantum }) (omega (arith, ints), omega (arith, ints)) (ap (λ (s : FairQueues). s.accounts) d.leaves) (λ flow. rw (stay refl) (kept.short flow))
-      go emptied d stay = passed (record (account_at old made.head.flow) { codel = d.codel }) (few old kept made.head.flow) (ap (λ (s : FairQueues). s.accounts) d.leaves) (λ flow. rw (stay refl) (kept.short flow))
+          passed (record (flow_state_at old made.head.flow) { credits = (flow_state_at old made.head.flow).credits +ℤ pos p.quantum }) (omega (arith, ints), omega (arith, ints)) (ap (λ (s : FairQueues). s.flow_states) d.leaves) (λ flow. rw (stay refl) (kept.short flow))
+      go emptied d stay = passed (record (flow_state_at old made.head.flow) { codel = d.codel }) (few old kept made.head.flow) (ap (λ (s : FairQueues). s.flow_states) d.leaves) (λ flow. rw (stay refl) (kept.short flow))
       go (serving service) d stay =
           let fits = at_place (IsShort p.quantum longest) d.drops (queue_of old made.head.flow) service.given.waiting (kept.short made.head.flow) d.stands in
           let some = d.credits in
           let high = kept.high made.head.flow in
-          passed (record { credits = (account_at old made.head.flow).credits -ℤ pos service.given.waiting.packet.len; codel = d.codel }) (omega (arith, ints), omega (arith, ints)) (ap (λ (s : FairQueues). s.accounts) d.leaves)
+          passed (record { credits = (flow_state_at old made.head.flow).credits -ℤ pos service.given.waiting.packet.len; codel = d.codel }) (omega (arith, ints), omega (arith, ints)) (ap (λ (s : FairQueues). s.flow_states) d.leaves)
           (λ flow. rw d.leaves (set_keeps (AllByRecursion (IsShort p.quantum longest)) [] old.lists.queues made.head.flow _ (short_behind p.quantum longest (d.drops + 1) (queue_of old made.head.flow) (kept.short made.head.flow)) kept.short flow))
 
   pub chain_credits : (now : ℕ) (turns : List TurnMade) (old new : FairQueues) → Chain p now old turns new → Kept old → Kept new
   chain_credits now turns old new c kept = chain_keeps p now Kept (turn_credits now) turns old new c kept
 
-  listed_credits : (old : FairQueues) (flow : ℕ) → Kept old → (other : ℕ) → IsFew (account_at (with_flow_listed p old flow) other)
+  listed_credits : (old : FairQueues) (flow : ℕ) → Kept old → (other : ℕ) → IsFew (flow_state_at (with_flow_listed p old flow) other)
   listed_credits old flow kept other =
       elim (cases_Bool (is_listed old flow)) [
         | inl t ↦ rw t (few old kept other)
-        | inr t ↦ rw t (set_keeps IsFew new_account old.accounts flow _ (let low = kept.low flow in let high = kept.high flow in (omega (arith, ints), omega (arith, ints))) (few old kept) other)
+        | inr t ↦ rw t (set_keeps IsFew new_flow_state old.flow_states flow _ (let low = kept.low flow in let high = kept.high flow in (omega (arith, ints), omega (arith, ints))) (few old kept) other)
       ]
 
   pub arrival_credits : (old : FairQueues) (flow : ℕ) (w : Waiting) (lost : List Waiting) (new : FairQueues) → Arrives p old flow w lost new → IsShort p.quantum longest w → Kept old → Kept new
   arrival_credits old flow w lost new a fits kept =
-      let same : new.accounts ≡ (with_flow_listed p old flow).accounts = ap (λ (s : FairQueues). s.accounts) a.rest in
+      let same : new.flow_states ≡ (with_flow_listed p old flow).flow_states = ap (λ (s : FairQueues). s.flow_states) a.rest in
       let queues = set old.lists.queues flow (queue_at old.lists flow ++ w ∷ []) in
       let leave = drops.heads queues a.batches new.lists.queues a.overflow in
       let with_w = set_keeps (AllByRecursion (IsShort p.quantum longest)) [] old.lists.queues flow (queue_at old.lists flow ++ w ∷ []) (ByRecursion-append (IsShort p.quantum longest) (queue_at old.lists flow) (w ∷ []) (kept.short flow) (fits, tt)) kept.short in
-      let each = λ (other : ℕ). subst (λ (accounts : List Account). IsFew (get_or accounts other new_account)) (sym same) (listed_credits old flow kept other) in
+      let each = λ (other : ℕ). subst (λ (flow_states : List FlowState). IsFew (get_or flow_states other new_flow_state)) (sym same) (listed_credits old flow kept other) in
       record {
         low = λ other. (each other).0;
         high = λ other. (each other).1;

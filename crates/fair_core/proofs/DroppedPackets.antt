@@ -11,7 +11,7 @@ use Rattle.flow_core.specs.FlowLists.{Holding, queue_at, waiting_in}
 use Rattle.flow_core.specs.Winners.{CountsFew}
 use Rattle.journal_core.specs.declared.event.Cause.{Cause}
 use Rattle.journal_core.specs.declared.event.Cause.TheVariants as cause
-use Rattle.fair_core.specs.Backlogs.{DropsHeads, DropsOverflow, Held, LosesBatch, held_flows, with_heads_gone, with_holding}
+use Rattle.fair_core.specs.HeldQueues.{DropsHeads, DropsOverflow, Held, LosesBatch, held_flows, with_heads_gone, with_holding}
 use Rattle.fair_core.specs.FairQueueing.{with_queues}
 use Rattle.journal_core.specs.Books.{Book, count_drops}
 use Rattle.journal_core.specs.Disciplines.{Batch, packets_of}
@@ -57,12 +57,12 @@ drops_next flow n moment old mid new book book' book'' d within o head rest few 
 
 -- the fattest flow loses its batch
 pub loses_batch : (most moment : ℕ) (old : Held) (book book' : Book) (flow batch : ℕ) (flows' : Holding) → IsFattest old.queues.lists.queues flow → batch ≡ batch_size most (length (queue_at old.queues.lists flow))
-    → DropsHeads flow batch moment (held_flows old) book flows' book' → LosesBatch most moment old book (with_holding old flows' old.queues.accounts) book'
+    → DropsHeads flow batch moment (held_flows old) book flows' book' → LosesBatch most moment old book (with_holding old flows' old.queues.flow_states) book'
 loses_batch most moment old book book' flow batch flows' fattest size d =
     record {
       flow = flow;
       fattest = fattest;
-      rest = ap (λ (h : Holding). with_holding old h old.queues.accounts) d.rest
+      rest = ap (λ (h : Holding). with_holding old h old.queues.flow_states) d.rest
           ∙ ap (λ (n : ℕ). record old { queues = with_queues old.queues (set old.queues.lists.queues flow (drop n (queue_at old.queues.lists flow))); comparisons = flows'.comparisons }) size;
       few_comparisons = rw (← size) d.few_comparisons;
       journal = rw (← size) d.journal;

@@ -11,7 +11,7 @@ use Rattle.fair_core.specs.FairQueues.{FairQueues, queue_of}
 use Rattle.fair_core.specs.FairQueueing.{dropped_in, fair_queueing, given_in}
 use Rattle.fair_core.specs.Policies.{DropsFromHeads}
 use Rattle.fair_core.specs.Turns.{Chain, Policy, Sends, Service, TurnMade, service_in}
-use Rattle.fair_core.specs.declared.backlog.Head.{Head}
+use Rattle.fair_core.specs.declared.fair_queue.Head.{Head}
 use Rattle.fair_core.proofs.TurnLemmas.{chain_sends}
 
 opens : (flows flow : ℕ) → get_or {A = List Waiting} (replicate flows []) flow [] ≡ []

@@ -6,7 +6,7 @@ pub mod NewFlowsFirst
 pub mod RunInvariants
 pub mod SoundFlows
 pub mod ComparisonLemmas
-pub mod AccountRanges
+pub mod FlowStateRanges
 pub mod DroppedPackets
 pub mod ListedFlowLemmas
 pub mod ServedChains

@@ -2,16 +2,16 @@
 use Rattle.std.proofs.Common.{append-nil, ◌≡◌, ℕ, List, [], ◌∷◌, ◌++◌, Some, refl, subst, ◌≢◌, ◌<◌, true, false, All, eqb, pos, sym, inl, inr, suc, set, arith}
 use Rattle.packet_core.specs.declared.packet.Waiting.{Waiting}
 use Rattle.flow_core.specs.FlowLists.{FlowLists, AreDistinct, queue_at}
-use Rattle.fair_core.specs.declared.backlog.FlowList.TheVariants.{New, Old}
-use Rattle.fair_core.specs.declared.backlog.Head.{Head}
-use Rattle.fair_core.specs.FairQueues.{head_of_lists, unlisted, FairQueues, account_at}
+use Rattle.fair_core.specs.declared.fair_queue.FlowList.TheVariants.{New, Old}
+use Rattle.fair_core.specs.declared.fair_queue.Head.{Head}
+use Rattle.fair_core.specs.FairQueues.{head_of_lists, unlisted, FairQueues, flow_state_at}
 use Rattle.std.specs.List.{AllByRecursion, list_any, Contains}
 use Rattle.std.proofs.lemmas.Bool.{cases_Bool, cases_eq, eq-eqb, ne_eqb}
 use Rattle.std.proofs.lemmas.List.Elements.{All-from_recursion, recursion_from_All}
 use Rattle.fair_core.specs.FairQueueing.{is_listed}
 use Rattle.journal_core.proofs.ListLemmas.{ByRecursion-append, ByRecursion-parts}
 use Rattle.packet_core.specs.declared.params.ParamFields.{ParamFields}
-use Rattle.fair_core.specs.Backlogs.{with_arrival_listed}
+use Rattle.fair_core.specs.HeldQueues.{with_arrival_listed}
 
 abbrev pub IsHead : FlowLists → Head → Type 0
 IsHead lists head = head_of_lists lists.new_flows lists.old_flows ≡ Some head
@@ -74,7 +74,7 @@ pub arrival_listed : (p : ParamFields) (s : FairQueues) (flow : ℕ) (w : Waitin
     → with_arrival_listed p s flow w
     ≡ record {
       lists = record s.lists { queues = set s.lists.queues flow (queue_at s.lists flow ++ w ∷ []); new_flows = s.lists.new_flows ++ flow ∷ [] };
-      accounts = set s.accounts flow (record (account_at s flow) { credits = pos p.quantum });
+      flow_states = set s.flow_states flow (record (flow_state_at s flow) { credits = pos p.quantum });
     }
 arrival_listed p s flow w absent =
     elim (cases_Bool (is_listed s flow)) [

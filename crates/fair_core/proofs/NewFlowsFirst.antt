@@ -5,10 +5,10 @@ use Rattle.std.proofs.lemmas.Int.{ints}
 use Rattle.std.proofs.lemmas.List.{get_or-set_other}
 use Rattle.std.proofs.lemmas.List.Elements.{recursion_from_All}
 use Rattle.flow_core.specs.FlowLists.{AreDistinct}
-use Rattle.fair_core.specs.declared.account.Account.{Account}
-use Rattle.fair_core.specs.declared.backlog.FlowList.TheVariants.{New}
-use Rattle.fair_core.specs.declared.backlog.Head.{Head}
-use Rattle.fair_core.specs.FairQueues.{AreSound, FairQueues, account_at, head_of, head_of_lists, new_account, to_old, with_account}
+use Rattle.fair_core.specs.declared.flow_state.FlowState.{FlowState}
+use Rattle.fair_core.specs.declared.fair_queue.FlowList.TheVariants.{New}
+use Rattle.fair_core.specs.declared.fair_queue.Head.{Head}
+use Rattle.fair_core.specs.FairQueues.{AreSound, FairQueues, flow_state_at, head_of, head_of_lists, new_flow_state, to_old, with_flow_state}
 use Rattle.fair_core.specs.NewFlows.{IsFirstReady, IsReady, SendsFrom}
 use Rattle.fair_core.specs.Turns.{Chain, Does, Policy, Service, Turn, TurnKind, TurnMade, service_by, service_in}
 use Rattle.fair_core.specs.Turns.TurnKind.{used_up, emptied, serving}
@@ -30,28 +30,28 @@ abbrev GoesOn : FairQueues → ℕ → List ℕ → List ℕ → FairQueues → 
 GoesOn s flow before behind next = (next.lists.queues ≡ s.lists.queues) × (next.lists.new_flows ≡ before ++ flow ∷ behind) × IsReady next flow × NotReady next before
 
 -- A turn moves a new flow that isn't ready out of the way: the next one stays ready or not.
-module _ (s : FairQueues) (b flow : ℕ) (before behind : List ℕ) (place : s.lists.new_flows ≡ b ∷ (before ++ flow ∷ behind)) (sound : AreSound s) (account : Account) where
+module _ (s : FairQueues) (b flow : ℕ) (before behind : List ℕ) (place : s.lists.new_flows ≡ b ∷ (before ++ flow ∷ behind)) (sound : AreSound s) (flow_state : FlowState) where
   abbrev moved : FairQueues
-  moved = with_account s (to_old s.lists (new_head b)) b account
+  moved = with_flow_state s (to_old s.lists (new_head b)) b flow_state
 
   apart : AllByRecursion (λ other. other ≢ b) (before ++ flow ∷ behind)
   apart =
       let once : AreDistinct (b ∷ ((before ++ flow ∷ behind) ++ s.lists.old_flows)) = subst (λ l. AreDistinct (l ++ s.lists.old_flows)) place sound.listed.once in
       (ByRecursion-parts (λ other. other ≢ b) (before ++ flow ∷ behind) s.lists.old_flows (recursion_from_All (λ other. other ≢ b) _ once.0)).0
 
-  account_stays : (other : ℕ) → other ≢ b → account_at moved other ≡ account_at s other
-  account_stays other differs = get_or-set_other s.accounts b other account new_account differs
+  flow_state_stays : (other : ℕ) → other ≢ b → flow_state_at moved other ≡ flow_state_at s other
+  flow_state_stays other differs = get_or-set_other s.flow_states b other flow_state new_flow_state differs
 
   still_ready : IsReady s flow → IsReady moved flow
   still_ready ready = record {
-    credits = rw (account_stays flow ((ByRecursion-parts (λ other. other ≢ b) before (flow ∷ behind) apart).1.0)) ready.credits;
+    credits = rw (flow_state_stays flow ((ByRecursion-parts (λ other. other ≢ b) before (flow ∷ behind) apart).1.0)) ready.credits;
     waits = ready.waits;
   }
 
   still_not_ready : NotReady s before → NotReady moved before
   still_not_ready none =
       ByRecursion-weaker (λ other. (other ≢ b) × (IsReady s other → ⊥)) (λ other. IsReady moved other → ⊥) before
-      (λ other h ready. h.1 (record { credits = subst (λ (a : Account). pos 0 <ℤ a.credits) (account_stays other h.0) ready.credits; waits = ready.waits }))
+      (λ other h ready. h.1 (record { credits = subst (λ (a : FlowState). pos 0 <ℤ a.credits) (flow_state_stays other h.0) ready.credits; waits = ready.waits }))
       (ByRecursion-both (λ other. other ≢ b) (λ other. IsReady s other → ⊥) before (ByRecursion-parts (λ other. other ≢ b) before (flow ∷ behind) apart).0 none)
 
   moved_on : IsReady s flow → NotReady s before → GoesOn s flow before behind moved

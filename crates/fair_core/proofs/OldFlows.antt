@@ -5,9 +5,9 @@ use Rattle.packet_core.specs.declared.packet.Waiting.{Waiting}
 use Rattle.std.proofs.lemmas.Bool.{cases_Bool, cases_eq, eq-eqb, ne_eqb}
 use Rattle.std.proofs.lemmas.List.Elements.{recursion_from_All}
 use Rattle.flow_core.specs.FlowLists.{AreDistinct, FlowLists}
-use Rattle.fair_core.specs.declared.backlog.FlowList.{FlowList}
-use Rattle.fair_core.specs.declared.backlog.FlowList.TheVariants.{New, Old}
-use Rattle.fair_core.specs.declared.backlog.Head.{Head}
+use Rattle.fair_core.specs.declared.fair_queue.FlowList.{FlowList}
+use Rattle.fair_core.specs.declared.fair_queue.FlowList.TheVariants.{New, Old}
+use Rattle.fair_core.specs.declared.fair_queue.Head.{Head}
 use Rattle.fair_core.specs.FairQueues.{emptied_by}
 use Rattle.fair_core.proofs.ListedFlowLemmas.{IsHead, by_head}
 

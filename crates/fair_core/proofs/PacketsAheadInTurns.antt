@@ -8,11 +8,11 @@ use Rattle.std.proofs.lemmas.List.Elements.{recursion_from_All}
 use Rattle.std.proofs.lemmas.Option.{slice_get_within}
 use Rattle.packet_core.specs.declared.packet.Waiting.{Waiting}
 use Rattle.flow_core.specs.FlowLists.{FlowLists, with_queue}
-use Rattle.fair_core.specs.declared.account.Account.{Account}
-use Rattle.fair_core.specs.declared.backlog.FlowList.{FlowList}
-use Rattle.fair_core.specs.declared.backlog.FlowList.TheVariants.{New, Old}
-use Rattle.fair_core.specs.declared.backlog.Head.{Head}
-use Rattle.fair_core.specs.FairQueues.{AreSound, FairQueues, account_at, emptied_by, head_of, head_of_lists, new_account, queue_of, to_old, unlisted, with_account}
+use Rattle.fair_core.specs.declared.flow_state.FlowState.{FlowState}
+use Rattle.fair_core.specs.declared.fair_queue.FlowList.{FlowList}
+use Rattle.fair_core.specs.declared.fair_queue.FlowList.TheVariants.{New, Old}
+use Rattle.fair_core.specs.declared.fair_queue.Head.{Head}
+use Rattle.fair_core.specs.FairQueues.{AreSound, FairQueues, flow_state_at, emptied_by, head_of, head_of_lists, new_flow_state, queue_of, to_old, unlisted, with_flow_state}
 use Rattle.fair_core.specs.FairQueueing.{is_listed, with_flow_listed}
 use Rattle.fair_core.specs.TurnBound.{quanta_owed}
 use Rattle.fair_core.specs.Turns.{Chain, Does, Policy, Sends, Service, Turn, TurnKind, TurnMade, service_by}
@@ -73,14 +73,14 @@ module _ (p : Policy) (some_quantum : 0 < p.quantum) (flows f : ℕ) where
       let len = length-append s.lists.new_flows s.lists.old_flows in
       omega arith
 
-  -- ACCOUNTS
+  -- flow states
 
-  module _ (s : FairQueues) (lists : FlowLists) (flow : ℕ) (account : Account) where
-    credits_here : flow < length s.accounts → credits_of (with_account s lists flow account) flow ≡ account.credits
-    credits_here within = ap (λ (a : Account). a.credits) (get_or-set_same s.accounts flow account new_account within)
+  module _ (s : FairQueues) (lists : FlowLists) (flow : ℕ) (flow_state : FlowState) where
+    credits_here : flow < length s.flow_states → credits_of (with_flow_state s lists flow flow_state) flow ≡ flow_state.credits
+    credits_here within = ap (λ (a : FlowState). a.credits) (get_or-set_same s.flow_states flow flow_state new_flow_state within)
 
-    credits_there : (x : ℕ) → x ≢ flow → credits_of (with_account s lists flow account) x ≡ credits_of s x
-    credits_there x other = ap (λ (a : Account). a.credits) (get_or-set_other s.accounts flow x account new_account other)
+    credits_there : (x : ℕ) → x ≢ flow → credits_of (with_flow_state s lists flow flow_state) x ≡ credits_of s x
+    credits_there x other = ap (λ (a : FlowState). a.credits) (get_or-set_other s.flow_states flow x flow_state new_flow_state other)
 
   -- A TURN THAT DOESN'T SERVE
 
@@ -117,29 +117,29 @@ module _ (p : Policy) (some_quantum : 0 < p.quantum) (flows f : ℕ) where
       apart : AllByRecursion (λ x. x ≢ made.head.flow) (others s.lists made.head)
       apart = recursion_from_All (λ x. x ≢ made.head.flow) (others s.lists made.head) (head_fits s made.head fit.sound t.looks).apart
 
-      passed : (from : FlowList) → (made.head.from ≡ New → from ≡ New) → (account : Account) → made.head.flow ≢ f → next ≡ with_account s (emptied_by from s.lists made.head) made.head.flow account → WaitsIn next n
-      passed from to account other is =
+      passed : (from : FlowList) → (made.head.from ≡ New → from ≡ New) → (flow_state : FlowState) → made.head.flow ≢ f → next ≡ with_flow_state s (emptied_by from s.lists made.head) made.head.flow flow_state → WaitsIn next n
+      passed from to flow_state other is =
           let lists = emptied_by from s.lists made.head in
-          let same = credits_there s lists made.head.flow account in
-          let left = passes_by s.lists made.head t.looks (left_in s) (left_in (with_account s lists made.head.flow account)) (quanta_owed p.quantum (credits_of s f)) n
+          let same = credits_there s lists made.head.flow flow_state in
+          let left = passes_by s.lists made.head t.looks (left_in s) (left_in (with_flow_state s lists made.head.flow flow_state)) (quanta_owed p.quantum (credits_of s f)) n
           (λ x ne. ap left_of (same x ne)) apart other from to w in
           rw (is, same f (λ e. other (sym e))) left
 
       go : (kind : TurnKind) → Does p now s made.head kind next → service_by kind ≡ None → made.head.flow ≢ f → WaitsIn next n
-      go used_up d none other = passed New (λ _. refl) (record (account_at s made.head.flow) { credits = (account_at s made.head.flow).credits +ℤ pos p.quantum }) other d.leaves
-      go emptied d none other = passed made.head.from (λ e. e) (record (account_at s made.head.flow) { codel = d.codel }) other d.leaves
+      go used_up d none other = passed New (λ _. refl) (record (flow_state_at s made.head.flow) { credits = (flow_state_at s made.head.flow).credits +ℤ pos p.quantum }) other d.leaves
+      go emptied d none other = passed made.head.from (λ e. e) (record (flow_state_at s made.head.flow) { codel = d.codel }) other d.leaves
       go (serving service) d none other = absurd cc
 
-      own_raised : (account : Account) → credits_of (with_account s (to_old s.lists made.head) made.head.flow account) made.head.flow ≡ (account_at s made.head.flow).credits +ℤ pos p.quantum → (account_at s made.head.flow).credits ≤ℤ pos 0 → made.head.flow ≡ f
-          → WaitsIn (with_account s (to_old s.lists made.head) made.head.flow account) n
-      own_raised account here none is =
+      own_raised : (flow_state : FlowState) → credits_of (with_flow_state s (to_old s.lists made.head) made.head.flow flow_state) made.head.flow ≡ (flow_state_at s made.head.flow).credits +ℤ pos p.quantum → (flow_state_at s made.head.flow).credits ≤ℤ pos 0 → made.head.flow ≡ f
+          → WaitsIn (with_flow_state s (to_old s.lists made.head) made.head.flow flow_state) n
+      own_raised flow_state here none is =
           let lists = to_old s.lists made.head in
-          let nxt = with_account s lists made.head.flow account in
+          let nxt = with_flow_state s lists made.head.flow flow_state in
           let each : (x : ℕ) → left_of (credits_of nxt x) ≤ p.quantum = λ x.
           left_most p.quantum (credits_of nxt x)
           (elim (cases_eq x made.head.flow) [
             | inl e ↦ let high : credits_of nxt made.head.flow ≤ℤ pos p.quantum = rw here (omega (arith, ints)) in subst (λ y. credits_of nxt y ≤ℤ pos p.quantum) (sym e) high
-            | inr ne ↦ rw (credits_there s lists made.head.flow account x ne) (fit.high x)
+            | inr ne ↦ rw (credits_there s lists made.head.flow flow_state x ne) (fit.high x)
           ]) in
           let owed : suc (quanta_owed p.quantum (credits_of nxt made.head.flow)) ≡ quanta_owed p.quantum (credits_of s made.head.flow) = rw here (let less = raised_owed p.quantum (credits_of s made.head.flow) some_quantum none in omega arith) in
           let owed_f = subst (λ y. suc (quanta_owed p.quantum (credits_of nxt y)) ≡ quanta_owed p.quantum (credits_of s y)) is owed in
@@ -154,10 +154,10 @@ module _ (p : Policy) (some_quantum : 0 < p.quantum) (flows f : ℕ) where
 
       own : (kind : TurnKind) → Does p now s made.head kind next → service_by kind ≡ None → made.head.flow ≡ f → WaitsIn next n
       own used_up d none is =
-          let account = record (account_at s made.head.flow) { credits = (account_at s made.head.flow).credits +ℤ pos p.quantum } in
+          let flow_state = record (flow_state_at s made.head.flow) { credits = (flow_state_at s made.head.flow).credits +ℤ pos p.quantum } in
           let lists = to_old s.lists made.head in
-          let here = credits_here s lists made.head.flow account (rw fit.sound.accounts (head_fits s made.head fit.sound t.looks).within) in
-          rw d.leaves (own_raised account here d.credits is)
+          let here = credits_here s lists made.head.flow flow_state (rw fit.sound.flow_states (head_fits s made.head fit.sound t.looks).within) in
+          rw d.leaves (own_raised flow_state here d.credits is)
       own emptied d none is = let e : length (queue_of s f) ≡ 0 = rw (← is) (ap length d.empty) in absurd (omega arith)
       own (serving service) d none is = absurd cc
 
@@ -169,17 +169,17 @@ module _ (p : Policy) (some_quantum : 0 < p.quantum) (flows f : ℕ) where
     high = go made.kind t.does unserved;
   }
     where
-      changed : (lists : FlowLists) (account : Account) → account.credits ≤ℤ pos p.quantum → next ≡ with_account s lists made.head.flow account → (x : ℕ) → credits_of next x ≤ℤ pos p.quantum
-      changed lists account most is x =
+      changed : (lists : FlowLists) (flow_state : FlowState) → flow_state.credits ≤ℤ pos p.quantum → next ≡ with_flow_state s lists made.head.flow flow_state → (x : ℕ) → credits_of next x ≤ℤ pos p.quantum
+      changed lists flow_state most is x =
           rw is
           (elim (cases_eq x made.head.flow) [
-            | inl e ↦ rw (e, credits_here s lists made.head.flow account (rw fit.sound.accounts (head_fits s made.head fit.sound t.looks).within)) most
-            | inr ne ↦ rw (credits_there s lists made.head.flow account x ne) (fit.high x)
+            | inl e ↦ rw (e, credits_here s lists made.head.flow flow_state (rw fit.sound.flow_states (head_fits s made.head fit.sound t.looks).within)) most
+            | inr ne ↦ rw (credits_there s lists made.head.flow flow_state x ne) (fit.high x)
           ])
 
       go : (kind : TurnKind) → Does p now s made.head kind next → service_by kind ≡ None → (x : ℕ) → credits_of next x ≤ℤ pos p.quantum
-      go used_up d none = let low = d.credits in changed (to_old s.lists made.head) (record (account_at s made.head.flow) { credits = (account_at s made.head.flow).credits +ℤ pos p.quantum }) (omega (arith, ints)) d.leaves
-      go emptied d none = changed (emptied_by made.head.from s.lists made.head) (record (account_at s made.head.flow) { codel = d.codel }) (fit.high made.head.flow) d.leaves
+      go used_up d none = let low = d.credits in changed (to_old s.lists made.head) (record (flow_state_at s made.head.flow) { credits = (flow_state_at s made.head.flow).credits +ℤ pos p.quantum }) (omega (arith, ints)) d.leaves
+      go emptied d none = changed (emptied_by made.head.from s.lists made.head) (record (flow_state_at s made.head.flow) { codel = d.codel }) (fit.high made.head.flow) d.leaves
       go (serving service) d none = absurd cc
 
   -- A TURN THAT SERVES ANOTHER FLOW
@@ -205,24 +205,24 @@ module _ (p : Policy) (some_quantum : 0 < p.quantum) (flows f : ℕ) where
       lists : FlowLists
       lists = with_queue s.lists head.flow (drop (d.drops + 1) (queue_of s head.flow))
 
-      account : Account
-      account = record { credits = (account_at s head.flow).credits -ℤ pos service.given.waiting.packet.len; codel = d.codel }
+      flow_state : FlowState
+      flow_state = record { credits = (flow_state_at s head.flow).credits -ℤ pos service.given.waiting.packet.len; codel = d.codel }
 
-      within : head.flow < length s.accounts
-      within = rw fit.sound.accounts (within_from_packet s.lists.queues head.flow d.drops service.given.waiting d.stands)
+      within : head.flow < length s.flow_states
+      within = rw fit.sound.flow_states (within_from_packet s.lists.queues head.flow d.drops service.given.waiting d.stands)
 
       some : 1 ≤ service.given.waiting.packet.len
       some = at_place HasBytes d.drops (queue_of s head.flow) service.given.waiting (bytes head.flow) d.stands
 
-      less : left_in (with_account s lists head.flow account) head.flow + 1 ≤ left_in s head.flow
-      less = rw (credits_here s lists head.flow account within) (left_less ((account_at s head.flow).credits) (service.given.waiting.packet.len) d.credits some)
+      less : left_in (with_flow_state s lists head.flow flow_state) head.flow + 1 ≤ left_in s head.flow
+      less = rw (credits_here s lists head.flow flow_state within) (left_less ((flow_state_at s head.flow).credits) (service.given.waiting.packet.len) d.credits some)
 
-      left : (m : ℕ) × (m + 1 ≤ n) × WaitsIn (with_account s lists head.flow account) m
+      left : (m : ℕ) × (m + 1 ≤ n) × WaitsIn (with_flow_state s lists head.flow flow_state) m
       left =
-          let same = credits_there s lists head.flow account in
+          let same = credits_there s lists head.flow flow_state in
           let apart = recursion_from_All (λ x. x ≢ head.flow) (others s.lists head) (head_fits s head fit.sound at).apart in
           rw (same f (λ e. other (sym e)))
-          (sent_by s.lists head at (left_in s) (left_in (with_account s lists head.flow account)) (quanta_owed p.quantum (credits_of s f)) n (λ x ne. ap left_of (same x ne)) apart other less w)
+          (sent_by s.lists head at (left_in s) (left_in (with_flow_state s lists head.flow flow_state)) (quanta_owed p.quantum (credits_of s f)) n (λ x ne. ap left_of (same x ne)) apart other less w)
 
   -- A SERVING CHAIN
 
@@ -263,11 +263,11 @@ module _ (p : Policy) (some_quantum : 0 < p.quantum) (flows f : ℕ) where
   waits_listed s n (in_new m a le) = has_left s.lists.new_flows s.lists.old_flows f (ahead_has (left_in s) f s.lists.new_flows m a)
   waits_listed s n (in_old m u a few le) = has_right s.lists.new_flows s.lists.old_flows f (ahead_has (λ h. left_in s h + p.quantum) f s.lists.old_flows m a)
 
-  pub arrival_waits : (s : FairQueues) (flow n : ℕ) → length (with_flow_listed p s flow).lists.new_flows + length (with_flow_listed p s flow).lists.old_flows ≤ flows → flow < length s.accounts → WaitsIn s n → WaitsIn (with_flow_listed p s flow) n
+  pub arrival_waits : (s : FairQueues) (flow n : ℕ) → length (with_flow_listed p s flow).lists.new_flows + length (with_flow_listed p s flow).lists.old_flows ≤ flows → flow < length s.flow_states → WaitsIn s n → WaitsIn (with_flow_listed p s flow) n
   arrival_waits s flow n all_few within w = elim (cases_Bool (is_listed s flow)) [ inl t ↦ rw t w | inr t ↦ comes t ]
     where
-      account : Account
-      account = record (account_at s flow) { credits = pos p.quantum }
+      flow_state : FlowState
+      flow_state = record (flow_state_at s flow) { credits = pos p.quantum }
 
       lists : FlowLists
       lists = record s.lists { new_flows = s.lists.new_flows ++ flow ∷ [] }
@@ -280,10 +280,10 @@ module _ (p : Policy) (some_quantum : 0 < p.quantum) (flows f : ℕ) where
           let apart = apart_from_any flow (s.lists.new_flows ++ s.lists.old_flows) t in
           let has = waits_listed s n w in
           let other : f ≢ flow = λ e. has_differs (s.lists.new_flows ++ s.lists.old_flows) flow apart (subst (Has (s.lists.new_flows ++ s.lists.old_flows)) e has) in
-          let same = credits_there s lists flow account in
-          let most : left_in (with_account s lists flow account) flow ≤ p.quantum = rw (credits_here s lists flow account within) (omega arith) in
+          let same = credits_there s lists flow flow_state in
+          let most : left_in (with_flow_state s lists flow flow_state) flow ≤ p.quantum = rw (credits_here s lists flow flow_state within) (omega arith) in
           let len = length_push s.lists.new_flows flow in
           let few' = few t in
           rw t
           (rw (same f other)
-          (arrives flows p.quantum round_of f (left_in s) (left_in (with_account s lists flow account)) flow (λ x ne. ap left_of (same x ne)) (quanta_owed p.quantum (credits_of s f)) s.lists.new_flows s.lists.old_flows n apart most (omega arith) w))
+          (arrives flows p.quantum round_of f (left_in s) (left_in (with_flow_state s lists flow flow_state)) flow (λ x ne. ap left_of (same x ne)) (quanta_owed p.quantum (credits_of s f)) s.lists.new_flows s.lists.old_flows n apart most (omega arith) w))

@@ -8,12 +8,12 @@ use Rattle.std.proofs.lemmas.List.{get_or-set_other, take-append-drop}
 use Rattle.std.proofs.lemmas.Option.{slice_get_within}
 use Rattle.packet_core.specs.declared.packet.Waiting.{Waiting}
 use Rattle.flow_core.specs.FlowLists.{FlowLists, queue_at}
-use Rattle.fair_core.specs.declared.account.Account.{Account}
-use Rattle.fair_core.specs.declared.backlog.FlowList.{FlowList}
-use Rattle.fair_core.specs.declared.backlog.FlowList.TheVariants.{New, Old}
-use Rattle.fair_core.specs.declared.backlog.Head.{Head}
+use Rattle.fair_core.specs.declared.flow_state.FlowState.{FlowState}
+use Rattle.fair_core.specs.declared.fair_queue.FlowList.{FlowList}
+use Rattle.fair_core.specs.declared.fair_queue.FlowList.TheVariants.{New, Old}
+use Rattle.fair_core.specs.declared.fair_queue.Head.{Head}
 use Rattle.fair_core.specs.FairQueueing.{Arrives, is_listed, with_flow_listed}
-use Rattle.fair_core.specs.FairQueues.{FairQueues, account_at, emptied_by, new_account, no_queues, queue_of, unlisted}
+use Rattle.fair_core.specs.FairQueues.{FairQueues, flow_state_at, emptied_by, new_flow_state, no_queues, queue_of, unlisted}
 use Rattle.fair_core.specs.Policies.{DropsFromHeads}
 use Rattle.fair_core.specs.Turns.{Chain, Does, Policy, Turn, TurnKind, TurnMade, service_by}
 use Rattle.fair_core.specs.Turns.TurnKind.{used_up, emptied, serving}
@@ -69,33 +69,33 @@ module _ (p : Policy) where
 
   pub opening_servable : (flows : ℕ) → AreServable (no_queues flows)
   opening_servable flows = record {
-    high = replicate_keeps (λ (a : Account). a.credits ≤ℤ pos p.quantum) new_account flows (omega (arith, ints));
+    high = replicate_keeps (λ (a : FlowState). a.credits ≤ℤ pos p.quantum) new_flow_state flows (omega (arith, ints));
     bytes = replicate_keeps (AllByRecursion HasBytes) [] flows tt;
     each_listed = λ x some. absurd (replicate_keeps (λ (q : List Waiting). 0 < length q → ⊥) [] flows (λ none. omega arith) x some);
   }
 
-  abbrev IsFew : Account → Type 0
+  abbrev IsFew : FlowState → Type 0
   IsFew a = a.credits ≤ℤ pos p.quantum
 
   turn_servable : (now : ℕ) (old new : FairQueues) (made : TurnMade) → Turn p now old made new → AreServable old → AreServable new
   turn_servable now old new made t ready = go made.kind t.does (queues_stay p now old new made t)
     where
-      high_by : (account : Account) → IsFew account → new.accounts ≡ set old.accounts made.head.flow account → (x : ℕ) → credits_of new x ≤ℤ pos p.quantum
-      high_by account few is x = rw is (set_keeps IsFew new_account old.accounts made.head.flow account few ready.high x)
+      high_by : (flow_state : FlowState) → IsFew flow_state → new.flow_states ≡ set old.flow_states made.head.flow flow_state → (x : ℕ) → credits_of new x ≤ℤ pos p.quantum
+      high_by flow_state few is x = rw is (set_keeps IsFew new_flow_state old.flow_states made.head.flow flow_state few ready.high x)
 
       go : (kind : TurnKind) → Does p now old made.head kind new → (service_by kind ≡ None → new.lists.queues ≡ old.lists.queues) → AreServable new
       go used_up d stay =
           let same = stay refl in
           let none = d.credits in
           record {
-            high = high_by (record (account_at old made.head.flow) { credits = (account_at old made.head.flow).credits +ℤ pos p.quantum }) (omega (arith, ints)) (ap (λ (s : FairQueues). s.accounts) d.leaves);
+            high = high_by (record (flow_state_at old made.head.flow) { credits = (flow_state_at old made.head.flow).credits +ℤ pos p.quantum }) (omega (arith, ints)) (ap (λ (s : FairQueues). s.flow_states) d.leaves);
             bytes = λ x. rw same (ready.bytes x);
             each_listed = λ x some. subst (λ (l : List ℕ). Has l x) (sym (ap listed d.leaves)) (still_listed old.lists made.head t.looks New x (λ _. refl) (ready.each_listed x (rw same at some)));
           }
       go emptied d stay =
           let same = stay refl in
           record {
-            high = high_by (record (account_at old made.head.flow) { codel = d.codel }) (ready.high made.head.flow) (ap (λ (s : FairQueues). s.accounts) d.leaves);
+            high = high_by (record (flow_state_at old made.head.flow) { codel = d.codel }) (ready.high made.head.flow) (ap (λ (s : FairQueues). s.flow_states) d.leaves);
             bytes = λ x. rw same (ready.bytes x);
             each_listed = λ x some.
                 let some' : 0 < length (queue_of old x) = rw same at some in
@@ -108,7 +108,7 @@ module _ (p : Policy) where
           let behind = drop (d.drops + 1) (queue_of old made.head.flow) in
           let place = slice_get_within (queue_of old made.head.flow) d.drops service.given.waiting d.stands in
           record {
-            high = high_by (record { credits = (account_at old made.head.flow).credits -ℤ pos service.given.waiting.packet.len; codel = d.codel }) (omega (arith, ints)) (ap (λ (s : FairQueues). s.accounts) d.leaves);
+            high = high_by (record { credits = (flow_state_at old made.head.flow).credits -ℤ pos service.given.waiting.packet.len; codel = d.codel }) (omega (arith, ints)) (ap (λ (s : FairQueues). s.flow_states) d.leaves);
             bytes = λ x. rw d.leaves (set_keeps (AllByRecursion HasBytes) [] old.lists.queues made.head.flow behind (bytes_behind (d.drops + 1) (queue_of old made.head.flow) (ready.bytes made.head.flow)) ready.bytes x);
             each_listed = λ x more.
                 let more' : 0 < length (get_or (set old.lists.queues made.head.flow behind) x []) = rw d.leaves at more in
@@ -128,7 +128,7 @@ module _ (p : Policy) where
   listed_high old flow ready x =
       elim (cases_Bool (is_listed old flow)) [
         | inl t ↦ rw t (ready.high x)
-        | inr t ↦ rw t (set_keeps IsFew new_account old.accounts flow (record (account_at old flow) { credits = pos p.quantum }) (omega (arith, ints)) ready.high x)
+        | inr t ↦ rw t (set_keeps IsFew new_flow_state old.flow_states flow (record (flow_state_at old flow) { credits = pos p.quantum }) (omega (arith, ints)) ready.high x)
       ]
 
   listed_it : (old : FairQueues) (flow : ℕ) → Has (listed (with_flow_listed p old flow)) flow
@@ -155,11 +155,11 @@ module _ (p : Policy) where
       let with_w = queue_at old.lists flow ++ w ∷ [] in
       let queues = set old.lists.queues flow with_w in
       let leave = drops.heads queues a.batches new.lists.queues a.overflow in
-      let accounts : new.accounts ≡ (with_flow_listed p old flow).accounts = ap (λ (s : FairQueues). s.accounts) a.rest in
+      let flow_states : new.flow_states ≡ (with_flow_listed p old flow).flow_states = ap (λ (s : FairQueues). s.flow_states) a.rest in
       let lists : listed new ≡ listed (with_flow_listed p old flow) = ap listed a.rest in
       let bytes = set_keeps (AllByRecursion HasBytes) [] old.lists.queues flow with_w (ByRecursion-append HasBytes (queue_at old.lists flow) (w ∷ []) (ready.bytes flow) (fits, tt)) ready.bytes in
       record {
-        high = λ x. subst (λ (l : List Account). IsFew (get_or l x new_account)) (sym accounts) (listed_high old flow ready x);
+        high = λ x. subst (λ (l : List FlowState). IsFew (get_or l x new_flow_state)) (sym flow_states) (listed_high old flow ready x);
         bytes = λ x. (ByRecursion-parts HasBytes _ (get_or new.lists.queues x []) (subst (AllByRecursion HasBytes) (leave x) (bytes x))).1;
         each_listed = λ x some.
             let len = ap length (leave x) ∙ length-append _ (get_or new.lists.queues x []) in

@@ -9,11 +9,11 @@ use Rattle.codel_core.specs.declared.served.Mark.{Mark}
 use Rattle.codel_core.specs.declared.served.Served.{Served}
 use Rattle.codel_core.specs.declared.state.CodelState.{CodelState}
 use Rattle.flow_core.specs.FlowLists.{Holding}
-use Rattle.fair_core.specs.declared.backlog.Head.{Head}
+use Rattle.fair_core.specs.declared.fair_queue.Head.{Head}
 use Rattle.journal_core.specs.declared.event.Cause.TheVariants as cause
-use Rattle.fair_core.specs.Backlogs.{Held, MakesTurn, ServesFlow, held_flows, spent, with_credits_raised, with_holding, with_lists, IsAnswered, MakesChain, leaving, shown_service}
+use Rattle.fair_core.specs.HeldQueues.{Held, MakesTurn, ServesFlow, held_flows, spent, with_credits_raised, with_holding, with_lists, IsAnswered, MakesChain, leaving, shown_service}
 use Rattle.journal_core.specs.Books.{Book}
-use Rattle.fair_core.specs.FairQueues.{account_at, emptied_lists, head_of, queue_of, to_old, AreSound, FairQueues}
+use Rattle.fair_core.specs.FairQueues.{flow_state_at, emptied_lists, head_of, queue_of, to_old, AreSound, FairQueues}
 use Rattle.journal_core.specs.JournalDrops.{drops_none, with_drops}
 use Rattle.fair_core.specs.Turns.TurnKind.{used_up, emptied, serving}
 use Rattle.fair_core.proofs.ComparisonLemmas.{counts_none, found_leaves, counts_behind}
@@ -34,7 +34,7 @@ nothing_dropped p now old k mark new (verdict_drops droppable dropping before st
 
 module _ (p : ParamFields) (now : ℕ) (old : Held) (head : Head) (at : head_of old.queues ≡ Some head) where
   -- a flow whose credits were used up
-  pub raised_turn : (raised new : Held) (book : Book) → (account_at old.queues head.flow).credits ≤ℤ pos 0 → raised ≡ with_credits_raised p.quantum old head.flow → new ≡ with_lists raised (to_old raised.queues.lists head) → MakesTurn p now old book None new book
+  pub raised_turn : (raised new : Held) (book : Book) → (flow_state_at old.queues head.flow).credits ≤ℤ pos 0 → raised ≡ with_credits_raised p.quantum old head.flow → new ≡ with_lists raised (to_old raised.queues.lists head) → MakesTurn p now old book None new book
   raised_turn raised new book credits is moved =
       let new_is = moved ∙ ap (λ (r : Held). with_lists r (to_old r.queues.lists head)) is in
       record {
@@ -50,9 +50,9 @@ module _ (p : ParamFields) (now : ℕ) (old : Held) (head : Head) (at : head_of 
       }
 
   -- what is held, once CoDel served the flow
-  module _ (mid : Held) (book book' : Book) (answer : Option Served) (credits : pos 0 <ℤ (account_at old.queues head.flow).credits) (s : ServesFlow p now head.flow old book answer mid book') where
+  module _ (mid : Held) (book book' : Book) (answer : Option Served) (credits : pos 0 <ℤ (flow_state_at old.queues head.flow).credits) (s : ServesFlow p now head.flow old book answer mid book') where
     abbrev left : Holding → Option Served → Held
-    left flows given = with_holding old flows (set old.queues.accounts head.flow (record { credits = spent ((account_at old.queues head.flow).credits) given; codel = s.codel }))
+    left flows given = with_holding old flows (set old.queues.flow_states head.flow (record { credits = spent ((flow_state_at old.queues head.flow).credits) given; codel = s.codel }))
 
     -- a flow without packets: only its CoDel state changed
     pub emptied_turn : (new : Held) → IsNone answer → new ≡ with_lists mid (emptied_lists mid.queues.lists head) → MakesTurn p now old book answer new book'
@@ -61,7 +61,7 @@ module _ (p : ParamFields) (now : ℕ) (old : Held) (head : Head) (at : head_of 
         let lists = old.queues.lists in
         let empty : queue_of old.queues head.flow ≡ [] = q.none.0 none in
         let decides = rw empty at q.decides in
-        let zero_drops : q.drops ≡ 0 = nothing_dropped p now ((account_at old.queues head.flow).codel) q.drops decides.by_codel (record s.codel { first_above = (account_at old.queues head.flow).codel.first_above }) decides.verdict in
+        let zero_drops : q.drops ≡ 0 = nothing_dropped p now ((flow_state_at old.queues head.flow).codel) q.drops decides.by_codel (record s.codel { first_above = (flow_state_at old.queues head.flow).codel.first_above }) decides.verdict in
         let given : answer ≡ None = rw empty at q.given in
         let queues : set lists.queues head.flow [] ≡ lists.queues = ap (set lists.queues head.flow) (sym empty) ∙ set-get_or lists.queues head.flow [] in
         let flows : s.flows ≡ record (held_flows old) { comparisons = s.flows.comparisons } = rw (empty, zero_drops) at q.rest ∙ (λ i. record (held_flows old) { lists = record lists { queues = queues i }; comparisons = s.flows.comparisons }) in

@@ -5,11 +5,11 @@ use Rattle.std.proofs.lemmas.List.{get_or-set_other, get_or-set_same, length-set
 use Rattle.std.proofs.lemmas.List.Elements.{All-from_recursion, All-head, All-push, All-tail, recursion_from_All}
 use Rattle.std.proofs.lemmas.List.Sums.{sum_by-cons, sum_by_push}
 use Rattle.flow_core.specs.FlowLists.{AreDistinct, FlowLists}
-use Rattle.fair_core.specs.declared.account.Account.{Account}
-use Rattle.fair_core.specs.declared.backlog.FlowList.{FlowList}
-use Rattle.fair_core.specs.declared.backlog.FlowList.TheVariants.{New, Old}
-use Rattle.fair_core.specs.declared.backlog.Head.{Head}
-use Rattle.fair_core.specs.FairQueues.{AreSound, FairQueues, account_at, emptied_by, head_of, new_account, unlisted, with_account}
+use Rattle.fair_core.specs.declared.flow_state.FlowState.{FlowState}
+use Rattle.fair_core.specs.declared.fair_queue.FlowList.{FlowList}
+use Rattle.fair_core.specs.declared.fair_queue.FlowList.TheVariants.{New, Old}
+use Rattle.fair_core.specs.declared.fair_queue.Head.{Head}
+use Rattle.fair_core.specs.FairQueues.{AreSound, FairQueues, flow_state_at, emptied_by, head_of, new_flow_state, unlisted, with_flow_state}
 use Rattle.fair_core.specs.Policies.{IsDecided}
 use Rattle.fair_core.specs.TurnBound.{AreQuantaOwed, quanta_owed, turns_at_most}
 use Rattle.fair_core.specs.Turns.{Chain, Does, Policy, Service, Turn, TurnKind, TurnMade, service_by}
@@ -39,8 +39,8 @@ head_fits s head sound at =
     }
 
 -- Behind a turn that doesn't serve, the flow stands at the end of the list of old flows or in no list.
-module _ (s : FairQueues) (head : Head) (account : Account) (sound : AreSound s) (at : IsHead s.lists head) where
-  sound_behind : (from : FlowList) → AreSound (with_account s (emptied_by from s.lists head) head.flow account)
+module _ (s : FairQueues) (head : Head) (flow_state : FlowState) (sound : AreSound s) (at : IsHead s.lists head) where
+  sound_behind : (from : FlowList) → AreSound (with_flow_state s (emptied_by from s.lists head) head.flow flow_state)
   sound_behind New =
       let fits = head_fits s head sound at in
       let e = append_assoc (unlisted s.lists head).new_flows (unlisted s.lists head).old_flows (head.flow ∷ []) in
@@ -49,13 +49,13 @@ module _ (s : FairQueues) (head : Head) (account : Account) (sound : AreSound s)
           within = rw (← e) (All-push (λ flow. flow < length s.lists.queues) (others s.lists head) head.flow fits.rest_within fits.within);
           once = rw (← e) (distinct_push head.flow (others s.lists head) fits.apart fits.rest_once);
         };
-        accounts = length-set s.accounts head.flow account ∙ sound.accounts;
+        flow_states = length-set s.flow_states head.flow flow_state ∙ sound.flow_states;
       }
   sound_behind Old =
       let fits = head_fits s head sound at in
       record {
         listed = record { within = fits.rest_within; once = fits.rest_once };
-        accounts = length-set s.accounts head.flow account ∙ sound.accounts;
+        flow_states = length-set s.flow_states head.flow flow_state ∙ sound.flow_states;
       }
 
 -- THE BOUND
@@ -80,45 +80,45 @@ some_extra Old = omega arith
 
 -- how many turns the flows of a list may take
 module _ (quantum : ℕ) where
-  abbrev owed : List Account → ℕ → ℕ
-  owed accounts flow = quanta_owed quantum ((get_or accounts flow new_account).credits)
+  abbrev owed : List FlowState → ℕ → ℕ
+  owed flow_states flow = quanta_owed quantum ((get_or flow_states flow new_flow_state).credits)
 
-  abbrev turns_in : ℕ → List Account → List ℕ → ℕ
-  turns_in more accounts flows = sum_by (λ flow. owed accounts flow + more) flows
+  abbrev turns_in : ℕ → List FlowState → List ℕ → ℕ
+  turns_in more flow_states flows = sum_by (λ flow. owed flow_states flow + more) flows
 
-  -- a change of another flow's account does not matter
-  turns_in_same : (more : ℕ) (accounts : List Account) (flow : ℕ) (account : Account) (flows : List ℕ) → All (λ other. other ≢ flow) flows → turns_in more (set accounts flow account) flows ≡ turns_in more accounts flows
-  turns_in_same more accounts flow account flows apart =
-      sum_by_agree_on (λ f. owed (set accounts flow account) f + more) (λ f. owed accounts f + more) flows
-      (ByRecursion-weaker (λ f. f ≢ flow) (λ f. owed (set accounts flow account) f + more ≡ owed accounts f + more) flows
-      (λ f other. ap (λ (a : Account). quanta_owed quantum a.credits + more) (get_or-set_other accounts flow f account new_account other))
+  -- a change of another flow's flow state does not matter
+  turns_in_same : (more : ℕ) (flow_states : List FlowState) (flow : ℕ) (flow_state : FlowState) (flows : List ℕ) → All (λ other. other ≢ flow) flows → turns_in more (set flow_states flow flow_state) flows ≡ turns_in more flow_states flows
+  turns_in_same more flow_states flow flow_state flows apart =
+      sum_by_agree_on (λ f. owed (set flow_states flow flow_state) f + more) (λ f. owed flow_states f + more) flows
+      (ByRecursion-weaker (λ f. f ≢ flow) (λ f. owed (set flow_states flow flow_state) f + more ≡ owed flow_states f + more) flows
+      (λ f other. ap (λ (a : FlowState). quanta_owed quantum a.credits + more) (get_or-set_other flow_states flow f flow_state new_flow_state other))
       (recursion_from_All (λ f. f ≢ flow) flows apart))
 
   -- the turns of the flows behind the head
-  abbrev turns_behind : List Account → FlowLists → Head → ℕ
-  turns_behind accounts lists head = turns_in 2 accounts (unlisted lists head).new_flows + turns_in 1 accounts (unlisted lists head).old_flows
+  abbrev turns_behind : List FlowState → FlowLists → Head → ℕ
+  turns_behind flow_states lists head = turns_in 2 flow_states (unlisted lists head).new_flows + turns_in 1 flow_states (unlisted lists head).old_flows
 
-  bound_before : (accounts : List Account) (lists : FlowLists) (head : Head) → IsHead lists head
-      → turns_at_most quantum (record { lists = lists; accounts = accounts }) ≡ owed accounts head.flow + extra head.from + turns_behind accounts lists head
-  bound_before accounts =
-      by_head (λ lists head. turns_at_most quantum (record { lists = lists; accounts = accounts }) ≡ owed accounts head.flow + extra head.from + turns_behind accounts lists head)
-      (λ queues flow rest old. let first = sum_by-cons (λ f. owed accounts f + 2) flow rest in omega arith)
-      (λ queues flow rest. let first = sum_by-cons (λ f. owed accounts f + 1) flow rest in omega arith)
+  bound_before : (flow_states : List FlowState) (lists : FlowLists) (head : Head) → IsHead lists head
+      → turns_at_most quantum (record { lists = lists; flow_states = flow_states }) ≡ owed flow_states head.flow + extra head.from + turns_behind flow_states lists head
+  bound_before flow_states =
+      by_head (λ lists head. turns_at_most quantum (record { lists = lists; flow_states = flow_states }) ≡ owed flow_states head.flow + extra head.from + turns_behind flow_states lists head)
+      (λ queues flow rest old. let first = sum_by-cons (λ f. owed flow_states f + 2) flow rest in omega arith)
+      (λ queues flow rest. let first = sum_by-cons (λ f. owed flow_states f + 1) flow rest in omega arith)
 
   -- and behind one, once the flow left the head as an emptied flow of that list does
-  module _ (s : FairQueues) (head : Head) (account : Account) (sound : AreSound s) (at : IsHead s.lists head) where
-    moved : (from : FlowList) → turns_at_most quantum (with_account s (emptied_by from s.lists head) head.flow account) ≡ turns_behind (set s.accounts head.flow account) s.lists head + left_for from (owed (set s.accounts head.flow account) head.flow)
-    moved New = let last = sum_by_push (λ flow. owed (set s.accounts head.flow account) flow + 1) (unlisted s.lists head).old_flows head.flow in omega arith
+  module _ (s : FairQueues) (head : Head) (flow_state : FlowState) (sound : AreSound s) (at : IsHead s.lists head) where
+    moved : (from : FlowList) → turns_at_most quantum (with_flow_state s (emptied_by from s.lists head) head.flow flow_state) ≡ turns_behind (set s.flow_states head.flow flow_state) s.lists head + left_for from (owed (set s.flow_states head.flow flow_state) head.flow)
+    moved New = let last = sum_by_push (λ flow. owed (set s.flow_states head.flow flow_state) flow + 1) (unlisted s.lists head).old_flows head.flow in omega arith
     moved Old = omega arith
 
-    bound_behind : (from : FlowList) → turns_at_most quantum (with_account s (emptied_by from s.lists head) head.flow account) ≡ turns_behind s.accounts s.lists head + left_for from (quanta_owed quantum account.credits)
+    bound_behind : (from : FlowList) → turns_at_most quantum (with_flow_state s (emptied_by from s.lists head) head.flow flow_state) ≡ turns_behind s.flow_states s.lists head + left_for from (quanta_owed quantum flow_state.credits)
     bound_behind from =
         let fits = head_fits s head sound at in
         let flows = unlisted s.lists head in
         let apart = ByRecursion-parts (λ other. other ≢ head.flow) flows.new_flows flows.old_flows (recursion_from_All (λ other. other ≢ head.flow) (others s.lists head) fits.apart) in
-        let new = turns_in_same 2 s.accounts head.flow account flows.new_flows (All-from_recursion (λ other. other ≢ head.flow) flows.new_flows apart.0) in
-        let old = turns_in_same 1 s.accounts head.flow account flows.old_flows (All-from_recursion (λ other. other ≢ head.flow) flows.old_flows apart.1) in
-        let own = ap (λ (a : Account). left_for from (quanta_owed quantum a.credits)) (get_or-set_same s.accounts head.flow account new_account (rw sound.accounts fits.within)) in
+        let new = turns_in_same 2 s.flow_states head.flow flow_state flows.new_flows (All-from_recursion (λ other. other ≢ head.flow) flows.new_flows apart.0) in
+        let old = turns_in_same 1 s.flow_states head.flow flow_state flows.old_flows (All-from_recursion (λ other. other ≢ head.flow) flows.old_flows apart.1) in
+        let own = ap (λ (a : FlowState). left_for from (quanta_owed quantum a.credits)) (get_or-set_same s.flow_states head.flow flow_state new_flow_state (rw sound.flow_states fits.within)) in
         let after = moved from in
         omega arith
 
@@ -141,23 +141,23 @@ module _ (p : Policy) (some_quantum : 0 < p.quantum) (now : ℕ) where
   pub turn_lowers : (s next : FairQueues) (made : TurnMade) → AreSound s → Turn p now s made next → service_by made.kind ≡ None → Lower s next
   turn_lowers s next made sound t unserved = go made.kind t.does unserved
     where
-      left : (from : FlowList) (account : Account) → next ≡ with_account s (emptied_by from s.lists made.head) made.head.flow account → left_for from (quanta_owed p.quantum account.credits) + 1 ≤ owed p.quantum s.accounts made.head.flow + extra made.head.from → Lower s next
-      left from account is less =
-          let before = bound_before p.quantum s.accounts s.lists made.head t.looks in
-          let after = bound_behind p.quantum s made.head account sound t.looks from in
-          rw is (sound_behind s made.head account sound t.looks from, omega arith)
+      left : (from : FlowList) (flow_state : FlowState) → next ≡ with_flow_state s (emptied_by from s.lists made.head) made.head.flow flow_state → left_for from (quanta_owed p.quantum flow_state.credits) + 1 ≤ owed p.quantum s.flow_states made.head.flow + extra made.head.from → Lower s next
+      left from flow_state is less =
+          let before = bound_before p.quantum s.flow_states s.lists made.head t.looks in
+          let after = bound_behind p.quantum s made.head flow_state sound t.looks from in
+          rw is (sound_behind s made.head flow_state sound t.looks from, omega arith)
 
       go : (kind : TurnKind) → Does p now s made.head kind next → service_by kind ≡ None → Lower s next
       go used_up d none =
-          let less = raised_owed p.quantum ((account_at s made.head.flow).credits) some_quantum d.credits in
+          let less = raised_owed p.quantum ((flow_state_at s made.head.flow).credits) some_quantum d.credits in
           let more = some_extra made.head.from in
-          left New (record (account_at s made.head.flow) { credits = (account_at s made.head.flow).credits +ℤ pos p.quantum }) d.leaves (omega arith)
-      go emptied d none = left made.head.from (record (account_at s made.head.flow) { codel = d.codel }) d.leaves (less_left made.head.from (owed p.quantum s.accounts made.head.flow))
+          left New (record (flow_state_at s made.head.flow) { credits = (flow_state_at s made.head.flow).credits +ℤ pos p.quantum }) d.leaves (omega arith)
+      go emptied d none = left made.head.from (record (flow_state_at s made.head.flow) { codel = d.codel }) d.leaves (less_left made.head.from (owed p.quantum s.flow_states made.head.flow))
       go (serving service) d none = absurd cc
 
   -- one turn at least may be made where a flow is listed
   turn_left : (s : FairQueues) (head : Head) → head_of s ≡ Some head → 1 ≤ turns_at_most p.quantum s
-  turn_left s head at = let before = bound_before p.quantum s.accounts s.lists head at in let some = some_extra head.from in omega arith
+  turn_left s head at = let before = bound_before p.quantum s.flow_states s.lists head at in let some = some_extra head.from in omega arith
 
   -- the bound on turns
   pub chain_bound : (turns : List TurnMade) (s new : FairQueues) → AreSound s → Chain p now s turns new → length turns ≤ turns_at_most p.quantum s

@@ -1,12 +1,12 @@
--- The flows of a scheduler stay as many as they were, and sound: each is listed once at most, and has an account.
+-- The flows of a scheduler stay as many as they were, and sound: each is listed once at most, and has an flow state.
 use Rattle.std.proofs.Common.{◌≡◌, ℕ, ◌+◌, ◌<◌, Bool, true, false, List, [], ◌∷◌, ◌++◌, length, replicate, Option, Some, None, pos, drop, refl, sym, ap, ◌∙◌, inl, inr, append_assoc}
 use Rattle.std.proofs.lemmas.Bool.{cases_Bool}
 use Rattle.std.proofs.lemmas.List.{length-replicate, length-set}
 use Rattle.std.proofs.lemmas.List.Elements.{All-nil}
 use Rattle.packet_core.specs.declared.packet.FiveTuple.{FiveTuple}
 use Rattle.packet_core.specs.declared.packet.Waiting.{Waiting}
-use Rattle.fair_core.specs.declared.account.Account.{Account}
-use Rattle.fair_core.specs.FairQueues.{AreSound, FairQueues, account_at, new_account, no_queues, queue_of}
+use Rattle.fair_core.specs.declared.flow_state.FlowState.{FlowState}
+use Rattle.fair_core.specs.FairQueues.{AreSound, FairQueues, flow_state_at, new_flow_state, no_queues, queue_of}
 use Rattle.fair_core.specs.FairQueueing.{Arrives, fair_queueing, is_listed, with_flow_listed}
 use Rattle.fair_core.specs.Policies.{DropsFromHeads}
 use Rattle.journal_core.specs.Runs.{Made, Runs, journal_of}
@@ -32,7 +32,7 @@ pub opening_sound : (flows : ℕ) → AreSoundFlows flows (no_queues flows)
 opening_sound flows = record {
   sound = record {
     listed = record { within = All-nil (λ flow. flow < length (replicate {A = List Waiting} flows [])); once = tt };
-    accounts = length-replicate {A = Account} flows new_account ∙ sym (length-replicate {A = List Waiting} flows []);
+    flow_states = length-replicate {A = FlowState} flows new_flow_state ∙ sym (length-replicate {A = List Waiting} flows []);
   };
   as_many = length-replicate {A = List Waiting} flows [];
 }
@@ -45,7 +45,7 @@ module _ (p : Policy) where
       go : (b : Bool) → is_listed s flow ≡ b → AreSound (with_flow_listed p s flow)
       go true is = rw is sound
       go false is =
-          let account = record (account_at s flow) { credits = pos p.quantum } in
+          let flow_state = record (flow_state_at s flow) { credits = pos p.quantum } in
           let e = append_assoc s.lists.new_flows (flow ∷ []) s.lists.old_flows in
           let apart = apart_from_any flow (s.lists.new_flows ++ s.lists.old_flows) is in
           rw is (record {
@@ -53,7 +53,7 @@ module _ (p : Policy) where
               within = rw e (within_between (length s.lists.queues) flow s.lists.new_flows s.lists.old_flows within sound.listed.within);
               once = rw e (distinct_between flow s.lists.new_flows s.lists.old_flows apart sound.listed.once);
             };
-            accounts = length-set s.accounts flow account ∙ sound.accounts;
+            flow_states = length-set s.flow_states flow flow_state ∙ sound.flow_states;
           })
 
   listed_queues : (s : FairQueues) (flow : ℕ) → (with_flow_listed p s flow).lists.queues ≡ s.lists.queues
@@ -88,7 +88,7 @@ module _ (p : Policy) where
         record {
           sound = rw a.rest (record {
             listed = record { within = rw same listed.listed.within; once = listed.listed.once };
-            accounts = listed.accounts ∙ sym same;
+            flow_states = listed.flow_states ∙ sym same;
           });
           as_many = as_many ∙ h.as_many;
         }
@@ -104,7 +104,7 @@ module _ (p : Policy) where
             let same = length-set old.lists.queues made.head.flow (drop (d.drops + 1) (queue_of old made.head.flow)) in
             rw d.leaves (record {
               listed = record { within = rw same sound.listed.within; once = sound.listed.once };
-              accounts = length-set old.accounts made.head.flow _ ∙ sound.accounts ∙ sym same;
+              flow_states = length-set old.flow_states made.head.flow _ ∙ sound.flow_states ∙ sym same;
             })
 
     pub chain_sound : (flows now : ℕ) (turns : List TurnMade) (old new : FairQueues) → Chain p now old turns new → AreSoundFlows flows old → AreSoundFlows flows new

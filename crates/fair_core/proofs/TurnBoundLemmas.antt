@@ -7,8 +7,8 @@ use Rattle.std.proofs.lemmas.Nat.{div-add-mod', mod_below}
 use Rattle.fair_core.specs.TurnBound.{AreQuantaOwed, quanta_owed, turns_at_most}
 use Rattle.std.proofs.lemmas.List.Elements.{All-from_recursion}
 use Rattle.std.proofs.lemmas.List.Sums.{sum_by-le}
-use Rattle.fair_core.specs.Backlogs.{AreHeld}
-use Rattle.fair_core.specs.FairQueues.{FairQueues, account_at}
+use Rattle.fair_core.specs.HeldQueues.{AreHeld}
+use Rattle.fair_core.specs.FairQueues.{FairQueues, flow_state_at}
 use Rattle.journal_core.proofs.ListLemmas.{ByRecursion-all}
 
 -- there is one such number
@@ -68,9 +68,9 @@ owed_most quantum (negsuc n) some low =
 sum_most : (f : ℕ → ℕ) (most : ℕ) (xs : List ℕ) → ((x : ℕ) → f x ≤ most) → sum_by f xs ≤ length xs * most
 sum_most f most xs each = sum_by-le f most xs (All-from_recursion (λ x. f x ≤ most) xs (ByRecursion-all (λ x. f x ≤ most) xs each))
 
-pub few_turns : (quantum : ℕ) (s : FairQueues) (arrived : ℕ) → 0 < quantum → AreHeld s.lists s.accounts arrived → length s.lists.new_flows + length s.lists.old_flows ≤ 65536 → turns_at_most quantum s ≤ 2 ^ 40
+pub few_turns : (quantum : ℕ) (s : FairQueues) (arrived : ℕ) → 0 < quantum → AreHeld s.lists s.flow_states arrived → length s.lists.new_flows + length s.lists.old_flows ≤ 65536 → turns_at_most quantum s ≤ 2 ^ 40
 few_turns quantum s arrived some h few =
-    let each = λ (flow : ℕ). owed_most quantum ((account_at s flow).credits) some (h.numbers flow).low in
-    let new = sum_most (λ flow. quanta_owed quantum ((account_at s flow).credits) + 2) 65538 s.lists.new_flows (λ flow. let e = each flow in omega arith) in
-    let old = sum_most (λ flow. quanta_owed quantum ((account_at s flow).credits) + 1) 65538 s.lists.old_flows (λ flow. let e = each flow in omega arith) in
+    let each = λ (flow : ℕ). owed_most quantum ((flow_state_at s flow).credits) some (h.numbers flow).low in
+    let new = sum_most (λ flow. quanta_owed quantum ((flow_state_at s flow).credits) + 2) 65538 s.lists.new_flows (λ flow. let e = each flow in omega arith) in
+    let old = sum_most (λ flow. quanta_owed quantum ((flow_state_at s flow).credits) + 1) 65538 s.lists.old_flows (λ flow. let e = each flow in omega arith) in
     omega arith

@@ -5,10 +5,10 @@ use Rattle.std.proofs.lemmas.Int.{ints, by_lt_z}
 use Rattle.packet_core.specs.declared.packet.Waiting.{Waiting}
 use Rattle.codel_core.specs.declared.state.CodelState.{CodelState}
 use Rattle.flow_core.specs.FlowLists.{FlowLists, with_queue}
-use Rattle.fair_core.specs.declared.backlog.FlowList.{FlowList}
-use Rattle.fair_core.specs.declared.backlog.FlowList.TheVariants.{New, Old}
-use Rattle.fair_core.specs.declared.backlog.Head.{Head}
-use Rattle.fair_core.specs.FairQueues.{FairQueues, account_at, emptied_by, emptied_lists, head_of, queue_of, with_account}
+use Rattle.fair_core.specs.declared.fair_queue.FlowList.{FlowList}
+use Rattle.fair_core.specs.declared.fair_queue.FlowList.TheVariants.{New, Old}
+use Rattle.fair_core.specs.declared.fair_queue.Head.{Head}
+use Rattle.fair_core.specs.FairQueues.{FairQueues, flow_state_at, emptied_by, emptied_lists, head_of, queue_of, with_flow_state}
 use Rattle.fair_core.specs.Policies.{IsDecided}
 use Rattle.fair_core.specs.Turns.{Chain, Does, Policy, Sends, Service, Turn, TurnKind, TurnMade, service_by, service_in}
 use Rattle.fair_core.specs.Turns.TurnKind.{used_up, emptied, serving}
@@ -64,14 +64,14 @@ module _ (p : Policy) (decided : IsDecided p) (now : ℕ) (old : FairQueues) whe
   does_once head used_up (serving s') new new' d d' = let none = d.credits in let some = d'.credits in absurd (omega (arith, ints))
   does_once head emptied used_up new new' d d' = let some = d.credits in let none = d'.credits in absurd (omega (arith, ints))
   does_once head emptied emptied new new' d d' =
-      let same = (decided.once now [] ((account_at old head.flow).codel) 0 0 d.mark d'.mark d.codel d'.codel d.verdict d'.verdict).2 in
-      (refl, d.leaves ∙ ap (λ (c : CodelState). with_account old (emptied_lists old.lists head) head.flow (record (account_at old head.flow) { codel = c })) same ∙ sym d'.leaves)
+      let same = (decided.once now [] ((flow_state_at old head.flow).codel) 0 0 d.mark d'.mark d.codel d'.codel d.verdict d'.verdict).2 in
+      (refl, d.leaves ∙ ap (λ (c : CodelState). with_flow_state old (emptied_lists old.lists head) head.flow (record (flow_state_at old head.flow) { codel = c })) same ∙ sym d'.leaves)
   does_once head emptied (serving s') new new' d d' = let none : slice_get [] d'.drops ≡ Some s'.given.waiting = rw d.empty at d'.stands in absurd cc
   does_once head (serving s) used_up new new' d d' = let some = d.credits in let none = d'.credits in absurd (omega (arith, ints))
   does_once head (serving s) emptied new new' d d' = let none : slice_get [] d.drops ≡ Some s.given.waiting = rw d'.empty at d.stands in absurd cc
   does_once head (serving s) (serving s') new new' d d' =
       let queue = queue_of old head.flow in
-      let agree = decided.once now queue ((account_at old head.flow).codel) d.drops d'.drops s.given.mark s'.given.mark d.codel d'.codel d.verdict d'.verdict in
+      let agree = decided.once now queue ((flow_state_at old head.flow).codel) d.drops d'.drops s.given.mark s'.given.mark d.codel d'.codel d.verdict d'.verdict in
       let given : Some s.given.waiting ≡ Some s'.given.waiting = sym d.stands ∙ ap (slice_get queue) agree.0 ∙ d'.stands in
       let same : s.given.waiting ≡ s'.given.waiting = cc in
       let dropped : s.dropped ≡ s'.dropped = d.dropped ∙ ap (λ (k : ℕ). take k queue) agree.0 ∙ sym d'.dropped in (
@@ -80,7 +80,7 @@ module _ (p : Policy) (decided : IsDecided p) (now : ℕ) (old : FairQueues) whe
       )
     where
       left : Head → ℕ → CodelState → Waiting → FairQueues
-      left head drops codel w = with_account old (with_queue old.lists head.flow (drop (drops + 1) (queue_of old head.flow))) head.flow (record { credits = (account_at old head.flow).credits -ℤ pos w.packet.len; codel = codel })
+      left head drops codel w = with_flow_state old (with_queue old.lists head.flow (drop (drops + 1) (queue_of old head.flow))) head.flow (record { credits = (flow_state_at old head.flow).credits -ℤ pos w.packet.len; codel = codel })
 
   pub turn_once : (made made' : TurnMade) (new new' : FairQueues) → Turn p now old made new → Turn p now old made' new' → (made ≡ made') × (new ≡ new')
   turn_once made made' new new' t t' =
@@ -92,16 +92,16 @@ module _ (p : Policy) (decided : IsDecided p) (now : ℕ) (old : FairQueues) whe
   -- there is a turn where a flow is listed
   pub turn_there : (head : Head) → head_of old ≡ Some head → (made : TurnMade) × (new : FairQueues) × Turn p now old made new
   turn_there head at =
-      by_lt_z (pos 0) ((account_at old head.flow).credits) (λ some. with_credits some (queue_of old head.flow) refl)
+      by_lt_z (pos 0) ((flow_state_at old head.flow).credits) (λ some. with_credits some (queue_of old head.flow) refl)
       (λ none. (record { head = head; kind = used_up }, _, record { looks = at; does = record { credits = none; leaves = refl } }))
     where
-      with_credits : pos 0 <ℤ (account_at old head.flow).credits → (queue : List Waiting) → queue_of old head.flow ≡ queue → (made : TurnMade) × (new : FairQueues) × Turn p now old made new
+      with_credits : pos 0 <ℤ (flow_state_at old head.flow).credits → (queue : List Waiting) → queue_of old head.flow ≡ queue → (made : TurnMade) × (new : FairQueues) × Turn p now old made new
       with_credits some [] is =
-          let v = decided.empties now ((account_at old head.flow).codel) in
+          let v = decided.empties now ((flow_state_at old head.flow).codel) in
           (record { head = head; kind = emptied }, _, record { looks = at; does = record { credits = some; empty = is; mark = v.0; codel = v.1; verdict = v.2; leaves = refl } })
       with_credits some (w ∷ queue) is =
-          let v = decided.gives now w queue ((account_at old head.flow).codel) in
-          let verdict = subst (λ (q : List Waiting). p.verdict now q (account_at old head.flow).codel v.0 v.1 v.2) (sym is) v.4 in
+          let v = decided.gives now w queue ((flow_state_at old head.flow).codel) in
+          let verdict = subst (λ (q : List Waiting). p.verdict now q (flow_state_at old head.flow).codel v.0 v.1 v.2) (sym is) v.4 in
           let stands = subst (λ (q : List Waiting). slice_get q v.0 ≡ Some v.3) (sym is) v.5 in (
             record { head = head; kind = serving (record { dropped = take v.0 (queue_of old head.flow); given = record { waiting = v.3; mark = v.1 } }) },
             _,

@@ -4,7 +4,7 @@ use Rattle.packet_core.specs.declared.packet.FiveTuple.{FiveTuple}
 use Rattle.packet_core.specs.declared.packet.Waiting.{Waiting}
 use Rattle.flow_core.specs.FlowLists.{queue_at}
 use Rattle.journal_core.specs.Disciplines.{Discipline, Given, Batch, packets_of}
-use Rattle.fair_core.specs.FairQueues.{FairQueues, account_at, no_queues, with_account}
+use Rattle.fair_core.specs.FairQueues.{FairQueues, flow_state_at, no_queues, with_flow_state}
 use Rattle.fair_core.specs.Turns.{Chain, Policy, Service, TurnMade, service_in}
 
 -- whether the flow is in one of the lists
@@ -15,8 +15,8 @@ is_listed s flow = list_any (λ other. other == flow) (s.lists.new_flows ++ s.li
 abbrev pub with_flow_listed : Policy → FairQueues → ℕ → FairQueues
 with_flow_listed p s flow =
     if is_listed s flow then s
-    else with_account s (record s.lists { new_flows = s.lists.new_flows ++ flow ∷ [] }) flow
-    (record (account_at s flow) { credits = pos p.quantum })
+    else with_flow_state s (record s.lists { new_flows = s.lists.new_flows ++ flow ∷ [] }) flow
+    (record (flow_state_at s flow) { credits = pos p.quantum })
 
 -- the same with those queues
 abbrev pub with_queues : FairQueues → List (List Waiting) → FairQueues

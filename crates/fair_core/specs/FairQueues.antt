@@ -2,41 +2,41 @@ use Rattle.std.specs.Prelude.{◌≡◌, ℕ, List, [], ◌∷◌, ◌++◌, dro
 use Rattle.codel_core.specs.Verdict.{opening}
 use Rattle.packet_core.specs.declared.packet.Waiting.{Waiting}
 use Rattle.flow_core.specs.FlowLists.{AreListed, FlowLists, no_flows, queue_at}
-use Rattle.fair_core.specs.declared.account.Account.{Account}
-use Rattle.fair_core.specs.declared.backlog.FlowList.{FlowList}
-use Rattle.fair_core.specs.declared.backlog.FlowList.TheVariants.{New, Old}
-use Rattle.fair_core.specs.declared.backlog.Head.{Head}
+use Rattle.fair_core.specs.declared.flow_state.FlowState.{FlowState}
+use Rattle.fair_core.specs.declared.fair_queue.FlowList.{FlowList}
+use Rattle.fair_core.specs.declared.fair_queue.FlowList.TheVariants.{New, Old}
+use Rattle.fair_core.specs.declared.fair_queue.Head.{Head}
 
 -- What a fair scheduler keeps of its flows (RFC 8290, section 4): their queues, the list of new flows and the list of
--- old flows, and an account for each flow: its credits, in bytes, and its CoDel state.
+-- old flows, and an flow state for each flow: its credits, in bytes, and its CoDel state.
 pub record FairQueues : Type 0 where
   pub lists : FlowLists
-  pub accounts : List Account
+  pub flow_states : List FlowState
 
--- the account of a flow that no packet came to
-abbrev pub new_account : Account
-new_account = record { credits = pos 0; codel = opening }
+-- the flow state of a flow that no packet came to
+abbrev pub new_flow_state : FlowState
+new_flow_state = record { credits = pos 0; codel = opening }
 
 -- so many flows, none of them in a list, and no packet
 abbrev pub no_queues : ℕ → FairQueues
-no_queues flows = record { lists = no_flows flows; accounts = replicate flows new_account }
+no_queues flows = record { lists = no_flows flows; flow_states = replicate flows new_flow_state }
 
 -- the packets that wait in that flow
 abbrev pub queue_of : FairQueues → ℕ → List Waiting
 queue_of s flow = queue_at s.lists flow
 
--- the account of that flow
-abbrev pub account_at : FairQueues → ℕ → Account
-account_at s flow = get_or s.accounts flow new_account
+-- the flow state of that flow
+abbrev pub flow_state_at : FairQueues → ℕ → FlowState
+flow_state_at s flow = get_or s.flow_states flow new_flow_state
 
--- these lists, and that account of one flow
-abbrev pub with_account : FairQueues → FlowLists → ℕ → Account → FairQueues
-with_account s lists flow account = record { lists = lists; accounts = set s.accounts flow account }
+-- these lists, and that flow state of one flow
+abbrev pub with_flow_state : FairQueues → FlowLists → ℕ → FlowState → FairQueues
+with_flow_state s lists flow flow_state = record { lists = lists; flow_states = set s.flow_states flow flow_state }
 
--- the flows that are listed are flows, each stands in the lists once, and each flow has an account
+-- the flows that are listed are flows, each stands in the lists once, and each flow has an flow state
 pub record AreSound (s : FairQueues) : Type 0 where
   pub listed : AreListed s.lists
-  pub accounts : length s.accounts ≡ length s.lists.queues
+  pub flow_states : length s.flow_states ≡ length s.lists.queues
 
 -- The flow that is looked at: the head of the list of new flows, or, where that list is empty, of the list of old flows
 -- (RFC 8290, section 4.2).

@@ -6,6 +6,6 @@ pub mod Policies
 pub mod TurnBound
 pub mod NewFlows
 pub mod FqCodel
-pub mod Backlogs
+pub mod HeldQueues
 pub mod Shown
 pub mod Credits

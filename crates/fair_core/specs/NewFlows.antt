@@ -2,12 +2,12 @@ use Rattle.std.specs.Prelude.{◌≡◌, ◌≢◌, ℕ, ◌+◌, List, [], ◌�
 use Rattle.packet_core.specs.declared.packet.Waiting.{Waiting}
 use Rattle.codel_core.specs.declared.served.Mark.{Mark}
 use Rattle.flow_core.specs.FlowLists.{queue_at}
-use Rattle.fair_core.specs.FairQueues.{FairQueues, account_at}
+use Rattle.fair_core.specs.FairQueues.{FairQueues, flow_state_at}
 use Rattle.fair_core.specs.Turns.{Service}
 
 -- the flow may send, and has a packet
 pub record IsReady (s : FairQueues) (flow : ℕ) : Type 0 where
-  pub credits : pos 0 <ℤ (account_at s flow).credits
+  pub credits : pos 0 <ℤ (flow_state_at s flow).credits
   pub waits : queue_at s.lists flow ≢ []
 
 -- the flow is the first one in the list of new flows that is ready

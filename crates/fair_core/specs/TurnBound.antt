@@ -1,5 +1,5 @@
 use Rattle.std.specs.Prelude.{ℕ, ◌+◌, ◌*◌, ◌<◌, ◌/◌, zero, suc, sum_by, ℤ, pos, negsuc, ◌+ℤ◌, ◌≤ℤ◌, ◌<ℤ◌}
-use Rattle.fair_core.specs.FairQueues.{FairQueues, account_at}
+use Rattle.fair_core.specs.FairQueues.{FairQueues, flow_state_at}
 
 -- n is the least number of quanta that bring the credits above 0
 pub record AreQuantaOwed (quantum : ℕ) (credits : ℤ) (n : ℕ) : Type 0 where
@@ -16,5 +16,5 @@ quanta_owed quantum (negsuc n) = suc n / quantum + 1
 -- above 0, and one more for an old flow, two for a new one.
 abbrev pub turns_at_most : ℕ → FairQueues → ℕ
 turns_at_most quantum s =
-    sum_by (λ flow. quanta_owed quantum ((account_at s flow).credits) + 2) s.lists.new_flows
-    + sum_by (λ flow. quanta_owed quantum ((account_at s flow).credits) + 1) s.lists.old_flows
+    sum_by (λ flow. quanta_owed quantum ((flow_state_at s flow).credits) + 2) s.lists.new_flows
+    + sum_by (λ flow. quanta_owed quantum ((flow_state_at s flow).credits) + 1) s.lists.old_flows

@@ -4,8 +4,8 @@ use Rattle.codel_core.specs.declared.served.Mark.{Mark}
 use Rattle.codel_core.specs.declared.state.CodelState.{CodelState}
 use Rattle.flow_core.specs.FlowLists.{with_queue}
 use Rattle.journal_core.specs.Disciplines.{Given, Batch}
-use Rattle.fair_core.specs.declared.backlog.Head.{Head}
-use Rattle.fair_core.specs.FairQueues.{FairQueues, account_at, emptied_lists, head_of, queue_of, to_old, with_account}
+use Rattle.fair_core.specs.declared.fair_queue.Head.{Head}
+use Rattle.fair_core.specs.FairQueues.{FairQueues, flow_state_at, emptied_lists, head_of, queue_of, to_old, with_flow_state}
 
 -- What a fair scheduler leaves to others: how many bytes a flow may send in its turn; which packets of a flow's queue
 -- are dropped when it is served; and which packets are dropped when too much waits. `verdict now queue codel drops mark
@@ -34,35 +34,35 @@ pub record TurnMade : Type 0 where
 
 -- A flow's credits are used up: it gets a quantum more, and goes to the end of the list of old flows.
 pub record UsesUp (p : Policy) (old : FairQueues) (head : Head) (new : FairQueues) : Type 0 where
-  pub credits : (account_at old head.flow).credits ≤ℤ pos 0
+  pub credits : (flow_state_at old head.flow).credits ≤ℤ pos 0
   pub leaves : new
-      ≡ with_account old (to_old old.lists head) head.flow
-      (record (account_at old head.flow) { credits = (account_at old head.flow).credits +ℤ pos p.quantum })
+      ≡ with_flow_state old (to_old old.lists head) head.flow
+      (record (flow_state_at old head.flow) { credits = (flow_state_at old head.flow).credits +ℤ pos p.quantum })
 
 -- A flow has credits and no packet: a new flow goes to the end of the list of old flows, and an old one leaves the
 -- lists.
 pub record Empties (p : Policy) (now : ℕ) (old : FairQueues) (head : Head) (new : FairQueues) : Type 0 where
-  pub credits : pos 0 <ℤ (account_at old head.flow).credits
+  pub credits : pos 0 <ℤ (flow_state_at old head.flow).credits
   pub empty : queue_of old head.flow ≡ []
   pub mark : Mark
   pub codel : CodelState
-  pub verdict : p.verdict now [] (account_at old head.flow).codel 0 mark codel
+  pub verdict : p.verdict now [] (flow_state_at old head.flow).codel 0 mark codel
   pub leaves : new
-      ≡ with_account old (emptied_lists old.lists head) head.flow (record (account_at old head.flow) { codel = codel })
+      ≡ with_flow_state old (emptied_lists old.lists head) head.flow (record (flow_state_at old head.flow) { codel = codel })
 
 -- A flow has credits and a packet to give: packets are dropped from its head by the verdict, the next one leaves, and
 -- its length is taken from the credits.
 pub record Sends (p : Policy) (now : ℕ) (old : FairQueues) (head : Head) (service : Service)
     (new : FairQueues) : Type 0 where
-  pub credits : pos 0 <ℤ (account_at old head.flow).credits
+  pub credits : pos 0 <ℤ (flow_state_at old head.flow).credits
   pub drops : ℕ
   pub codel : CodelState
-  pub verdict : p.verdict now (queue_of old head.flow) (account_at old head.flow).codel drops service.given.mark codel
+  pub verdict : p.verdict now (queue_of old head.flow) (flow_state_at old head.flow).codel drops service.given.mark codel
   pub dropped : service.dropped ≡ take drops (queue_of old head.flow)
   pub stands : slice_get (queue_of old head.flow) drops ≡ Some service.given.waiting
   pub leaves : new
-      ≡ with_account old (with_queue old.lists head.flow (drop (drops + 1) (queue_of old head.flow))) head.flow
-      (record { credits = (account_at old head.flow).credits -ℤ pos service.given.waiting.packet.len; codel = codel })
+      ≡ with_flow_state old (with_queue old.lists head.flow (drop (drops + 1) (queue_of old head.flow))) head.flow
+      (record { credits = (flow_state_at old head.flow).credits -ℤ pos service.given.waiting.packet.len; codel = codel })
 
 -- what a turn does to the flow at the head, by its kind
 abbrev pub Does : Policy → ℕ → FairQueues → Head → TurnKind → FairQueues → Type 0

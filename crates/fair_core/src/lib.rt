@@ -3,10 +3,10 @@
 //! journal, of whose inside nothing here knows.
 #![tactic(auto)]
 
-mod account;
-mod backlog;
+mod fair_queue;
+mod flow_state;
 mod flow_view;
 
-pub use account::Account;
-pub use backlog::{Backlog, FlowList, Head, Serving};
+pub use fair_queue::{FairQueue, FlowList, Head, Serving};
+pub use flow_state::FlowState;
 pub use flow_view::FlowView;

@@ -9,10 +9,10 @@ use Rattle.packet_core.specs.declared.packet.Waiting.{Waiting}
 use Rattle.slab.specs.Slab.{ContainsKey, HasRoomFor, Slab, Updates, get, slab_len, with_value}
 use Rattle.slab.proofs.SlabLemmas.{ContainsKey-within, Updates-with_value}
 use Rattle.flow_core.specs.declared.limits.TheConstants.{MAX_WAITING}
-use Rattle.flow_core.specs.declared.chains.Chain.{Chain}
-use Rattle.flow_core.specs.declared.chains.Chains.TheInside.{Inside}
-use Rattle.flow_core.specs.declared.chains.FreeSlots.{FreeSlots}
-use Rattle.flow_core.specs.declared.chains.Link.{Link}
+use Rattle.flow_core.specs.declared.linked_queues.Chain.{Chain}
+use Rattle.flow_core.specs.declared.linked_queues.LinkedQueues.TheInside.{Inside}
+use Rattle.flow_core.specs.declared.linked_queues.FreeSlots.{FreeSlots}
+use Rattle.flow_core.specs.declared.linked_queues.Link.{Link}
 use Rattle.flow_core.specs.Chains.{AreApart, AreChained, AreFree, AreLinked, HasEnds, HasKey, IsChain, IsInserted, IsReused, Placed, no_packets, packets_of, queues_of}
 use Rattle.flow_core.proofs.ReadLemmas.{length-at}
 use Rattle.flow_core.proofs.PlacedLemmas.{Extends, apart_push, comes_behind, comes_first, empty_slot, ends_empty, ends_push, ends_split, first_free, has_push, has_slot, linked_stays, packets_of-linked, waitings}

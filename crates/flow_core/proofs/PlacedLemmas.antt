@@ -3,9 +3,9 @@ use Rattle.std.proofs.Common.{◌≡◌, ◌≢◌, ◌⊎◌, ℕ, suc, ◌+◌
 use Rattle.packet_core.specs.declared.packet.Waiting.{Waiting}
 use Rattle.slab.specs.Slab.{ContainsKey, Slab, Updates, get, with_value}
 use Rattle.slab.proofs.SlabLemmas.{Updates-with_value}
-use Rattle.flow_core.specs.declared.chains.Chain.{Chain}
-use Rattle.flow_core.specs.declared.chains.FreeSlots.{FreeSlots}
-use Rattle.flow_core.specs.declared.chains.Link.{Link}
+use Rattle.flow_core.specs.declared.linked_queues.Chain.{Chain}
+use Rattle.flow_core.specs.declared.linked_queues.FreeSlots.{FreeSlots}
+use Rattle.flow_core.specs.declared.linked_queues.Link.{Link}
 use Rattle.flow_core.specs.Chains.{AreApart, AreFree, AreLinked, HasEnds, HasKey, Placed, first_key, last_key, next_of, packets_from, packets_of}
 
 -- the packets alone

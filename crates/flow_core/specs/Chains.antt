@@ -2,10 +2,10 @@
 use Rattle.std.specs.Prelude.{◌≡◌, ◌⊎◌, ℕ, zero, suc, ◌+◌, ◌-◌, ◌≤◌, List, [], ◌∷◌, ◌++◌, Option, Some, None, get_or, length, map, sum_by, vec_len}
 use Rattle.slab.specs.Slab.{Slab, HasRoomFor, Updates, get, slab_len, with_value}
 use Rattle.packet_core.specs.declared.packet.Waiting.{Waiting}
-use Rattle.flow_core.specs.declared.chains.Chain.{Chain}
-use Rattle.flow_core.specs.declared.chains.Chains.TheInside.{Inside}
-use Rattle.flow_core.specs.declared.chains.FreeSlots.{FreeSlots}
-use Rattle.flow_core.specs.declared.chains.Link.{Link}
+use Rattle.flow_core.specs.declared.linked_queues.Chain.{Chain}
+use Rattle.flow_core.specs.declared.linked_queues.LinkedQueues.TheInside.{Inside}
+use Rattle.flow_core.specs.declared.linked_queues.FreeSlots.{FreeSlots}
+use Rattle.flow_core.specs.declared.linked_queues.Link.{Link}
 use Rattle.flow_core.specs.declared.limits.TheConstants.{MAX_FLOWS, MAX_WAITING}
 use Rattle.flow_core.specs.Queues.{Queues}
 

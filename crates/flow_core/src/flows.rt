@@ -7,11 +7,11 @@ ghost use Rattle.flow_core.specs.Fattest.{IsFattest, bytes_at};
 ghost use Rattle.flow_core.specs.FlowLists.{AreListed, bytes_in, no_flows, queue_at, waiting_in, with_queue};
 ghost use Rattle.flow_core.specs.Winners.{CountsFew, IsLevels};
 
-use crate::chains::Chains;
 use crate::limits::{MAX_FLOWS, MAX_WAITING, Memory};
+use crate::linked_queues::LinkedQueues;
 use crate::listed_flows::ListedFlows;
 use crate::winner_tree::WinnerTree;
-use codel_core::{Heads, Pull};
+use codel_core::{Peek, Pull};
 use packet_core::Waiting;
 use std::alloc::Global;
 use std::marker::Model;
@@ -22,7 +22,7 @@ use std::marker::Model;
 /// a tree over the flows.
 #[derive(Debug, Drop)]
 pub struct Flows {
-    chains: Chains,
+    chains: LinkedQueues,
     listed: ListedFlows,
     winners: WinnerTree,
     total_bytes: u64,
@@ -49,7 +49,7 @@ impl Flows {
         ensures { IfOk result (λ f. (f.lists ≡ no_flows flows) × (f.comparisons ≡ 0)) }
     {
         Ok(Flows {
-            chains: Chains::try_new(alloc, flows)?,
+            chains: LinkedQueues::try_new(alloc, flows)?,
             listed: ListedFlows::try_new(alloc, flows)?,
             winners: WinnerTree::try_new(alloc, flows)?,
             total_bytes: 0,
@@ -332,7 +332,7 @@ impl Pull for Line<'_> {
     }
 }
 
-impl Heads for Line<'_> {
+impl Peek for Line<'_> {
     fn head(&self) -> Option<&Waiting> {
         self.flows.head(self.flow)
     }

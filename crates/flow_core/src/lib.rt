@@ -6,9 +6,9 @@
 //! costs the same whatever waits, and a packet that comes or goes costs one path of that tree besides.
 #![tactic(auto)]
 
-mod chains;
 mod flows;
 mod limits;
+mod linked_queues;
 mod listed_flows;
 mod winner_tree;
 

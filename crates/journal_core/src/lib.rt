@@ -4,9 +4,9 @@
 #![tactic(auto)]
 
 mod event;
-mod fates;
 mod ghost_list;
 mod journal;
+mod journal_sink;
 mod latest;
 mod note;
 mod noted;
@@ -19,9 +19,9 @@ mod tuple_rows;
 
 pub use codel_core::Mark;
 pub use event::{Cause, Event};
-pub use fates::Fates;
 pub use ghost_list::GhostList;
 pub use journal::{Counts, Journal, MAX_EVENTS};
+pub use journal_sink::JournalSink;
 pub use latest::{LatestPlaces, PACKETS_FOR_PLACES};
 pub use note::Note;
 pub use noted::Noted;

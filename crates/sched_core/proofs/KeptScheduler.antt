@@ -23,7 +23,7 @@ use Rattle.journal_core.specs.declared.outcome.Answer.{Answer}
 use Rattle.journal_core.specs.declared.outcome.Answer.TheVariants as answer
 use Rattle.journal_core.specs.declared.step.Step.{Step}
 use Rattle.journal_core.specs.declared.step.Step.TheVariants.{Enqueue, Dequeue, Close}
-use Rattle.fair_core.specs.Backlogs.{DropsOverflow, Held, MakesChain, leaving, shown_service, with_arrival_listed}
+use Rattle.fair_core.specs.HeldQueues.{DropsOverflow, Held, MakesChain, leaving, shown_service, with_arrival_listed}
 use Rattle.journal_core.specs.Books.{Book, count_accepted, count_drops, count_sent, with_departure, with_event}
 use Rattle.journal_core.specs.Calls.{Advances, Standing, sent_at}
 use Rattle.journal_core.specs.Disciplines.{Batch, Given, IsFifoByFlow, given_packet, heads, packets_of, with_arrival}
@@ -38,7 +38,7 @@ use Rattle.journal_core.specs.Losses.{AreGivenBackOnce, departed_packets, lost_p
 use Rattle.sched_core.specs.declared.sched.Sched.TheInside.{Inside}
 use Rattle.sched_core.specs.Kept.{IsBookKept, IsKept, closes_left, scheduler_of}
 use Rattle.fair_core.specs.Overflow.{Overflow}
-use Rattle.sched_core.specs.Spares.{TakesMemory}
+use Rattle.sched_core.specs.EnqueueRooms.{TakesMemory}
 use Rattle.sched_core.specs.Schedulers.{ComparesFew, IsServed, Scheduler, discipline_of, flows_of}
 use Rattle.journal_core.specs.State.{State, arrival, refusal_of}
 use Rattle.journal_core.specs.Statistics.{length_named, statistics}
@@ -132,11 +132,11 @@ module _ (p : ParamFields) (seed : Seed) where
 
   -- A step that is made, whose events took their room and are counted, and whose losses were told: each event is a fate,
   -- the acceptance or the close.
-  kept_on : {old new : State FairQueues} {places places' spare spare' : ℕ} {book book' : Book} (step : Step) (said : Answer) → IsBookKept p seed old places book spare
+  kept_on : {old new : State FairQueues} {places places' enqueue_room enqueue_room' : ℕ} {book book' : Book} (step : Step) (said : Answer) → IsBookKept p seed old places book enqueue_room
       → (a : Advances (fq_codel p seed) (standing_of old book) step said (standing_of new book')) → book'.room ≡ book.room - length a.made → AreCounts book'.counts book'.events → book'.sent ≡ departed_packets book'.events → book'.lost ≡ lost_packets book'.events
       → length a.made + old.next_id + closes_left new.closed ≡ length (fate_ids a.made) + new.next_id + closes_left old.closed → new.next_id ≤ 2 ^ 40 → new.last < 2 ^ 60
-      → spare' ≤ places' → spare' + new.next_id ≡ spare + old.next_id → IsBookKept p seed new places' book' spare'
-  kept_on {old} {new} {places} {places'} {spare} {spare'} {book} {book'} step said h a taken counts sent lost each few soon reserved spares =
+      → enqueue_room' ≤ places' → enqueue_room' + new.next_id ≡ enqueue_room + old.next_id → IsBookKept p seed new places' book' enqueue_room'
+  kept_on {old} {new} {places} {places'} {enqueue_room} {enqueue_room'} {book} {book'} step said h a taken counts sent lost each few soon reserved spares =
       let d = fq_codel p seed in
       let flows = makes_as_many (fq_codel_policy p) (policy_drops p) p.flows d.flow_of old new step said a.made a.makes ∙ h.flows in
       let history : IsHistory d.flow_of (queue_of new.queues) book'.events new.next_id new.last new.closed =
@@ -170,8 +170,8 @@ module _ (p : ParamFields) (seed : Seed) where
       longer a = rw (a.journal, filter_map-append acceptance_of book.events a.made) (longest_grows (acceptances book.events) (acceptances a.made))
 
   -- a close
-  pub kept_closes : {s : State FairQueues} {places spare : ℕ} {book : Book} (moment : ℕ) → refusal_of s (Close moment) ≡ None
-      → IsBookKept p seed s places book spare → IsBookKept p seed (record s { last = moment; closed = true }) places (with_event book (Closed moment) book.counts) spare
+  pub kept_closes : {s : State FairQueues} {places enqueue_room : ℕ} {book : Book} (moment : ℕ) → refusal_of s (Close moment) ≡ None
+      → IsBookKept p seed s places book enqueue_room → IsBookKept p seed (record s { last = moment; closed = true }) places (with_event book (Closed moment) book.counts) enqueue_room
   kept_closes {s} {book = book} moment fits h =
       let open' = close_open s moment fits in
       let one : closes_left s.closed ≡ 1 = ap closes_left open'.open' in
@@ -184,9 +184,9 @@ one_close true = omega arith
 one_close false = omega arith
 
 -- what is kept with the memory that is taken
-pub kept_takes : {p : ParamFields} {seed : Seed} {held held' : Held} {book book' : Book} {last spare spare' : ℕ} {closed : Bool} (m : TakesMemory spare held book spare' held' book')
-    → IsBookKept p seed (state_of held last closed) held.room book spare
-    → IsBookKept p seed (state_of held last closed) m.places (record book { room = m.events }) spare'
+pub kept_takes : {p : ParamFields} {seed : Seed} {held held' : Held} {book book' : Book} {last enqueue_room enqueue_room' : ℕ} {closed : Bool} (m : TakesMemory enqueue_room held book enqueue_room' held' book')
+    → IsBookKept p seed (state_of held last closed) held.room book enqueue_room
+    → IsBookKept p seed (state_of held last closed) m.places (record book { room = m.events }) enqueue_room'
 kept_takes {closed = closed} m h =
     let enough = m.enough (closes_left closed) (one_close closed) (record { places = h.reserved; events = h.space }) in
     record {
@@ -221,18 +221,18 @@ abbrev recorded : ParamFields → Seed → Held → Book → ℕ → ℕ → Pac
 recorded p seed held book moment lane packet = with_event book (accepted p seed held moment lane packet) (count_accepted book.counts packet.len)
 
 -- What the code does with a packet that is accepted: it arrives, which is recorded, and what overflows is dropped.
-pub record Accepts (p : ParamFields) (seed : Seed) (held mid new : Held) (book book' : Book) (last moment lane spare : ℕ) (packet : PacketParts) (closed : Bool) : Type 0 where
+pub record Accepts (p : ParamFields) (seed : Seed) (held mid new : Held) (book book' : Book) (last moment lane enqueue_room : ℕ) (packet : PacketParts) (closed : Bool) : Type 0 where
   pub fits : refusal_of (state_of held last closed) (Enqueue moment lane packet) ≡ None
-  pub some : 0 < spare
-  pub kept : IsBookKept p seed (state_of held last closed) held.room book spare
+  pub some : 0 < enqueue_room
+  pub kept : IsBookKept p seed (state_of held last closed) held.room book enqueue_room
   pub listed : mid.queues ≡ with_arrival_listed p held.queues ((fq_codel p seed).flow_of packet.tuple) (arrival (state_of held last closed) moment packet)
   pub arrived : mid.arrived ≡ held.arrived + 1
   pub reserved : mid.room + 1 ≡ held.room
   pub few_comparisons : CountsFew (length held.queues.lists.queues) 1 0 mid.comparisons
   pub drops : DropsOverflow p moment mid (recorded p seed held book moment lane packet) new book'
 
-module _ {p : ParamFields} {seed : Seed} {held mid new : Held} {book book' : Book} {last moment lane spare : ℕ} {packet : PacketParts} {closed : Bool}
-    (a : Accepts p seed held mid new book book' last moment lane spare packet closed) where
+module _ {p : ParamFields} {seed : Seed} {held mid new : Held} {book book' : Book} {last moment lane enqueue_room : ℕ} {packet : PacketParts} {closed : Bool}
+    (a : Accepts p seed held mid new book book' last moment lane enqueue_room packet closed) where
   abbrev flow : ℕ
   flow = (fq_codel p seed).flow_of packet.tuple
 
@@ -272,7 +272,7 @@ module _ {p : ParamFields} {seed : Seed} {held mid new : Held} {book book' : Boo
       rw leave.1 (all_in_batches (IsNamed events) leave.0
       (λ f. (ByRecursion-parts (IsNamed events) _ (queue_of new.queues f) (subst (AllByRecursion (IsNamed events)) (leave.2 f) (waiting f))).0))
 
-  pub kept_admits : IsBookKept p seed (state_of new moment closed) new.room book' (spare - 1)
+  pub kept_admits : IsBookKept p seed (state_of new moment closed) new.room book' (enqueue_room - 1)
   kept_admits =
       let h = a.kept in
       let found = all_found (acceptances book.events) held.arrived (fate_ids book.events) h.history.ids (recursion_from_All (λ id. id < held.arrived) (fate_ids book.events) h.history.known) in
@@ -466,10 +466,10 @@ module _ (p : ParamFields) (seed : Seed) where
 
 -- what a scheduler's invariant says of the scheduler as callers see it
 pub seen_laws : {K : Type 0} (s : Inside K) (v : Scheduler) → scheduler_of s ≡ v → IsKept s → JournalLaws (discipline_of v).flow_of v.standing.events
-seen_laws s v e h = rw (← e) (laws_of_history (fq_codel s.params s.seed).flow_of (queue_of s.backlog.queues) s.journal.events s.backlog.arrived s.last_moment s.is_closed h.book.history)
+seen_laws s v e h = rw (← e) (laws_of_history (fq_codel s.params s.seed).flow_of (queue_of s.fair_queue.queues) s.journal.events s.fair_queue.arrived s.last_moment s.is_closed h.book.history)
 
 pub seen_waits : {K : Type 0} (s : Inside K) (v : Scheduler) → scheduler_of s ≡ v → IsKept s → WaitWithoutFate (queue_of (flows_of v)) v.standing.events
-seen_waits s v e h = rw (← e) (waits_of_history (fq_codel s.params s.seed).flow_of (queue_of s.backlog.queues) s.journal.events s.backlog.arrived s.last_moment s.is_closed h.book.history)
+seen_waits s v e h = rw (← e) (waits_of_history (fq_codel s.params s.seed).flow_of (queue_of s.fair_queue.queues) s.journal.events s.fair_queue.arrived s.last_moment s.is_closed h.book.history)
 
 pub seen_queued : {K : Type 0} (s : Inside K) (v : Scheduler) → scheduler_of s ≡ v → IsKept s → (statistics v.standing.events).queued ≡ waiting_in (flows_of v).lists
 seen_queued s v e h = rw (← e) (sym (waits_at s.params s.seed ((scheduler_of s).standing.state) s.journal.events h.book.some h.book.flows h.book.history))
@@ -489,4 +489,4 @@ seen_losses s v e h = rw (← e) h.book.lost
 pub seen_once : {K : Type 0} (s : Inside K) (v : Scheduler) → scheduler_of s ≡ v → IsKept s → AreGivenBackOnce (flows_of v).lists.queues s.journal.lost v.standing.events
 seen_once s v e h =
     rw (← e, h.book.lost)
-    (given_back_once (fq_codel s.params s.seed).flow_of s.backlog.queues.lists.queues s.journal.events (λ tuple. rw h.book.flows (flow_below s.params.classify s.params.flows s.seed tuple h.book.some)) (seen_laws s (scheduler_of s) refl h) (seen_waits s (scheduler_of s) refl h))
+    (given_back_once (fq_codel s.params s.seed).flow_of s.fair_queue.queues.lists.queues s.journal.events (λ tuple. rw h.book.flows (flow_below s.params.classify s.params.flows s.seed tuple h.book.some)) (seen_laws s (scheduler_of s) refl h) (seen_waits s (scheduler_of s) refl h))

@@ -1,5 +1,5 @@
 pub mod EventCounts
-pub mod SpareLemmas
+pub mod EnqueueRoomLemmas
 pub mod KeptScheduler
 pub mod FqCodelRuns
 pub mod ShortPackets

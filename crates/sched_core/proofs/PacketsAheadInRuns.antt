@@ -109,7 +109,7 @@ module _ (p : Policy) (some_quantum : 0 < p.quantum) (drops : DropsFromHeads p) 
       let news : new.queues.lists.new_flows ≡ (with_flow_listed p old.queues flow).lists.new_flows = ap (λ (s : FairQueues). s.lists.new_flows) a.rest in
       let olds : new.queues.lists.old_flows ≡ (with_flow_listed p old.queues flow).lists.old_flows = ap (λ (s : FairQueues). s.lists.old_flows) a.rest in
       let few : length (with_flow_listed p old.queues flow).lists.new_flows + length (with_flow_listed p old.queues flow).lists.old_flows ≤ flows = rw (← news, ← olds) few' in
-      let left = arrival_waits p some_quantum flows f old.queues flow n few (rw fine.0.sound.accounts a.within) w in
+      let left = arrival_waits p some_quantum flows f old.queues flow n few (rw fine.0.sound.flow_states a.within) w in
       subst (λ (s : FairQueues). WaitsHere s n) (sym a.rest) left
 
   serves_waits : (old new : State FairQueues) (moment : ℕ) (given : Option Given) (made : List Event) (n : ℕ) → Serves d old moment given made new → AreFine old.queues → 0 < length (queue_of old.queues f) → length (queue_of old.queues f) ≤ length (queue_of new.queues f) → WaitsHere old.queues n

@@ -18,9 +18,9 @@ use Rattle.journal_core.specs.declared.outcome.Answer.{Answer}
 use Rattle.journal_core.specs.declared.step.Refusal.{Refusal}
 use Rattle.journal_core.specs.declared.outcome.Answer.TheVariants as answer
 use Rattle.packet_core.specs.Packets.{PacketParts}
-use Rattle.fair_core.specs.declared.account.Account.{Account}
+use Rattle.fair_core.specs.declared.flow_state.FlowState.{FlowState}
 use Rattle.fair_core.specs.FairQueueing.{fair_queueing, is_listed, with_flow_listed}
-use Rattle.fair_core.specs.FairQueues.{AreSound, FairQueues, account_at, new_account, no_queues, queue_of}
+use Rattle.fair_core.specs.FairQueues.{AreSound, FairQueues, flow_state_at, new_flow_state, no_queues, queue_of}
 use Rattle.fair_core.specs.FqCodel.{fq_codel, fq_codel_policy}
 use Rattle.fair_core.specs.Policies.{DropsFromHeads}
 use Rattle.fair_core.specs.Turns.{Policy}
@@ -113,7 +113,7 @@ module _ (p : Policy) (drops : DropsFromHeads p) (some_quantum : 0 < p.quantum) 
         | inr t ↦
             let apart = has_differs (s.lists.new_flows ++ s.lists.old_flows) x in
             let differs : x ≢ flow = λ e. has_differs (s.lists.new_flows ++ s.lists.old_flows) flow (apart_from_any flow (s.lists.new_flows ++ s.lists.old_flows) t) (subst (Has (s.lists.new_flows ++ s.lists.old_flows)) e (has_right s.lists.new_flows s.lists.old_flows x old)) in
-            rw t (ap (λ (a : Account). a.credits) (get_or-set_other s.accounts flow x (record (account_at s flow) { credits = pos p.quantum }) new_account differs))
+            rw t (ap (λ (a : FlowState). a.credits) (get_or-set_other s.flow_states flow x (record (flow_state_at s flow) { credits = pos p.quantum }) new_flow_state differs))
       ]
 
   old_stay : (s : FairQueues) (flow : ℕ) → (with_flow_listed p s flow).lists.old_flows ≡ s.lists.old_flows

@@ -13,7 +13,7 @@ use Rattle.journal_core.specs.Losses.{departed_packets, lost_packets}
 use Rattle.sched_core.specs.Classifiers.{classifier_by}
 use Rattle.sched_core.specs.Schedulers.{Scheduler}
 use Rattle.sched_core.specs.Shares.{longest}
-use Rattle.sched_core.specs.Spares.{room_of}
+use Rattle.sched_core.specs.EnqueueRooms.{room_of}
 use Rattle.journal_core.specs.State.{State}
 
 -- what callers see of a scheduler's fields
@@ -23,16 +23,16 @@ scheduler_of s = record {
   seed = s.seed;
   standing = record {
     state = record {
-      queues = s.backlog.queues;
-      next_id = s.backlog.arrived;
+      queues = s.fair_queue.queues;
+      next_id = s.fair_queue.arrived;
       last = s.last_moment;
       closed = s.is_closed;
     };
     events = s.journal.events;
   };
   turns = s.turns;
-  comparisons = s.backlog.comparisons;
-  room = room_of s.spare;
+  comparisons = s.fair_queue.comparisons;
+  room = room_of s.enqueue_room;
 }
 
 -- the close that may still come
@@ -44,11 +44,11 @@ closes_left closed = if closed then 0 else 1
 -- the fate of each of those enqueues; it is a history of the state; its recorder was told of the packets that left as
 -- sent, and of the dropped packets as lost, each as it was accepted; and each flow's credits are in the range of the longest packet so far.
 pub record IsBookKept (p : ParamFields) (seed : Seed) (s : State FairQueues) (places : ℕ) (book : Book)
-    (spare : ℕ) : Type 0 where
+    (enqueue_room : ℕ) : Type 0 where
   pub some : 0 < p.flows
   pub flows : length s.queues.lists.queues ≡ p.flows
-  pub space : waiting_in s.queues.lists + closes_left s.closed + 2 * spare ≤ book.room
-  pub reserved : spare ≤ places
+  pub space : waiting_in s.queues.lists + closes_left s.closed + 2 * enqueue_room ≤ book.room
+  pub reserved : enqueue_room ≤ places
   pub long : length book.events + waiting_in s.queues.lists + closes_left s.closed ≤ 2 * s.next_id + 1
   pub accepted : book.counts.accepted ≡ s.next_id
   pub few : s.next_id ≤ 2 ^ 40
@@ -61,5 +61,5 @@ pub record IsBookKept (p : ParamFields) (seed : Seed) (s : State FairQueues) (pl
 
 -- what holds of a scheduler's fields
 pub record IsKept {K : Type 0} (s : Inside K) : Type 0 where
-  pub book : IsBookKept s.params s.seed ((scheduler_of s).standing.state) s.backlog.room s.journal s.spare.enqueues
+  pub book : IsBookKept s.params s.seed ((scheduler_of s).standing.state) s.fair_queue.room s.journal s.enqueue_room.enqueues
   pub classifier : s.classifier ≡ classifier_by s.params.classify s.params.flows s.seed

@@ -5,7 +5,7 @@ pub mod Hashing
 pub mod FlowNumbers
 pub mod Classifiers
 pub mod Choosing
-pub mod Spares
+pub mod EnqueueRooms
 pub mod Kept
 pub mod Engines
 pub mod Shares

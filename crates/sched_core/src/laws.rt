@@ -57,7 +57,7 @@ pub fn refused_steps_change_nothing()
 {}
 
 /// The turns of a dequeue end, with the first one that serves a flow or where no flow is listed: from the flows
-/// that any run leaves, and from any others that stand in the lists once and have an account, there is one
+/// that any run leaves, and from any others that stand in the lists once and have a state, there is one
 /// serving chain, and no other. It has at most as many turns as quanta bring the credits of the listed flows
 /// above 0, and one more for an old flow, two for a new one (RFC 8290, section 4.2). Where the run accepted no
 /// packet longer than a quantum, that is three at most for each new flow and two for each old one.

@@ -4,12 +4,12 @@
 
 mod classifier;
 mod engine;
+mod enqueue_room;
 mod flow_numbers;
 mod given_up;
 pub mod laws;
 mod run;
 mod sched;
-mod spare;
 
 pub use classifier::FlowChooser;
 pub use codel_core::Mark;

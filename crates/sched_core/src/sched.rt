@@ -6,10 +6,10 @@ ghost use Rattle.journal_core.specs.declared.outcome.Answer.TheVariants as answe
 ghost use Rattle.journal_core.specs.declared.step.Refusal.TheVariants as refusal;
 
 use crate::classifier::Classifier;
+use crate::enqueue_room::EnqueueRoom;
 use crate::given_up::{GivenUp, Remains};
-use crate::spare::Spare;
 use codel_core::Served;
-use fair_core::{Backlog, FlowView};
+use fair_core::{FairQueue, FlowView};
 use journal_core::{
     Admitted, Answer, CloseFault, Event, EventList, Journal, MAX_MOMENT, Memory, MomentFault,
     Recorder, Refusal, Sent, Step, Totals, TupleRow, gather_rows_with_seed,
@@ -58,12 +58,12 @@ pub struct Sched<K: Recorder = EventList> {
     params: Params,
     seed: Seed,
     classifier: Classifier,
-    backlog: Backlog,
+    fair_queue: FairQueue,
     journal: Journal<K>,
     last_moment: u64,
     is_closed: bool,
     turns: u64,
-    spare: Spare,
+    enqueue_room: EnqueueRoom,
 }
 
 impl<K: Recorder> Model for Sched<K> {
@@ -107,7 +107,7 @@ impl<K: Recorder> Sched<K> {
     {
         let classifier = Classifier::try_new(alloc, &params, seed)?;
         Ok(Sched {
-            backlog: Backlog::try_new(alloc, params.flows())?,
+            fair_queue: FairQueue::try_new(alloc, params.flows())?,
             journal: Journal::try_over(recorder, 1)?,
             params,
             seed,
@@ -115,7 +115,7 @@ impl<K: Recorder> Sched<K> {
             last_moment: 0,
             is_closed: false,
             turns: 0,
-            spare: Spare::none(),
+            enqueue_room: EnqueueRoom::none(),
         })
     }
 
@@ -128,8 +128,8 @@ impl<K: Recorder> Sched<K> {
         ensures missing { OnErr result (self.old.room < enqueues) }
         ensures err { OnErr result (self.new ≡ self.old) }
     {
-        self.spare
-            .reserve(enqueues, &mut self.backlog, &mut self.journal)
+        self.enqueue_room
+            .reserve(enqueues, &mut self.fair_queue, &mut self.journal)
     }
 
     /// Accepts a packet from a lane at a moment, in microseconds, into the queue of its flow, with room for its fate in
@@ -177,20 +177,21 @@ impl<K: Recorder> Sched<K> {
         ensures missing { OnErr result (self.old.room ≡ 0) }
         ensures unchanged { OnErr result (self.new ≡ self.old) }
     {
-        self.spare.provide(&mut self.backlog, &mut self.journal)?;
+        self.enqueue_room
+            .provide(&mut self.fair_queue, &mut self.journal)?;
         let waiting = Waiting {
-            id: self.backlog.arrived(),
+            id: self.fair_queue.arrived(),
             stamp: moment,
             packet,
         };
         let flow = self.classifier.flow_of(&packet);
-        self.backlog.clear_comparisons();
-        self.backlog.arrive(flow, waiting, &self.params);
+        self.fair_queue.clear_comparisons();
+        self.fair_queue.arrive(flow, waiting, &self.params);
         self.journal.accept(&waiting, lane, flow);
-        self.backlog
+        self.fair_queue
             .overflow(&self.params, moment, &mut self.journal);
         self.last_moment = moment;
-        self.spare.spend();
+        self.enqueue_room.spend();
         Ok(Admitted {
             id: waiting.id,
             moment,
@@ -224,8 +225,10 @@ impl<K: Recorder> Sched<K> {
         ensures few_comparisons { ComparesFew self.old self.new }
     {
         self.last_moment = moment;
-        self.backlog.clear_comparisons();
-        let serving = self.backlog.serve(moment, &self.params, &mut self.journal);
+        self.fair_queue.clear_comparisons();
+        let serving = self
+            .fair_queue
+            .serve(moment, &self.params, &mut self.journal);
         self.turns = serving.turns;
         let Some(served) = &serving.served else {
             return None;
@@ -257,7 +260,7 @@ impl<K: Recorder> Sched<K> {
         ensures room { self.new.room ≡ self.old.room }
         ensures few_comparisons { ComparesFew self.old self.new }
     {
-        self.backlog.clear_comparisons();
+        self.fair_queue.clear_comparisons();
         self.journal.close(moment);
         self.last_moment = moment;
         self.is_closed = true;
@@ -341,7 +344,7 @@ impl<K: Recorder> Sched<K> {
     pub fn comparisons(&self) -> u64
         ensures { result ≡ self.now.comparisons }
     {
-        self.backlog.comparisons()
+        self.fair_queue.comparisons()
     }
 
     /// What is kept of a flow, by its number.
@@ -349,7 +352,7 @@ impl<K: Recorder> Sched<K> {
         requires { flow < self.now.params.flows }
         ensures { result ≡ flow_shown (flows_of self.now) flow }
     {
-        self.backlog.view(flow)
+        self.fair_queue.view(flow)
     }
 
     /// Who is told what becomes of each packet. It was told of each packet that left as sent, with the ECN field that it
@@ -379,16 +382,16 @@ impl<K: Recorder> Sched<K> {
             params: _,
             seed: _,
             classifier: _,
-            backlog,
+            fair_queue,
             journal,
             last_moment: _,
             is_closed: _,
             turns: _,
-            spare: _,
+            enqueue_room: _,
         } = self;
         GivenUp {
             recorder: journal.into_recorder(),
-            remains: Remains::of(backlog.into_flows()),
+            remains: Remains::of(fair_queue.into_flows()),
         }
     }
 
@@ -441,7 +444,7 @@ impl<K: Recorder> Sched<K> {
         ensures value { result ≡ waiting_in (flows_of self.now).lists }
         ensures journal { result ≡ (statistics self.now.standing.events).queued }
     {
-        self.backlog.waiting()
+        self.fair_queue.waiting()
     }
 
     /// Whether there was a close.
@@ -464,7 +467,7 @@ impl<K: Recorder> Sched<K> {
     pub fn ids_left(&self) -> u64
         ensures { result + self.now.standing.state.next_id ≡ MAX_ACCEPTED }
     {
-        MAX_ACCEPTED - self.backlog.arrived()
+        MAX_ACCEPTED - self.fair_queue.arrived()
     }
 
     /// Why a step of any kind is refused, if it is, apart from want of memory.
@@ -484,7 +487,7 @@ impl<K: Recorder> Sched<K> {
         ensures { Tests (enqueue_refusal_of self.now.standing.state moment) result }
     {
         self.test_close(moment)?;
-        if self.backlog.arrived() >= MAX_ACCEPTED {
+        if self.fair_queue.arrived() >= MAX_ACCEPTED {
             return Err(Refusal::Exhausted);
         }
         Ok(())

@@ -37,7 +37,7 @@ pub(crate) enum Memory {
     /// It may. All that can be read is then as before, and the call isn't made again.
     TakesOnce,
     /// The call takes none.
-    Spares,
+    EnqueueRooms,
     /// The call takes none, and all that can be read is as before.
     Keeps,
 }

@@ -2,7 +2,7 @@
 
 ghost use Rattle.std.specs.Prelude.{◌≡◌};
 
-use crate::calls::Memory::{Keeps, Spares, Takes, TakesOnce};
+use crate::calls::Memory::{EnqueueRooms, Keeps, Takes, TakesOnce};
 use crate::calls::{Answer, Calls, Row, Subject, compared};
 use crate::pictures::{Picture, of_engine};
 use crate::steps::{gave, has_room};
@@ -54,15 +54,15 @@ pub(crate) enum Call {
 /// Packets are submitted, pumped and sent one by one, then published, then some for which room was taken ahead, and
 /// then the device is closed. After the close a packet stays in its lane, and so does the device.
 static LANES: [Row<'static, Call>; 24] = [
-    (Spares, Call::Submit, "LaneSender::submit"),
+    (EnqueueRooms, Call::Submit, "LaneSender::submit"),
     (Takes, Call::Pump(0, 8, Ok(1)), "Device::pump"),
-    (Spares, Call::Submit, "LaneSender::submit"),
+    (EnqueueRooms, Call::Submit, "LaneSender::submit"),
     (Takes, Call::Pump(0, 8, Ok(1)), "Device::pump"),
-    (Spares, Call::Submit, "LaneSender::submit"),
+    (EnqueueRooms, Call::Submit, "LaneSender::submit"),
     (Takes, Call::Pump(0, 8, Ok(1)), "Device::pump"),
-    (Spares, Call::Submit, "LaneSender::submit"),
+    (EnqueueRooms, Call::Submit, "LaneSender::submit"),
     (Takes, Call::Pump(0, 8, Ok(1)), "Device::pump"),
-    (Spares, Call::Submit, "LaneSender::submit"),
+    (EnqueueRooms, Call::Submit, "LaneSender::submit"),
     (Takes, Call::Pump(0, 8, Ok(1)), "Device::pump"),
     (Takes, Call::Dequeue(0, Ok(Some(0))), "Device::dequeue"),
     (Takes, Call::Dequeue(0, Ok(Some(1))), "Device::dequeue"),
@@ -71,9 +71,9 @@ static LANES: [Row<'static, Call>; 24] = [
     (Takes, Call::Dequeue(0, Ok(Some(4))), "Device::dequeue"),
     (Takes, Call::Publish(10), "Device::publish"),
     (Takes, Call::Reserve(8), "Device::reserve"),
-    (Spares, Call::Submit, "LaneSender::submit"),
+    (EnqueueRooms, Call::Submit, "LaneSender::submit"),
     (
-        Spares,
+        EnqueueRooms,
         Call::Pump(0, 8, Ok(1)),
         "Device::pump after Device::reserve",
     ),
@@ -89,44 +89,44 @@ static LANES: [Row<'static, Call>; 24] = [
         Call::Close(1, Err(CLOSED)),
         "Device::close once more",
     ),
-    (Spares, Call::Totals(6, 5), "Engine::totals"),
+    (EnqueueRooms, Call::Totals(6, 5), "Engine::totals"),
 ];
 
 /// Three packets are accepted, and all is published after each. A publish that is refused isn't made again: the next
 /// one shows what it left out. Then the device is closed, and all is published then and after a departure.
 static PUBLISH: [Row<'static, Call>; 20] = [
-    (Spares, Call::Submit, "LaneSender::submit"),
+    (EnqueueRooms, Call::Submit, "LaneSender::submit"),
     (Takes, Call::Pump(0, 8, Ok(1)), "Device::pump"),
     (TakesOnce, Call::Publish(1), "Device::publish"),
-    (Spares, Call::Shown, "Monitor::totals"),
-    (Spares, Call::Submit, "LaneSender::submit"),
+    (EnqueueRooms, Call::Shown, "Monitor::totals"),
+    (EnqueueRooms, Call::Submit, "LaneSender::submit"),
     (Takes, Call::Pump(0, 8, Ok(1)), "Device::pump"),
     (TakesOnce, Call::Publish(2), "Device::publish"),
-    (Spares, Call::Shown, "Monitor::totals"),
-    (Spares, Call::Submit, "LaneSender::submit"),
+    (EnqueueRooms, Call::Shown, "Monitor::totals"),
+    (EnqueueRooms, Call::Submit, "LaneSender::submit"),
     (Takes, Call::Pump(0, 8, Ok(1)), "Device::pump"),
     (TakesOnce, Call::Publish(3), "Device::publish"),
-    (Spares, Call::Shown, "Monitor::totals"),
-    (Spares, Call::Receipt(3), "Device::publish"),
+    (EnqueueRooms, Call::Shown, "Monitor::totals"),
+    (EnqueueRooms, Call::Receipt(3), "Device::publish"),
     (Takes, Call::Close(9, Ok(())), "Device::close"),
     (Takes, Call::Publish(4), "Device::publish"),
-    (Spares, Call::Shown, "Monitor::totals"),
+    (EnqueueRooms, Call::Shown, "Monitor::totals"),
     (Takes, Call::Dequeue(9, Ok(Some(0))), "Device::dequeue"),
     (Takes, Call::Publish(5), "Device::publish"),
-    (Spares, Call::Shown, "Monitor::totals"),
+    (EnqueueRooms, Call::Shown, "Monitor::totals"),
     (Takes, Call::Dequeue(9, Ok(Some(1))), "Device::dequeue"),
 ];
 
 /// The device is closed before the first publish.
 static PUBLISH_CLOSED: [Row<'static, Call>; 9] = [
-    (Spares, Call::Submit, "LaneSender::submit"),
+    (EnqueueRooms, Call::Submit, "LaneSender::submit"),
     (Takes, Call::Pump(0, 8, Ok(1)), "Device::pump"),
     (Takes, Call::Close(9, Ok(())), "Device::close"),
     (Takes, Call::Publish(2), "Device::publish"),
-    (Spares, Call::Shown, "Monitor::totals"),
+    (EnqueueRooms, Call::Shown, "Monitor::totals"),
     (Takes, Call::Dequeue(9, Ok(Some(0))), "Device::dequeue"),
     (Takes, Call::Publish(3), "Device::publish"),
-    (Spares, Call::Shown, "Monitor::totals"),
+    (EnqueueRooms, Call::Shown, "Monitor::totals"),
     (Takes, Call::Dequeue(9, Ok(None)), "Device::dequeue"),
 ];
 

@@ -1,6 +1,6 @@
 //! An engine, which stores its steps, and runs of steps.
 
-use crate::calls::Memory::{Keeps, Spares, Takes};
+use crate::calls::Memory::{EnqueueRooms, Keeps, Takes};
 use crate::calls::{Answer, Calls, Row, Subject, compared};
 use crate::pictures::{Picture, of_engine};
 use crate::steps::Call::{self, Close, Dequeue, Enqueue, Reserve, Totals, TupleRows};
@@ -26,12 +26,12 @@ static ENGINE: [Row<'static, Call>; 18] = [
     (Takes, Dequeue(5, Ok(Some(4))), "Engine::dequeue"),
     (Takes, Reserve(2), "Engine::reserve"),
     (
-        Spares,
+        EnqueueRooms,
         Enqueue(9, Ok(5)),
         "Engine::enqueue after Engine::reserve",
     ),
     (
-        Spares,
+        EnqueueRooms,
         Dequeue(9, Ok(Some(5))),
         "Engine::dequeue after Engine::reserve",
     ),
@@ -43,7 +43,7 @@ static ENGINE: [Row<'static, Call>; 18] = [
     ),
     (Keeps, Close(9, Err(CLOSED)), "Engine::close once more"),
     (Takes, TupleRows(6, 6, 0), "Engine::tuple_rows"),
-    (Spares, Totals(6, 6, 0, true), "Engine::totals"),
+    (EnqueueRooms, Totals(6, 6, 0, true), "Engine::totals"),
 ];
 
 /// Makes the calls of the sequence.

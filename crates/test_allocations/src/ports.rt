@@ -2,7 +2,7 @@
 
 ghost use Rattle.std.specs.Prelude.{◌≡◌};
 
-use crate::calls::Memory::{Keeps, Spares, Takes};
+use crate::calls::Memory::{EnqueueRooms, Keeps, Takes};
 use crate::calls::{Answer, Calls, Row, Subject, compared};
 use crate::pictures::first_of;
 use crate::recorders::{take, take_steps};
@@ -61,25 +61,25 @@ static CLOSES: [Row<'static, Call>; 4] = [
         Call::Close(5, Err(CLOSED)),
         "LockedPort::close once more",
     ),
-    (Spares, Call::Seat(10, 5), "PortSeat"),
+    (EnqueueRooms, Call::Seat(10, 5), "PortSeat"),
 ];
 
 /// Packets come and go at a port over lists with memory for these steps, and it is closed. The first enqueue takes
 /// memory for several packets.
 static QUIET: [Row<'static, Call>; 9] = [
     (Takes, Call::Enqueue(0, Ok(0)), ENQUEUE_IN_ROOM),
-    (Spares, Call::Enqueue(1, Ok(1)), ENQUEUE_IN_ROOM),
-    (Spares, Call::Enqueue(2, Ok(2)), ENQUEUE_IN_ROOM),
-    (Spares, Call::Enqueue(3, Ok(3)), ENQUEUE_IN_ROOM),
-    (Spares, Call::Enqueue(4, Ok(4)), ENQUEUE_IN_ROOM),
-    (Spares, Call::Dequeue(5, Ok(Some(0))), DEQUEUE_IN_ROOM),
-    (Spares, Call::Dequeue(5, Ok(Some(1))), DEQUEUE_IN_ROOM),
+    (EnqueueRooms, Call::Enqueue(1, Ok(1)), ENQUEUE_IN_ROOM),
+    (EnqueueRooms, Call::Enqueue(2, Ok(2)), ENQUEUE_IN_ROOM),
+    (EnqueueRooms, Call::Enqueue(3, Ok(3)), ENQUEUE_IN_ROOM),
+    (EnqueueRooms, Call::Enqueue(4, Ok(4)), ENQUEUE_IN_ROOM),
+    (EnqueueRooms, Call::Dequeue(5, Ok(Some(0))), DEQUEUE_IN_ROOM),
+    (EnqueueRooms, Call::Dequeue(5, Ok(Some(1))), DEQUEUE_IN_ROOM),
     (
-        Spares,
+        EnqueueRooms,
         Call::Close(5, Ok(5)),
         "LockedPort::close over lists with memory",
     ),
-    (Spares, Call::Seat(5, 2), "PortSeat"),
+    (EnqueueRooms, Call::Seat(5, 2), "PortSeat"),
 ];
 
 /// The name of an enqueue there.

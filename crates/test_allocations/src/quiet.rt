@@ -4,7 +4,7 @@
 //! memory after all would be refused in one of the runs, and answer so. At last each allocates once, so that in one run
 //! the allocation that is refused comes right after these calls.
 
-use crate::calls::Memory::{Spares, Takes};
+use crate::calls::Memory::{EnqueueRooms, Takes};
 use crate::calls::{Calls, Row};
 use crate::devices::{self, Call as DeviceCall};
 use crate::steps::Call;
@@ -24,56 +24,64 @@ const BACKWARDS: Refusal = Refusal::Moment(MomentFault::Backwards { last: 2 });
 static SCHED: [Row<'static, Call>; 8] = [
     (Takes, Call::Reserve(2), "Sched::reserve"),
     (
-        Spares,
+        EnqueueRooms,
         Call::Enqueue(0, Ok(0)),
         "Sched::enqueue after Sched::reserve",
     ),
     (
-        Spares,
+        EnqueueRooms,
         Call::Enqueue(1, Ok(1)),
         "Sched::enqueue after Sched::reserve",
     ),
-    (Spares, Call::Dequeue(2, Ok(Some(0))), "Sched::dequeue"),
-    (Spares, Call::Close(2, Ok(())), "Sched::close"),
     (
-        Spares,
+        EnqueueRooms,
+        Call::Dequeue(2, Ok(Some(0))),
+        "Sched::dequeue",
+    ),
+    (EnqueueRooms, Call::Close(2, Ok(())), "Sched::close"),
+    (
+        EnqueueRooms,
         Call::Enqueue(2, Err(CLOSED)),
         "Sched::enqueue after Sched::close",
     ),
-    (Spares, Call::Dequeue(1, Err(BACKWARDS)), "Sched::dequeue"),
-    (Spares, Call::Totals(2, 1, 1, true), "Sched::totals"),
+    (
+        EnqueueRooms,
+        Call::Dequeue(1, Err(BACKWARDS)),
+        "Sched::dequeue",
+    ),
+    (EnqueueRooms, Call::Totals(2, 1, 1, true), "Sched::totals"),
 ];
 
 /// The same of an engine.
 static ENGINE: [Row<'static, Call>; 8] = [
     (Takes, Call::Reserve(4), "Engine::reserve"),
     (
-        Spares,
+        EnqueueRooms,
         Call::Enqueue(0, Ok(0)),
         "Engine::enqueue after Engine::reserve",
     ),
     (
-        Spares,
+        EnqueueRooms,
         Call::Enqueue(1, Ok(1)),
         "Engine::enqueue after Engine::reserve",
     ),
     (
-        Spares,
+        EnqueueRooms,
         Call::Dequeue(2, Ok(Some(0))),
         "Engine::dequeue after Engine::reserve",
     ),
-    (Spares, Call::Close(2, Ok(())), "Engine::close"),
+    (EnqueueRooms, Call::Close(2, Ok(())), "Engine::close"),
     (
-        Spares,
+        EnqueueRooms,
         Call::Enqueue(2, Err(CLOSED)),
         "Engine::enqueue after Engine::close",
     ),
     (
-        Spares,
+        EnqueueRooms,
         Call::Close(2, Err(CLOSED)),
         "Engine::close once more",
     ),
-    (Spares, Call::Totals(2, 1, 1, true), "Engine::totals"),
+    (EnqueueRooms, Call::Totals(2, 1, 1, true), "Engine::totals"),
 ];
 
 /// The same of a device with a lane and a monitor, which was shown something before. A pump is of as many packets as
@@ -81,27 +89,27 @@ static ENGINE: [Row<'static, Call>; 8] = [
 static DEVICE: [Row<'static, DeviceCall>; 11] = [
     (Takes, DeviceCall::Reserve(4), "Device::reserve"),
     (Takes, DeviceCall::Publish(0), "Device::publish"),
-    (Spares, DeviceCall::Submit, "LaneSender::submit"),
-    (Spares, DeviceCall::Submit, "LaneSender::submit"),
+    (EnqueueRooms, DeviceCall::Submit, "LaneSender::submit"),
+    (EnqueueRooms, DeviceCall::Submit, "LaneSender::submit"),
     (
-        Spares,
+        EnqueueRooms,
         DeviceCall::Pump(2, 2, Ok(2)),
         "Device::pump after Device::reserve",
     ),
     (
-        Spares,
+        EnqueueRooms,
         DeviceCall::Dequeue(2, Ok(Some(0))),
         "Device::dequeue",
     ),
-    (Spares, DeviceCall::Close(2, Ok(())), "Device::close"),
-    (Spares, DeviceCall::Submit, "LaneSender::submit"),
+    (EnqueueRooms, DeviceCall::Close(2, Ok(())), "Device::close"),
+    (EnqueueRooms, DeviceCall::Submit, "LaneSender::submit"),
     (
-        Spares,
+        EnqueueRooms,
         DeviceCall::Pump(2, 2, Err(CLOSED)),
         "Device::pump after Device::close",
     ),
-    (Spares, DeviceCall::Publish(4), "Device::publish"),
-    (Spares, DeviceCall::Seen(4, 2, 1), "Monitor::totals"),
+    (EnqueueRooms, DeviceCall::Publish(4), "Device::publish"),
+    (EnqueueRooms, DeviceCall::Seen(4, 2, 1), "Monitor::totals"),
 ];
 
 /// Allocates once, and notes where that was refused.

@@ -1,6 +1,6 @@
 //! A scheduler that is its own journal.
 
-use crate::calls::Memory::{Spares, Takes};
+use crate::calls::Memory::{EnqueueRooms, Takes};
 use crate::calls::{Answer, Calls, Row, Subject, compared};
 use crate::pictures::{Picture, of_sched};
 use crate::steps::Call::{self, Close, Dequeue, Enqueue, Reserve, Totals, TupleRows};
@@ -17,41 +17,41 @@ static SCHED: [Row<'static, Call>; 17] = [
     (Takes, Enqueue(3, Ok(3)), "Sched::enqueue"),
     (Takes, Enqueue(4, Ok(4)), "Sched::enqueue"),
     (Takes, Enqueue(5, Ok(5)), "Sched::enqueue"),
-    (Spares, Dequeue(6, Ok(Some(0))), "Sched::dequeue"),
+    (EnqueueRooms, Dequeue(6, Ok(Some(0))), "Sched::dequeue"),
     (Takes, TupleRows(6, 1, 5), "Sched::tuple_rows"),
     (Takes, Reserve(6), "Sched::reserve"),
     (
-        Spares,
+        EnqueueRooms,
         Enqueue(6, Ok(6)),
         "Sched::enqueue after Sched::reserve",
     ),
     (
-        Spares,
+        EnqueueRooms,
         Enqueue(7, Ok(7)),
         "Sched::enqueue after Sched::reserve",
     ),
     (
-        Spares,
+        EnqueueRooms,
         Enqueue(8, Ok(8)),
         "Sched::enqueue after Sched::reserve",
     ),
     (
-        Spares,
+        EnqueueRooms,
         Enqueue(9, Ok(9)),
         "Sched::enqueue after Sched::reserve",
     ),
     (
-        Spares,
+        EnqueueRooms,
         Enqueue(10, Ok(10)),
         "Sched::enqueue after Sched::reserve",
     ),
     (
-        Spares,
+        EnqueueRooms,
         Enqueue(11, Ok(11)),
         "Sched::enqueue after Sched::reserve",
     ),
-    (Spares, Close(12, Ok(())), "Sched::close"),
-    (Spares, Totals(12, 1, 11, true), "Sched::totals"),
+    (EnqueueRooms, Close(12, Ok(())), "Sched::close"),
+    (EnqueueRooms, Totals(12, 1, 11, true), "Sched::totals"),
 ];
 
 /// Makes the calls of the sequence.

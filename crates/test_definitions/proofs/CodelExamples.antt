@@ -21,7 +21,7 @@ use Rattle.journal_core.specs.declared.event.Event.TheVariants.{Accepted, Sent, 
 use Rattle.journal_core.specs.declared.outcome.Answer.TheVariants as answer
 use Rattle.journal_core.specs.declared.step.Step.{Step}
 use Rattle.journal_core.specs.declared.step.Step.TheVariants.{Enqueue, Dequeue}
-use Rattle.fair_core.specs.FairQueues.{FairQueues, account_at}
+use Rattle.fair_core.specs.FairQueues.{FairQueues, flow_state_at}
 use Rattle.journal_core.specs.Runs.{Made}
 use Rattle.journal_core.specs.State.{State}
 use Rattle.test_definitions.proofs.ComputedRuns.{RunGives, RunLeaves, accepts, arrives, idles, packet_to, run_gives, run_leaves, sends}
@@ -54,7 +54,7 @@ drops_and_sends dropped sent moment =
 
 -- CoDel's state in the only flow is that
 abbrev CodelIs : CodelState → State FairQueues → Type 0
-CodelIs codel s = (account_at s.queues 0).codel ≡ codel
+CodelIs codel s = (flow_state_at s.queues 0).codel ≡ codel
 
 -- The first is late; an interval later one is dropped, and more from the moments that are due. With one packet behind it
 -- no packet is late.

@@ -5,8 +5,8 @@ use Rattle.std.proofs.lemmas.Int.{ints}
 use Rattle.packet_core.specs.declared.packet.Waiting.{Waiting}
 use Rattle.packet_core.specs.declared.params.ParamFields.{ParamFields}
 use Rattle.codel_core.specs.declared.state.CodelState.{CodelState}
-use Rattle.fair_core.specs.FairQueues.{FairQueues, account_at, head_of, queue_of}
-use Rattle.fair_core.specs.declared.backlog.Head.{Head}
+use Rattle.fair_core.specs.FairQueues.{FairQueues, flow_state_at, head_of, queue_of}
+use Rattle.fair_core.specs.declared.fair_queue.Head.{Head}
 use Rattle.fair_core.specs.FqCodel.{fq_codel_policy}
 use Rattle.fair_core.specs.Turns.{Chain, Service, Turn, TurnMade, service_by}
 use Rattle.fair_core.specs.Turns.TurnKind.{used_up, emptied, serving}
@@ -25,10 +25,10 @@ pub record Turned (p : ParamFields) (now : ℕ) (s : FairQueues) : Type 0 where
 
 module _ (p : ParamFields) (now : ℕ) (s : FairQueues) (head : Head) (at : head_of s ≡ Some head) where
   abbrev credits : ℤ
-  credits = (account_at s head.flow).credits
+  credits = (flow_state_at s head.flow).credits
 
   abbrev codel : CodelState
-  codel = (account_at s head.flow).codel
+  codel = (flow_state_at s head.flow).codel
 
   abbrev queue : List Waiting
   queue = queue_of s head.flow
@@ -94,7 +94,7 @@ module _ (p : ParamFields) (now : ℕ) where
   walk_at further s None e = Some (record { turns = []; queues = s; chain = (e, refl) })
   walk_at further s (Some head) e =
       option_and_then (λ t. walk_on further s t (service_by t.made.kind) refl)
-      (turned p now s head e (sign (account_at s head.flow).credits) (queue_of s head.flow) refl)
+      (turned p now s head e (sign (flow_state_at s head.flow).credits) (queue_of s head.flow) refl)
 
   -- the serving chain of a state, if it has fewer turns than that
   abbrev pub walk : ℕ → Walks

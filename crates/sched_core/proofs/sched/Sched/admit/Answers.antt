@@ -27,7 +27,7 @@ chosen_below classify flows seed k tuple flow queues made value some many =
     omega (arith, chosen_flow classify flows seed k tuple flow made value, flow_below classify flows seed tuple some)
 
 accepts : (g : given.Over) (c : After-overflow g) → let s = c.self.inside in let m = c.in_ok-provide.ensures.memory in
-    Accepts s.params s.seed (record (s.backlog) { room = m.places }) c.arrive.new.self c.overflow.new.self (record (s.journal) { room = m.events }) c.overflow.new.journal s.last_moment c.args.moment c.args.lane c.provide.new.self.enqueues c.args.packet s.is_closed
+    Accepts s.params s.seed (record (s.fair_queue) { room = m.places }) c.arrive.new.self c.overflow.new.self (record (s.journal) { room = m.events }) c.overflow.new.journal s.last_moment c.args.moment c.args.lane c.provide.new.self.enqueues c.args.packet s.is_closed
 accepts g c =
     let s = c.self.inside in
     let m = c.in_ok-provide.ensures.memory in
@@ -60,7 +60,7 @@ pub overflow-requires : goal.overflow-requires
 overflow-requires g c =
     let m = c.in_ok-provide.ensures.memory in
     let kept = kept_takes m c.self.invariant.book in
-    let within : c.flow_of-flow.result < length (c.self.inside.backlog.queues.lists.queues) =
+    let within : c.flow_of-flow.result < length (c.self.inside.fair_queue.queues.lists.queues) =
     chosen_below _ _ _ _ _ _ _ c.self.invariant.classifier c.flow_of-flow.ensures.value c.self.invariant.book.some c.self.invariant.book.flows in
     rw (c.accept.ensures, c.arrive.ensures.queues, c.clear_comparisons.ensures, m.in_flows, m.in_journal)
     (arrival_fits _ _ _ _ within (omega (arith, kept.space, c.in_ok-provide.ensures.ok)))

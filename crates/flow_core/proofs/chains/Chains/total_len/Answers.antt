@@ -1,5 +1,0 @@
-use Rattle.std.proofs.Common.{arith}
-use Rattle.flow_core.proofs.chains.Chains.total_len.Goals as goal
-
-pub returns-clause-value : goal.returns-clause-value
-returns-clause-value c = rw (← c.self.view_is) (omega (arith, c.len.ensures, c.self.invariant.counted))
