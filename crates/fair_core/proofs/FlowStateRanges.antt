@@ -27,7 +27,7 @@ held_leaves lists flow_states arrived flow gone flow_state h within range = reco
       ];
 }
 
--- an flow state that stays in range
+-- a flow state that stays in range
 pub held_flow_state : (lists : FlowLists) (flow_states : List FlowState) (arrived flow : ℕ) (flow_state : FlowState) → AreHeld lists flow_states arrived → flow < length lists.queues → IsFlowStateInRange flow_state (length (queue_at lists flow)) arrived → AreHeld lists (set flow_states flow flow_state) arrived
 held_flow_state lists flow_states arrived flow flow_state h within range = rw (set-get_or lists.queues flow []) at (held_leaves lists flow_states arrived flow 0 flow_state h within range)
 

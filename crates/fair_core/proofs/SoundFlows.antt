@@ -1,4 +1,4 @@
--- The flows of a scheduler stay as many as they were, and sound: each is listed once at most, and has an flow state.
+-- The flows of a scheduler stay as many as they were, and sound: each is listed once at most, and has a flow state.
 use Rattle.std.proofs.Common.{◌≡◌, ℕ, ◌+◌, ◌<◌, Bool, true, false, List, [], ◌∷◌, ◌++◌, length, replicate, Option, Some, None, pos, drop, refl, sym, ap, ◌∙◌, inl, inr, append_assoc}
 use Rattle.std.proofs.lemmas.Bool.{cases_Bool}
 use Rattle.std.proofs.lemmas.List.{length-replicate, length-set}

@@ -8,7 +8,7 @@ use Rattle.fair_core.specs.declared.fair_queue.FlowList.TheVariants.{New, Old}
 use Rattle.fair_core.specs.declared.fair_queue.Head.{Head}
 
 -- What a fair scheduler keeps of its flows (RFC 8290, section 4): their queues, the list of new flows and the list of
--- old flows, and an flow state for each flow: its credits, in bytes, and its CoDel state.
+-- old flows, and a flow state for each flow: its credits, in bytes, and its CoDel state.
 pub record FairQueues : Type 0 where
   pub lists : FlowLists
   pub flow_states : List FlowState
@@ -33,7 +33,7 @@ flow_state_at s flow = get_or s.flow_states flow new_flow_state
 abbrev pub with_flow_state : FairQueues → FlowLists → ℕ → FlowState → FairQueues
 with_flow_state s lists flow flow_state = record { lists = lists; flow_states = set s.flow_states flow flow_state }
 
--- the flows that are listed are flows, each stands in the lists once, and each flow has an flow state
+-- the flows that are listed are flows, each stands in the lists once, and each flow has a flow state
 pub record AreSound (s : FairQueues) : Type 0 where
   pub listed : AreListed s.lists
   pub flow_states : length s.flow_states ≡ length s.lists.queues

@@ -50,7 +50,7 @@ held_of b = record {
 abbrev pub held_flows : Held → Holding
 held_flows h = record { lists = h.queues.lists; room = h.room; comparisons = h.comparisons }
 
--- The numbers of an flow state fit: CoDel's count is of packets that came, and so many that wait did not count yet.
+-- The numbers of a flow state fit: CoDel's count is of packets that came, and so many that wait did not count yet.
 pub record IsFlowStateInRange (flow_state : FlowState) (waiting arrived : ℕ) : Type 0 where
   pub low : pos 0 ≤ℤ (flow_state.credits +ℤ pos 65535)
   pub high : flow_state.credits ≤ℤ pos 1000000

@@ -27,20 +27,20 @@ listed_steps l = l.steps.items
 abbrev pub listed_step_room : StepList → ℕ
 listed_step_room l = vec_capacity l.steps - vec_len l.steps
 
-abbrev pub unstored_events : NullRecorder → List Event
-unstored_events n = n.events.items
+abbrev pub null_events : NullRecorder → List Event
+null_events n = n.events.items
 
-abbrev pub unstored_sent : NullRecorder → List Waiting
-unstored_sent n = n.sent.items
+abbrev pub null_sent : NullRecorder → List Waiting
+null_sent n = n.sent.items
 
-abbrev pub unstored_losses : NullRecorder → List Waiting
-unstored_losses n = n.lost.items
+abbrev pub null_losses : NullRecorder → List Waiting
+null_losses n = n.lost.items
 
-abbrev pub unstored_room : NullRecorder → ℕ
-unstored_room n = n.events.room
+abbrev pub null_room : NullRecorder → ℕ
+null_room n = n.events.room
 
-abbrev pub unstored_steps : NullRecorder → List Step
-unstored_steps n = n.steps.items
+abbrev pub null_steps : NullRecorder → List Step
+null_steps n = n.steps.items
 
-abbrev pub unstored_step_room : NullRecorder → ℕ
-unstored_step_room n = n.steps.room
+abbrev pub null_step_room : NullRecorder → ℕ
+null_step_room n = n.steps.room

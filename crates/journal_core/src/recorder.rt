@@ -2,7 +2,7 @@
 
 ghost use Rattle.std.specs.Prelude.{◌≡◌, ◌-◌, ◌<◌, ◌≤◌, ℕ, List, [], ◌∷◌, ◌++◌, OnErr, OnOk};
 ghost use Rattle.packet_core.specs.declared.packet.Waiting.{Waiting};
-ghost use Rattle.journal_core.specs.Recorders.{listed_events, listed_losses, listed_room, listed_sent, listed_step_room, listed_steps, unstored_events, unstored_losses, unstored_room, unstored_sent, unstored_step_room, unstored_steps};
+ghost use Rattle.journal_core.specs.Recorders.{listed_events, listed_losses, listed_room, listed_sent, listed_step_room, listed_steps, null_events, null_losses, null_room, null_sent, null_step_room, null_steps};
 ghost use Rattle.journal_core.specs.Steps.{accepted_event, drop_event, sent_event};
 ghost use Rattle.journal_core.specs.declared.event.Event.{Event};
 ghost use Rattle.journal_core.specs.declared.event.Event.TheVariants.{Closed};
@@ -230,10 +230,10 @@ pub struct NullRecorder {
 impl NullRecorder {
     /// Nothing was told yet.
     pub fn new() -> NullRecorder
-        ensures told { unstored_events result ≡ [] }
-        ensures sent { unstored_sent result ≡ [] }
-        ensures lost { unstored_losses result ≡ [] }
-        ensures steps { unstored_steps result ≡ [] }
+        ensures told { null_events result ≡ [] }
+        ensures sent { null_sent result ≡ [] }
+        ensures lost { null_losses result ≡ [] }
+        ensures steps { null_steps result ≡ [] }
     {
         NullRecorder {
             events: GhostList::new(),
@@ -245,13 +245,13 @@ impl NullRecorder {
 }
 
 impl Recorder for NullRecorder {
-    ghost told = { unstored_events };
+    ghost told = { null_events };
 
-    ghost sent = { unstored_sent };
+    ghost sent = { null_sent };
 
-    ghost lost = { unstored_losses };
+    ghost lost = { null_losses };
 
-    ghost room = { unstored_room };
+    ghost room = { null_room };
 
     #[inline(always)]
     fn accept(&mut self, packet: &Waiting, lane: u32, flow: u32) {
@@ -282,9 +282,9 @@ impl Recorder for NullRecorder {
 }
 
 impl StepRecorder for NullRecorder {
-    ghost told = { unstored_steps };
+    ghost told = { null_steps };
 
-    ghost room = { unstored_step_room };
+    ghost room = { null_step_room };
 
     fn record(&mut self, step: Step) {
         self.steps = self.steps.and(&step);

@@ -137,16 +137,21 @@ fn main(rt: HostRuntime) -> Result<()> {
     Ok(())
 }
 
-/// A packet comes, into a buffer that is free.
+/// A packet comes, into a buffer that is free. Where it is refused, the buffer is free again.
 fn receive(
     rt: &impl Print,
     pool: &Pool,
     sched: &mut Sched<Returns<'_>>,
     moment: u64,
 ) -> Result<()> {
+    let packet = query()?;
     match pool.take() {
         Some(buffer) => {
-            sched.enqueue(moment, 0, query()?.with_tag(buffer))?;
+            let admitted = sched.enqueue(moment, 0, packet.with_tag(buffer));
+            if admitted.is_err() {
+                pool.give_back(&packet.with_tag(buffer));
+            }
+            admitted?;
             println!(rt; "buffer {buffer} comes, {} are free", pool.count())?;
         }
         None => println!(rt; "no buffer is free")?,

@@ -41,7 +41,7 @@ impl Remains {
     }
 
     /// Gives one of the packets, each once, and none where none is left. It takes no memory, and about as long as a
-    /// dequeue. The packets of a flow come in their order.
+    /// dequeue. The packets of a flow come in their order, which no clause says.
     #[tactic(auto, using(crate::proofs::RemainingPackets::taken_out, crate::proofs::RemainingPackets::none_left))]
     pub fn next(&mut self) -> Option<Waiting>
         ensures none { IsNone result → flat_map (λ q. q) self.old ≡ [] }

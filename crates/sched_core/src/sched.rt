@@ -356,7 +356,7 @@ impl<K: Recorder> Sched<K> {
     }
 
     /// Who is told what becomes of each packet. It was told of each packet that left as sent, with the ECN field that it
-    /// left with, and of each drop with the packet that is lost, each as it was accepted. So an embedder gets each packet
+    /// left with, and of each drop with the packet that is lost, as it was accepted. So an embedder gets each packet
     /// back once, with its tag, or it waits: the packets that were accepted are, in another order, those that were sent,
     /// those that the recorder was told of as lost and those in the flows' queues.
     #[tactic(auto, using(crate::proofs::KeptScheduler::seen_departures, crate::proofs::KeptScheduler::seen_losses))]
