@@ -74,16 +74,16 @@ pub use Rattle.sched_core.specs.Engines
 pub use Rattle.sched_core.specs.Shares
 pub use Rattle.sched_core.specs.Starvation
 -- The scheduler for embedders.
-pub use Rattle.shaper_core.specs.Drops
-pub use Rattle.shaper_core.specs.ShaperTotals as TotalsOfShapers
-pub use Rattle.shaper_core.specs.Lives
-pub use Rattle.shaper_core.specs.Shapers
-pub use Rattle.shaper_core.specs.Faults
-pub use Rattle.shaper_core.specs.Calls as ShaperCalls
-pub use Rattle.shaper_core.specs.Laws as ShaperLaws
-pub use Rattle.shaper_core.specs.declared.answers.Handle
-pub use Rattle.shaper_core.specs.declared.answers.Dropped
-pub use Rattle.shaper_core.specs.declared.answers.Enqueued
-pub use Rattle.shaper_core.specs.declared.answers.EnqueueFault
-pub use Rattle.shaper_core.specs.declared.answers.Dequeued
-pub use Rattle.shaper_core.specs.declared.totals.ShaperTotals
+pub use Rattle.queue_disc_core.specs.Drops
+pub use Rattle.queue_disc_core.specs.QueueDiscTotals as TotalsOfQueueDiscs
+pub use Rattle.queue_disc_core.specs.PacketLists
+pub use Rattle.queue_disc_core.specs.QueueDiscs
+pub use Rattle.queue_disc_core.specs.Faults
+pub use Rattle.queue_disc_core.specs.Calls as QueueDiscCalls
+pub use Rattle.queue_disc_core.specs.Laws as QueueDiscLaws
+pub use Rattle.queue_disc_core.specs.declared.answers.Handle
+pub use Rattle.queue_disc_core.specs.declared.answers.Dropped
+pub use Rattle.queue_disc_core.specs.declared.answers.Enqueued
+pub use Rattle.queue_disc_core.specs.declared.answers.EnqueueFault
+pub use Rattle.queue_disc_core.specs.declared.answers.Dequeued
+pub use Rattle.queue_disc_core.specs.declared.totals.QueueDiscTotals

@@ -9,12 +9,12 @@ pub use packet_core::{
     Classify, Ecn, EcnUse, FiveTuple, Ip, LengthOutOfRange, MAX_LENGTH, Packet, ParamFault,
     ParamFields, ParamName, Params, Seed, Waiting, read_params,
 };
+pub use queue_disc_core::{
+    Dequeued, Dropped, EnqueueFault, Enqueued, Flushed, QueueDisc, QueueDiscTotals, RENEW_AFTER,
+};
 pub use sched_core::{
     Admitted, Answer, Cause, CloseFault, Engine, Event, EventList, FlowChooser, FlowView,
     GhostList, GivenUp, MAX_ACCEPTED, MAX_EVENTS, MAX_MOMENT, Mark, Memory, MomentFault,
     NullRecorder, Outcome, Ran, Recorder, Refusal, Remains, Sched, Sent, Step, StepList,
     StepRecorder, Totals, TupleRow, run_steps,
-};
-pub use shaper_core::{
-    Dequeued, Dropped, EnqueueFault, Enqueued, Flushed, RENEW_AFTER, Shaper, ShaperTotals,
 };

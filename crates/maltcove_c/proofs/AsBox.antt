@@ -6,16 +6,16 @@ use Rattle.std_alloc.proofs.BoxSteps.Form.{Bx}
 use Rattle.std_heap.specs.contracts.Global as Heap
 use Rattle.std_heap.specs.contracts.GlobalAllocator.TheImpl.{ghosts, dict}
 use Rattle.std_heap.proofs.Global.TheLaws as heap
-use Rattle.shaper_core.specs.contracts.shaper.Shaper as Shaper
-use Rattle.shaper_core.proofs.shaper.Shaper.TheLaws as shaper
+use Rattle.queue_disc_core.specs.contracts.queue_disc.QueueDisc as QueueDisc
+use Rattle.queue_disc_core.proofs.queue_disc.QueueDisc.TheLaws as disc
 use Rattle.maltcove_c.specs.contracts.parts.Parts as Parts
 use Rattle.maltcove_c.specs.contracts.handle.Handle as Handle
 
 abbrev pub E : Bx
-E = record { row = Shaper.the_row; laws = shaper.the_row_laws; al = record { row = Heap.the_row; laws = heap.the_row_laws; g = ghosts; d = dict; drops = impl [] tnil dnil } }
+E = record { row = QueueDisc.the_row; laws = disc.the_row_laws; al = record { row = Heap.the_row; laws = heap.the_row_laws; g = ghosts; d = dict; drops = impl [] tnil dnil } }
 
 abbrev pub FromParts : Slot 0
-FromParts = plain (λ _. Parts.the_row Shaper.the_row Heap.the_row ghosts)
+FromParts = plain (λ _. Parts.the_row QueueDisc.the_row Heap.the_row ghosts)
 
 abbrev pub FromHandle : Slot 0
 FromHandle = plain (λ _. Handle.the_row)

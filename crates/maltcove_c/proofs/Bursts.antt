@@ -7,13 +7,13 @@ use Rattle.journal_core.specs.State.{moment_fault_of, refusal_of}
 use Rattle.journal_core.specs.declared.step.MomentFault.TheVariants.{Backwards, TooLarge}
 use Rattle.journal_core.specs.declared.step.Refusal.TheVariants.{Moment}
 use Rattle.journal_core.specs.declared.step.Step.TheVariants.{Dequeue}
-use Rattle.shaper_core.specs.Shapers.{Shaping}
+use Rattle.queue_disc_core.specs.QueueDiscs.{DiscState}
 use Rattle.maltcove_c.specs.Calls.{AreSent, Idles, RefusesDequeue, Sends, SendsAll}
 use Rattle.maltcove_c.specs.declared.records.MaltcoveSent.{MaltcoveSent}
 use Rattle.maltcove_c.proofs.Readings.{rest_stays}
 
-sent_more : (moment : ℕ) (old : Shaping) (outs : List MaltcoveSent) (mid : Shaping) (out : MaltcoveSent) (new : Shaping) → AreSent old moment outs mid → Sends mid moment out new → AreSent old moment (outs ++ out ∷ []) new
-sent_more moment old [] mid out new same one = (new, subst (λ (s : Shaping). Sends s moment out new) same one, refl)
+sent_more : (moment : ℕ) (old : DiscState) (outs : List MaltcoveSent) (mid : DiscState) (out : MaltcoveSent) (new : DiscState) → AreSent old moment outs mid → Sends mid moment out new → AreSent old moment (outs ++ out ∷ []) new
+sent_more moment old [] mid out new same one = (new, subst (λ (s : DiscState). Sends s moment out new) same one, refl)
 sent_more moment old (o ∷ outs) mid out new sends one = (sends.0, sends.1, sent_more moment sends.0 outs mid out new sends.2 one)
 
 some_none : {X : Type 0} (x : X) → Some x ≡ None → ⊥
@@ -32,21 +32,21 @@ not_before moment = grind arith
 fits_again : (moment last : ℕ) → option_map Moment (moment_fault_of moment last) ≡ None → option_map Moment (moment_fault_of moment moment) ≡ None
 fits_again moment last fits = once_more (nat_le (2 ^ 60) moment) (nat_lt moment moment) last moment (not_before moment) fits
 
-pub sent_fits : (mid : Shaping) (moment : ℕ) (out : MaltcoveSent) (new : Shaping) → Sends mid moment out new → refusal_of new.sched.standing.state (Dequeue moment) ≡ None
+pub sent_fits : (mid : DiscState) (moment : ℕ) (out : MaltcoveSent) (new : DiscState) → Sends mid moment out new → refusal_of new.sched.standing.state (Dequeue moment) ≡ None
 sent_fits mid moment out new one =
     let gives = one.dequeued.serves.gives in
     ap (λ last. option_map Moment (moment_fault_of moment last)) gives.serves.last ∙ fits_again moment mid.sched.standing.state.last gives.fits
 
 -- So many packets were sent, which stand at the front of the array, and the rest of it is as it was first.
-pub record Sending (initial : Shaping) (moment : ℕ) (first : List MaltcoveSent) (place : ℕ) (out : List MaltcoveSent) (now : Shaping) : Type 0 where
+pub record Sending (initial : DiscState) (moment : ℕ) (first : List MaltcoveSent) (place : ℕ) (out : List MaltcoveSent) (now : DiscState) : Type 0 where
   pub sends : AreSent initial moment (take place out) now
   pub rest : drop place out ≡ drop place first
   pub fits : 0 < place → refusal_of now.sched.standing.state (Dequeue moment) ≡ None
 
-pub sends_none : (initial : Shaping) (moment : ℕ) (first : List MaltcoveSent) → Sending initial moment first 0 first initial
+pub sends_none : (initial : DiscState) (moment : ℕ) (first : List MaltcoveSent) → Sending initial moment first 0 first initial
 sends_none initial moment first = record { sends = refl; rest = refl; fits = λ some. absurd (omega arith) }
 
-pub sends_on : (initial : Shaping) (moment : ℕ) (first : List MaltcoveSent) (place : ℕ) (out : List MaltcoveSent) (now new : Shaping) (told : MaltcoveSent)
+pub sends_on : (initial : DiscState) (moment : ℕ) (first : List MaltcoveSent) (place : ℕ) (out : List MaltcoveSent) (now new : DiscState) (told : MaltcoveSent)
     → Sending initial moment first place out now → Sends now moment told new → place < length out → Sending initial moment first (place + 1) (set out place told) new
 sends_on initial moment first place out now new told s one within =
     let more = take_more_set out place told within in
@@ -57,7 +57,7 @@ sends_on initial moment first place out now new told s one within =
     }
 
 -- the next dequeue finds none
-pub sends_all : (initial : Shaping) (moment : ℕ) (first : List MaltcoveSent) (place : ℕ) (out : List MaltcoveSent) (now new : Shaping) (told : MaltcoveSent)
+pub sends_all : (initial : DiscState) (moment : ℕ) (first : List MaltcoveSent) (place : ℕ) (out : List MaltcoveSent) (now new : DiscState) (told : MaltcoveSent)
     → Sending initial moment first place out now → Idles now moment told new → place < length out → SendsAll initial moment (set out place told) place new
 sends_all initial moment first place out now new told s one within =
     let long = length-set out place told in
@@ -71,21 +71,21 @@ sends_all initial moment first place out now new told s one within =
     }
 
 -- all places are full
-pub sends_full : (initial : Shaping) (moment : ℕ) (first : List MaltcoveSent) (place : ℕ) (out : List MaltcoveSent) (now : Shaping)
+pub sends_full : (initial : DiscState) (moment : ℕ) (first : List MaltcoveSent) (place : ℕ) (out : List MaltcoveSent) (now : DiscState)
     → Sending initial moment first place out now → length out ≤ place → AreSent initial moment out now
 sends_full initial moment first place out now s full = subst (λ (outs : List MaltcoveSent). AreSent initial moment outs now) (take_all place out full) s.sends
 
 -- The next dequeue is refused: it is the first.
-pub record Refused (initial : Shaping) (moment : ℕ) (first : List MaltcoveSent) (place : ℕ) (out : List MaltcoveSent) (now : Shaping) (answer : ℤ) : Type 0 where
+pub record Refused (initial : DiscState) (moment : ℕ) (first : List MaltcoveSent) (place : ℕ) (out : List MaltcoveSent) (now : DiscState) (answer : ℤ) : Type 0 where
   pub refuses : RefusesDequeue initial moment answer
   pub none : place ≡ 0
   pub same : now ≡ initial
   pub stay : out ≡ first
 
-pub refused_first : (initial : Shaping) (moment : ℕ) (first : List MaltcoveSent) (place : ℕ) (out : List MaltcoveSent) (now : Shaping) (answer : ℤ)
+pub refused_first : (initial : DiscState) (moment : ℕ) (first : List MaltcoveSent) (place : ℕ) (out : List MaltcoveSent) (now : DiscState) (answer : ℤ)
     → Sending initial moment first place out now → RefusesDequeue now moment answer → Refused initial moment first place out now answer
 refused_first initial moment first zero out now answer s refused =
-    record { refuses = subst (λ (a : Shaping). RefusesDequeue a moment answer) s.sends refused; none = refl; same = s.sends; stay = s.rest }
+    record { refuses = subst (λ (a : DiscState). RefusesDequeue a moment answer) s.sends refused; none = refl; same = s.sends; stay = s.rest }
 refused_first initial moment first (suc place) out now answer s refused =
     let some : 0 < suc place = omega arith in
     absurd (some_none _ (sym refused.is_fault ∙ s.fits some))

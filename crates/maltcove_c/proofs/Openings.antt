@@ -1,4 +1,4 @@
--- What is answered where a shaper isn't opened.
+-- What is answered where a queue disc isn't opened.
 use Rattle.std.proofs.Common.{◌≡◌, ℕ, ℤ, List, inl, inr, refl, subst, sym}
 use Rattle.std.specs.Prelude.{IfErr, IfOk, IsErr}
 use Rattle.std.specs.declared.result.Result.{Result}

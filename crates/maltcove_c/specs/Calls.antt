@@ -1,4 +1,4 @@
--- What the calls from C do with the shaper behind a handle.
+-- What the calls from C do with the queue disc behind a handle.
 use Rattle.std.specs.Prelude.{◌≡◌, ◌≢◌, ◌<◌, ◌%◌, ◌⊎◌, ◌↔◌, ℕ, ℤ, List, [], ◌∷◌, length, map, slice_get, take, Some, None}
 use Rattle.std.specs.declared.option.Option.{Option}
 use Rattle.std.specs.declared.option.Option.TheVariants as option
@@ -13,15 +13,15 @@ use Rattle.journal_core.specs.declared.step.MomentFault.{MomentFault}
 use Rattle.journal_core.specs.declared.step.Refusal.TheVariants as refusal
 use Rattle.journal_core.specs.declared.step.Sent.{Sent}
 use Rattle.journal_core.specs.declared.step.Step.TheVariants.{Close, Dequeue, Enqueue}
-use Rattle.shaper_core.specs.Faults.{IsFault}
-use Rattle.shaper_core.specs.Shapers.{AreFlushed, AreRead, FindsNone, IsDequeued, IsEnqueued, MayCome, Shaping, new_shaper}
-use Rattle.shaper_core.specs.declared.answers.Dequeued.{Dequeued}
-use Rattle.shaper_core.specs.declared.answers.Dropped.{Dropped}
-use Rattle.shaper_core.specs.declared.answers.EnqueueFault.{EnqueueFault}
-use Rattle.shaper_core.specs.declared.answers.EnqueueFault.TheVariants.{Refused, Unread}
-use Rattle.shaper_core.specs.declared.answers.Enqueued.{Enqueued}
-use Rattle.shaper_core.specs.declared.answers.Handle.{Handle}
-use Rattle.shaper_core.specs.declared.shaper.TheConstants.{RENEW_AFTER}
+use Rattle.queue_disc_core.specs.Faults.{IsFault}
+use Rattle.queue_disc_core.specs.QueueDiscs.{AreFlushed, AreRead, FindsNone, IsDequeued, IsEnqueued, MayCome, DiscState, new_disc}
+use Rattle.queue_disc_core.specs.declared.answers.Dequeued.{Dequeued}
+use Rattle.queue_disc_core.specs.declared.answers.Dropped.{Dropped}
+use Rattle.queue_disc_core.specs.declared.answers.EnqueueFault.{EnqueueFault}
+use Rattle.queue_disc_core.specs.declared.answers.EnqueueFault.TheVariants.{Refused, Unread}
+use Rattle.queue_disc_core.specs.declared.answers.Enqueued.{Enqueued}
+use Rattle.queue_disc_core.specs.declared.answers.Handle.{Handle}
+use Rattle.queue_disc_core.specs.declared.queue_disc.TheConstants.{RENEW_AFTER}
 use Rattle.maltcove_c.specs.Records.{SaysInFlow, admitted_told, dropped_told, flushed_told, idle_told, nothing_told, sent_told}
 use Rattle.maltcove_c.specs.Statuses.{close_code, enqueue_code, moment_code}
 use Rattle.maltcove_c.specs.Texts.{IsWrong, SaysParams}
@@ -34,19 +34,19 @@ use Rattle.maltcove_c.specs.declared.records.MaltcoveFlushed.{MaltcoveFlushed}
 use Rattle.maltcove_c.specs.declared.records.MaltcoveSent.{MaltcoveSent}
 use Rattle.maltcove_c.specs.declared.status.TheConstants.{BAD_PACKET, BAD_SEED, BAD_WORDS, MEMORY}
 
--- Both times there is a shaper behind the handle, and the two are in that relation.
-abbrev pub Behind : (Shaping → Shaping → Type 0) → Option Shaping → Option Shaping → Type 0
+-- Both times there is a queue disc behind the handle, and the two are in that relation.
+abbrev pub Behind : (DiscState → DiscState → Type 0) → Option DiscState → Option DiscState → Type 0
 Behind R (option.Some a) (option.Some b) = R a b
 Behind R (option.Some a) option.None = ⊥
 Behind R option.None b = ⊥
 
--- Of the shaper behind the handle, if there is one, that holds.
-abbrev pub IfBehind : (Shaping → Type 0) → Option Shaping → Type 0
+-- Of the queue disc behind the handle, if there is one, that holds.
+abbrev pub IfBehind : (DiscState → Type 0) → Option DiscState → Type 0
 IfBehind P (option.Some a) = P a
 IfBehind P option.None = Unit {0}
 
 -- A packet that may come is accepted, and C reads what is said of it.
-pub record Admits (old : Shaping) (moment : ℕ) (packet : PacketParts) (out : MaltcoveAdmitted) (new : Shaping)
+pub record Admits (old : DiscState) (moment : ℕ) (packet : PacketParts) (out : MaltcoveAdmitted) (new : DiscState)
     : Type 0 where
   pub said : Enqueued
   pub may_come : MayCome old moment
@@ -55,7 +55,7 @@ pub record Admits (old : Shaping) (moment : ℕ) (packet : PacketParts) (out : M
 
 -- An enqueue is refused for that, by the tests in their order: a drop wasn't read; the scheduler refuses the step; or
 -- memory is wanted, and no enqueue is reserved.
-pub record RefusesEnqueue (old : Shaping) (moment : ℕ) (packet : PacketParts) (answer : ℤ) : Type 0 where
+pub record RefusesEnqueue (old : DiscState) (moment : ℕ) (packet : PacketParts) (answer : ℤ) : Type 0 where
   pub fault : EnqueueFault
   pub unread : (fault ≡ Unread) ↔ (0 < old.unread)
   pub is_fault : IsFault (refusal_of old.sched.standing.state (Enqueue moment 0 packet)) fault
@@ -64,7 +64,7 @@ pub record RefusesEnqueue (old : Shaping) (moment : ℕ) (packet : PacketParts) 
 
 -- An enqueue to a flow of the caller's is refused: no packet is what the caller says, or the packet that it says is
 -- refused.
-abbrev pub RefusesInFlow : Shaping → ℕ → ℕ → ℕ → ℕ → ℕ → ℤ → Type 0
+abbrev pub RefusesInFlow : DiscState → ℕ → ℕ → ℕ → ℕ → ℕ → ℤ → Type 0
 RefusesInFlow old moment flow len ecn tag answer =
     ((answer ≡ BAD_PACKET)
     × ((packet : PacketParts) → ¬ SaysInFlow (flow % old.sched.params.flows) len ecn tag packet))
@@ -72,7 +72,7 @@ RefusesInFlow old moment flow len ecn tag answer =
     × RefusesEnqueue old moment packet answer)
 
 -- A dequeue is made that sends a packet, and C reads what is said of it.
-pub record Sends (old : Shaping) (moment : ℕ) (out : MaltcoveSent) (new : Shaping) : Type 0 where
+pub record Sends (old : DiscState) (moment : ℕ) (out : MaltcoveSent) (new : DiscState) : Type 0 where
   pub said : Dequeued
   pub sent : Sent
   pub dequeued : IsDequeued old moment said new
@@ -80,40 +80,40 @@ pub record Sends (old : Shaping) (moment : ℕ) (out : MaltcoveSent) (new : Shap
   pub told : out ≡ sent_told sent said.drops
 
 -- A dequeue is made that sends none.
-pub record Idles (old : Shaping) (moment : ℕ) (out : MaltcoveSent) (new : Shaping) : Type 0 where
+pub record Idles (old : DiscState) (moment : ℕ) (out : MaltcoveSent) (new : DiscState) : Type 0 where
   pub said : Dequeued
   pub dequeued : IsDequeued old moment said new
   pub none_sent : said.sent ≡ None
   pub told : out ≡ idle_told said.drops
 
 -- Packets are sent at that moment, one after another, and C reads of each in its place.
-abbrev pub AreSent : Shaping → ℕ → List MaltcoveSent → Shaping → Type 0
+abbrev pub AreSent : DiscState → ℕ → List MaltcoveSent → DiscState → Type 0
 AreSent old moment [] new = new ≡ old
-AreSent old moment (out ∷ outs) new = (mid : Shaping) × Sends old moment out mid × AreSent mid moment outs new
+AreSent old moment (out ∷ outs) new = (mid : DiscState) × Sends old moment out mid × AreSent mid moment outs new
 
 -- So many are, and then none waits, of which C reads in the next place.
-pub record SendsAll (old : Shaping) (moment : ℕ) (outs : List MaltcoveSent) (given : ℕ) (new : Shaping) : Type 0 where
-  pub mid : Shaping
+pub record SendsAll (old : DiscState) (moment : ℕ) (outs : List MaltcoveSent) (given : ℕ) (new : DiscState) : Type 0 where
+  pub mid : DiscState
   pub sends : AreSent old moment (take given outs) mid
   pub last : MaltcoveSent
   pub place : slice_get outs given ≡ Some last
   pub idles : Idles mid moment last new
 
 -- A dequeue is refused for its moment.
-pub record RefusesDequeue (old : Shaping) (moment : ℕ) (answer : ℤ) : Type 0 where
+pub record RefusesDequeue (old : DiscState) (moment : ℕ) (answer : ℤ) : Type 0 where
   pub fault : MomentFault
   pub is_fault : refusal_of old.sched.standing.state (Dequeue moment) ≡ Some (refusal.Moment fault)
   pub code : answer ≡ moment_code fault
 
--- A shaper is opened with these parameters and a seed, which has 16 bytes.
-pub record OpensWith (params : ParamFields) (seed : List ℕ) (new : Shaping) : Type 0 where
+-- A queue disc is opened with these parameters and a seed, which has 16 bytes.
+pub record OpensWith (params : ParamFields) (seed : List ℕ) (new : DiscState) : Type 0 where
   pub secret : Seed
   pub seed_is : secret.0 ≡ seed
   pub long : length seed ≡ 16
-  pub is_new : new ≡ new_shaper params secret RENEW_AFTER
+  pub is_new : new ≡ new_disc params secret RENEW_AFTER
 
--- A shaper is opened by words and a seed.
-pub record Opens (words seed : List ℕ) (new : Shaping) : Type 0 where
+-- A queue disc is opened by words and a seed.
+pub record Opens (words seed : List ℕ) (new : DiscState) : Type 0 where
   pub params : ParamFields
   pub says : SaysParams words params
   pub opens : OpensWith params seed new
@@ -133,7 +133,7 @@ abbrev pub RefusesSeed : List ℕ → ℤ → Type 0
 RefusesSeed seed answer = ((answer ≡ BAD_SEED) × (length seed ≢ 16)) ⊎ ((answer ≡ MEMORY) × (length seed ≡ 16))
 
 -- Why none is opened, and what C reads as the fault. Memory is taken first for the words of a text that is UTF-8, then,
--- where words and seed are right, for the shaper.
+-- where words and seed are right, for the queue disc.
 abbrev pub RefusesOpen : List ℕ → List ℕ → MaltcoveFault → ℤ → Type 0
 RefusesOpen words seed told answer =
     ((answer ≡ BAD_WORDS) × IsWrong words told)
@@ -142,25 +142,25 @@ RefusesOpen words seed told answer =
     ⊎ ((answer ≡ MEMORY) × (told ≡ nothing_told) × IsUtf8 words)
 
 -- A close is refused for that.
-pub record RefusesClose (old : Shaping) (moment : ℕ) (answer : ℤ) : Type 0 where
+pub record RefusesClose (old : DiscState) (moment : ℕ) (answer : ℤ) : Type 0 where
   pub fault : CloseFault
   pub is_fault : refusal_of old.sched.standing.state (Close moment) ≡ Some (close_refusal fault)
   pub code : answer ≡ close_code fault
 
 -- Drops are read, and C reads them: each the first of those that weren't read.
-pub record ReadsDrops (old : Shaping) (outs : List MaltcoveDropped) (new : Shaping) : Type 0 where
+pub record ReadsDrops (old : DiscState) (outs : List MaltcoveDropped) (new : DiscState) : Type 0 where
   pub drops : List Dropped
   pub reads : AreRead old drops new
   pub told : outs ≡ map dropped_told drops
 
 -- Packets that wait are flushed, and C reads them.
-pub record Flushes (old : Shaping) (outs : List MaltcoveFlushed) (new : Shaping) : Type 0 where
+pub record Flushes (old : DiscState) (outs : List MaltcoveFlushed) (new : DiscState) : Type 0 where
   pub packets : List Handle
   pub flushes : AreFlushed old packets new
   pub told : outs ≡ map flushed_told packets
 
 -- The same, and then none waits.
-pub record FlushesAllTold (old : Shaping) (outs : List MaltcoveFlushed) (new : Shaping) : Type 0 where
-  pub mid : Shaping
+pub record FlushesAllTold (old : DiscState) (outs : List MaltcoveFlushed) (new : DiscState) : Type 0 where
+  pub mid : DiscState
   pub flushes : Flushes old outs mid
   pub ends : FindsNone mid new

@@ -18,10 +18,10 @@ use Rattle.journal_core.specs.declared.event.Cause.{Cause}
 use Rattle.journal_core.specs.declared.event.Cause.TheVariants.{Codel, Overflow}
 use Rattle.journal_core.specs.declared.step.Sent.{Sent}
 use Rattle.fair_core.specs.declared.flow_view.FlowView.{FlowView}
-use Rattle.shaper_core.specs.declared.answers.Dropped.{Dropped}
-use Rattle.shaper_core.specs.declared.answers.Enqueued.{Enqueued}
-use Rattle.shaper_core.specs.declared.answers.Handle.{Handle}
-use Rattle.shaper_core.specs.declared.totals.ShaperTotals.{ShaperTotals}
+use Rattle.queue_disc_core.specs.declared.answers.Dropped.{Dropped}
+use Rattle.queue_disc_core.specs.declared.answers.Enqueued.{Enqueued}
+use Rattle.queue_disc_core.specs.declared.answers.Handle.{Handle}
+use Rattle.queue_disc_core.specs.declared.totals.QueueDiscTotals.{QueueDiscTotals}
 use Rattle.maltcove_c.specs.declared.records.MaltcoveAdmitted.{MaltcoveAdmitted}
 use Rattle.maltcove_c.specs.declared.records.MaltcoveDropped.{MaltcoveDropped}
 use Rattle.maltcove_c.specs.declared.records.MaltcoveFault.{MaltcoveFault}
@@ -113,7 +113,7 @@ abbrev pub flushed_told : Handle → MaltcoveFlushed
 flushed_told packet = record { tag = packet.tag; id = packet.id }
 
 -- what C reads of the statistics
-abbrev pub totals_told : ShaperTotals → MaltcoveTotals
+abbrev pub totals_told : QueueDiscTotals → MaltcoveTotals
 totals_told t = record {
   accepted = t.accepted;
   accepted_bytes = t.accepted_bytes;

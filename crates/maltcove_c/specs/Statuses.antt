@@ -6,8 +6,8 @@ use Rattle.journal_core.specs.declared.step.MomentFault.{MomentFault}
 use Rattle.journal_core.specs.declared.step.MomentFault.TheVariants.{TooLarge, Backwards}
 use Rattle.journal_core.specs.declared.step.Refusal.{Refusal}
 use Rattle.journal_core.specs.declared.step.Refusal.TheVariants as refusal
-use Rattle.shaper_core.specs.declared.answers.EnqueueFault.{EnqueueFault}
-use Rattle.shaper_core.specs.declared.answers.EnqueueFault.TheVariants as fault
+use Rattle.queue_disc_core.specs.declared.answers.EnqueueFault.{EnqueueFault}
+use Rattle.queue_disc_core.specs.declared.answers.EnqueueFault.TheVariants as fault
 use Rattle.maltcove_c.specs.declared.status.TheConstants.{BACKWARDS, CLOSED, EXHAUSTED, MEMORY, TOO_LARGE, UNREAD}
 
 -- why a moment is refused

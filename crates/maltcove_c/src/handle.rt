@@ -1,10 +1,10 @@
 //! A box as its pointer, or none: what C holds of a scheduler.
 
 ghost use Rattle.std.specs.Prelude.{◌≡◌, Some, None, IsSome, Option};
-ghost use Rattle.shaper_core.specs.Shapers.{Shaping};
+ghost use Rattle.queue_disc_core.specs.QueueDiscs.{DiscState};
 
 use crate::parts::Parts;
-use shaper_core::Shaper;
+use queue_disc_core::QueueDisc;
 use std::alloc::Global;
 use std::marker::{Model, Send};
 use std::ptr;
@@ -21,19 +21,19 @@ pub struct Opaque {
 pub struct Handle {
     at: *mut Opaque,
     alloc: Global,
-    ghost value: { Option Shaping },
+    ghost value: { Option DiscState },
 }
 
 impl Model for Handle {
     ghost use Rattle.std_alloc.specs.Box.Ownership.{box_owns};
     ghost use Rattle.std.specs.contracts.impls.GlobalAllocator.TheImpl as global;
-    ghost use Rattle.shaper_core.specs.contracts.shaper.Shaper as shaper;
+    ghost use Rattle.queue_disc_core.specs.contracts.queue_disc.QueueDisc as disc;
     ghost use Rattle.maltcove_c.specs.Handles.{owned_if};
 
-    ghost also_owns = { λ h. owned_if h.value (λ x. box_owns (global.ghosts.dealloc_token h.alloc) shaper.the_row h.at x) };
+    ghost also_owns = { λ h. owned_if h.value (λ x. box_owns (global.ghosts.dealloc_token h.alloc) disc.the_row h.at x) };
 }
 
-// It owns a box or nothing. A box may go to another thread where its value may, and a shaper may.
+// It owns a box or nothing. A box may go to another thread where its value may, and a queue disc may.
 unsafe impl Send for Handle {}
 
 impl Handle {
@@ -48,21 +48,21 @@ impl Handle {
     }
 
     /// That of a box.
-    pub(crate) fn of(value: Box<Shaper>) -> Handle
+    pub(crate) fn of(value: Box<QueueDisc>) -> Handle
         ensures { result.value ≡ Some value.value }
     {
         Handle::of_parts(Parts::of(value))
     }
 
     /// The box again.
-    pub(crate) fn into_box(self) -> Box<Shaper>
+    pub(crate) fn into_box(self) -> Box<QueueDisc>
         requires { IsSome self.value }
         ensures { self.value ≡ Some result.value }
     {
         self.into_parts().into_box()
     }
 
-    fn of_parts(parts: Parts<Shaper, Global>) -> Handle
+    fn of_parts(parts: Parts<QueueDisc, Global>) -> Handle
         ensures { result.value ≡ Some parts.value }
     {
         let Parts { ptr, alloc } = parts;
@@ -72,13 +72,13 @@ impl Handle {
         }
     }
 
-    fn into_parts(self) -> Parts<Shaper, Global>
+    fn into_parts(self) -> Parts<QueueDisc, Global>
         requires { IsSome self.value }
         ensures { self.value ≡ Some result.value }
     {
         let Handle { at, alloc } = self;
         Parts {
-            ptr: at as *mut Shaper,
+            ptr: at as *mut QueueDisc,
             alloc,
         }
     }

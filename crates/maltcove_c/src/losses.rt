@@ -1,24 +1,24 @@
 //! The calls that tags come back by which no dequeue gives: drops and flushes.
 
 ghost use Rattle.std.specs.Prelude.{◌≡◌, ◌<◌, ◌≤◌, IfSome, IsNone, None, drop, length, min, take};
-ghost use Rattle.shaper_core.specs.Shapers.{FindsNone, IsFlushed};
+ghost use Rattle.queue_disc_core.specs.QueueDiscs.{FindsNone, IsFlushed};
 ghost use Rattle.maltcove_c.specs.Calls.{Behind, Flushes, FlushesAllTold, IfBehind, ReadsDrops};
 ghost use Rattle.maltcove_c.specs.declared.status.TheConstants.{NOT_OPEN, OK};
 
 use crate::records::{MaltcoveDropped, MaltcoveFlushed, dropped_of, flushed_of};
 use crate::scheduler::{Maltcove, put, take};
 use crate::status::{NOT_OPEN, OK};
-use shaper_core::{Handle, Shaper};
+use queue_disc_core::{Handle, QueueDisc};
 use std::alloc::Global;
 
 /// Reads drops into the places, as many as there are of both, and says how many.
-fn read_drops(shaper: &mut Shaper, out: &mut [MaltcoveDropped]) -> usize
-    ensures many { result ≡ min (length out.old) shaper.old.unread }
-    ensures read { ReadsDrops shaper.old (take result out.new) shaper.new }
+fn read_drops(disc: &mut QueueDisc, out: &mut [MaltcoveDropped]) -> usize
+    ensures many { result ≡ min (length out.old) disc.old.unread }
+    ensures read { ReadsDrops disc.old (take result out.new) disc.new }
     ensures rest { drop result out.new ≡ drop result out.old }
 {
     for place in 0..out.len() {
-        let Some(dropped) = shaper.next_drop() else {
+        let Some(dropped) = disc.next_drop() else {
             return place;
         };
         out[place] = dropped_of(&dropped);
@@ -41,36 +41,36 @@ pub extern "C" fn maltcove_raw_drops(
         → Behind (λ a b. ReadsDrops a (take read.new out.new) b) m.old.handle.value m.new.handle.value }
     ensures rest { drop read.new out.new ≡ drop read.new out.old }
 {
-    let Some(mut shaper) = take(alloc, m) else {
+    let Some(mut disc) = take(alloc, m) else {
         *read = 0;
         return NOT_OPEN;
     };
-    *read = read_drops(&mut shaper, out) as u64;
-    put(m, shaper);
+    *read = read_drops(&mut disc, out) as u64;
+    put(m, disc);
     OK
 }
 
 /// Takes out the next packet, or none where none waits.
-fn flush_next(shaper: &mut Shaper) -> Option<Handle>
-    ensures flushed { IfSome result (λ packet. IsFlushed shaper.old packet shaper.new) }
-    ensures none { IsNone result → FindsNone shaper.old shaper.new }
+fn flush_next(disc: &mut QueueDisc) -> Option<Handle>
+    ensures flushed { IfSome result (λ packet. IsFlushed disc.old packet disc.new) }
+    ensures none { IsNone result → FindsNone disc.old disc.new }
 {
     let mut place = [Handle { tag: 0, id: 0 }];
-    if shaper.flush(&mut place) == 0 {
+    if disc.flush(&mut place) == 0 {
         return None;
     }
     Some(place[0])
 }
 
 /// Takes packets out into the places, as many as there are of both, and says how many.
-fn flush_into(shaper: &mut Shaper, out: &mut [MaltcoveFlushed]) -> usize
+fn flush_into(disc: &mut QueueDisc, out: &mut [MaltcoveFlushed]) -> usize
     ensures within { result ≤ length out.old }
-    ensures full { result ≡ length out.old → Flushes shaper.old (take result out.new) shaper.new }
-    ensures all { result < length out.old → FlushesAllTold shaper.old (take result out.new) shaper.new }
+    ensures full { result ≡ length out.old → Flushes disc.old (take result out.new) disc.new }
+    ensures all { result < length out.old → FlushesAllTold disc.old (take result out.new) disc.new }
     ensures rest { drop result out.new ≡ drop result out.old }
 {
     for place in 0..out.len() {
-        let Some(packet) = flush_next(shaper) else {
+        let Some(packet) = flush_next(disc) else {
             return place;
         };
         out[place] = flushed_of(&packet);
@@ -96,11 +96,11 @@ pub extern "C" fn maltcove_raw_flush(
         → Behind (λ a b. FlushesAllTold a (take given.new out.new) b) m.old.handle.value m.new.handle.value }
     ensures rest { drop given.new out.new ≡ drop given.new out.old }
 {
-    let Some(mut shaper) = take(alloc, m) else {
+    let Some(mut disc) = take(alloc, m) else {
         *given = 0;
         return NOT_OPEN;
     };
-    *given = flush_into(&mut shaper, out) as u64;
-    put(m, shaper);
+    *given = flush_into(&mut disc, out) as u64;
+    put(m, disc);
     OK
 }

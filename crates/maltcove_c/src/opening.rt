@@ -3,7 +3,7 @@
 ghost use Rattle.std.specs.Prelude.{◌≡◌, ◌≢◌, ◌↔◌, Err, IfErr, IfOk, IfSome, IsErr, IsOk, IsSome, None, Ok, map};
 ghost use Rattle.std.specs.Str.{IsUtf8};
 ghost use Rattle.packet_core.specs.Words.{params_of_words};
-ghost use Rattle.shaper_core.specs.Shapers.{IsClosed};
+ghost use Rattle.queue_disc_core.specs.QueueDiscs.{IsClosed};
 ghost use Rattle.maltcove_c.specs.Calls.{Behind, IfBehind, Opens, OpensWith, RefusesClose, RefusesOpen, RefusesSeed, why_code, why_told};
 ghost use Rattle.maltcove_c.specs.Records.{nothing_told};
 ghost use Rattle.maltcove_c.specs.Texts.{AreWords, AreWrong, IsWhy, SaysParams};
@@ -13,8 +13,8 @@ use crate::records::{MaltcoveFault, NOT_TEXT, fault_of, no_fault};
 use crate::scheduler::{Maltcove, put, take};
 use crate::status::{ALREADY_OPEN, BAD_SEED, BAD_WORDS, MEMORY, NOT_OPEN, OK, close_code};
 use packet_core::{Params, Seed, read_params};
+use queue_disc_core::QueueDisc;
 use sched_core::Memory;
-use shaper_core::Shaper;
 use std::alloc::Global;
 use std::str;
 
@@ -73,31 +73,31 @@ fn params_in(alloc: Global, text: &[u8]) -> Result<Params, NoParams>
 }
 
 /// A scheduler with these parameters.
-fn shaper_with(alloc: Global, params: Params, seed: [u8; 16]) -> Option<Box<Shaper>>
+fn disc_with(alloc: Global, params: Params, seed: [u8; 16]) -> Option<Box<QueueDisc>>
     ensures { IfSome result (λ s. OpensWith params seed s.value) }
 {
-    let shaper = Shaper::open(alloc, params, Seed(seed)).ok()?;
-    Box::new(alloc, shaper).ok()
+    let disc = QueueDisc::open(alloc, params, Seed(seed)).ok()?;
+    Box::new(alloc, disc).ok()
 }
 
 /// A scheduler with these parameters and that seed.
-fn shaper_seeded(alloc: Global, params: Params, seed: &[u8]) -> Result<Box<Shaper>, i32>
+fn disc_seeded(alloc: Global, params: Params, seed: &[u8]) -> Result<Box<QueueDisc>, i32>
     ensures made { IfOk result (λ s. OpensWith params seed.now s.value) }
     ensures refused { IfErr result (RefusesSeed seed.now) }
 {
     let Ok(seed) = <[u8; 16]>::try_from(seed) else {
         return Err(BAD_SEED);
     };
-    shaper_with(alloc, params, seed).ok_or(MEMORY)
+    disc_with(alloc, params, seed).ok_or(MEMORY)
 }
 
 /// A scheduler with these parameters, if there are any, and that seed.
-fn shaper_of(
+fn disc_of(
     alloc: Global,
     params: Result<Params, NoParams>,
     seed: &[u8],
     fault: &mut MaltcoveFault,
-) -> Result<Box<Shaper>, i32>
+) -> Result<Box<QueueDisc>, i32>
     requires { fault.old ≡ nothing_told }
     ensures none { IfErr params (λ why. IsErr result × (fault.new ≡ why_told why)
         × IfErr result (λ code. code ≡ why_code why)) }
@@ -111,24 +111,24 @@ fn shaper_of(
             Err(BAD_WORDS)
         }
         Err(NoParams::Memory) => Err(MEMORY),
-        Ok(params) => shaper_seeded(alloc, params, seed),
+        Ok(params) => disc_seeded(alloc, params, seed),
     }
 }
 
 /// A scheduler with the parameters that words say, if they do.
-fn shaper_said(
+fn disc_said(
     alloc: Global,
     words: &[u8],
     seed: &[u8],
     fault: &mut MaltcoveFault,
-) -> Result<Box<Shaper>, i32>
+) -> Result<Box<QueueDisc>, i32>
     requires { fault.old ≡ nothing_told }
     ensures made { IfOk result (λ s. Opens words.now seed.now s.value) }
     ensures told { IsOk result → fault.new ≡ nothing_told }
     ensures refused { IfErr result (RefusesOpen words.now seed.now fault.new) }
 {
     let params = params_in(alloc, words);
-    shaper_of(alloc, params, seed, fault)
+    disc_of(alloc, params, seed, fault)
 }
 
 /// Makes a scheduler, with the parameters that words say.
@@ -152,9 +152,9 @@ pub extern "C" fn maltcove_raw_open(
         return ALREADY_OPEN;
     }
     *fault = no_fault();
-    match shaper_said(alloc, words, seed, fault) {
-        Ok(shaper) => {
-            put(m, shaper);
+    match disc_said(alloc, words, seed, fault) {
+        Ok(disc) => {
+            put(m, disc);
             OK
         }
         Err(code) => code,
@@ -166,19 +166,19 @@ pub extern "C" fn maltcove_raw_open(
 pub extern "C" fn maltcove_raw_free(alloc: Global, m: &mut Maltcove)
     ensures { m.new.handle.value ≡ None }
 {
-    if let Some(shaper) = take(alloc, m) {
-        drop(shaper);
+    if let Some(disc) = take(alloc, m) {
+        drop(disc);
     }
 }
 
 /// Closes a scheduler.
-fn end(shaper: &mut Shaper, moment: u64) -> i32
-    ensures made { result ≡ OK → IsClosed shaper.old moment shaper.new }
-    ensures refused { result ≢ OK → RefusesClose shaper.old moment result }
-    ensures unchanged { result ≢ OK → shaper.new ≡ shaper.old }
+fn end(disc: &mut QueueDisc, moment: u64) -> i32
+    ensures made { result ≡ OK → IsClosed disc.old moment disc.new }
+    ensures refused { result ≢ OK → RefusesClose disc.old moment result }
+    ensures unchanged { result ≢ OK → disc.new ≡ disc.old }
     ensures open { result ≢ NOT_OPEN }
 {
-    match shaper.close(moment) {
+    match disc.close(moment) {
         Ok(()) => OK,
         Err(fault) => close_code(fault),
     }
@@ -192,10 +192,10 @@ pub extern "C" fn maltcove_raw_close(alloc: Global, m: &mut Maltcove, moment: u6
     ensures refused { result ≢ OK → IfBehind (λ a. RefusesClose a moment result) m.old.handle.value }
     ensures unchanged { result ≢ OK → m.new.handle.value ≡ m.old.handle.value }
 {
-    let Some(mut shaper) = take(alloc, m) else {
+    let Some(mut disc) = take(alloc, m) else {
         return NOT_OPEN;
     };
-    let code = end(&mut shaper, moment);
-    put(m, shaper);
+    let code = end(&mut disc, moment);
+    put(m, disc);
     code
 }

@@ -14,17 +14,17 @@ use crate::records::{
 use crate::scheduler::{Maltcove, put, take};
 use crate::status::{BAD_PACKET, HASHED, IDLE, NOT_OPEN, OK, enqueue_code, moment_code};
 use packet_core::{Classify, Packet};
-use shaper_core::Shaper;
+use queue_disc_core::QueueDisc;
 use std::alloc::Global;
 
 /// A packet comes.
-fn accept(shaper: &mut Shaper, moment: u64, packet: Packet, out: &mut MaltcoveAdmitted) -> i32
-    ensures made { result ≡ OK → Admits shaper.old moment packet out.new shaper.new }
-    ensures refused { result ≢ OK → RefusesEnqueue shaper.old moment packet result }
-    ensures unchanged { result ≢ OK → (shaper.new ≡ shaper.old) × (out.new ≡ out.old) }
+fn accept(disc: &mut QueueDisc, moment: u64, packet: Packet, out: &mut MaltcoveAdmitted) -> i32
+    ensures made { result ≡ OK → Admits disc.old moment packet out.new disc.new }
+    ensures refused { result ≢ OK → RefusesEnqueue disc.old moment packet result }
+    ensures unchanged { result ≢ OK → (disc.new ≡ disc.old) × (out.new ≡ out.old) }
     ensures open { result ≢ NOT_OPEN }
 {
-    match shaper.enqueue(moment, packet) {
+    match disc.enqueue(moment, packet) {
         Ok(enqueued) => {
             *out = admitted_of(&enqueued);
             OK
@@ -35,21 +35,21 @@ fn accept(shaper: &mut Shaper, moment: u64, packet: Packet, out: &mut MaltcoveAd
 
 /// The packet comes that C's record says, if it says one.
 fn accept_said(
-    shaper: &mut Shaper,
+    disc: &mut QueueDisc,
     moment: u64,
     said: &MaltcovePacket,
     out: &mut MaltcoveAdmitted,
 ) -> i32
     ensures made { result ≡ OK
-        → (packet : PacketParts) × Says said.now packet × Admits shaper.old moment packet out.new shaper.new }
+        → (packet : PacketParts) × Says said.now packet × Admits disc.old moment packet out.new disc.new }
     ensures refused { result ≢ OK
         → ((result ≡ BAD_PACKET) × ((packet : PacketParts) → ¬ Says said.now packet))
-        ⊎ ((packet : PacketParts) × Says said.now packet × RefusesEnqueue shaper.old moment packet result) }
-    ensures unchanged { result ≢ OK → (shaper.new ≡ shaper.old) × (out.new ≡ out.old) }
+        ⊎ ((packet : PacketParts) × Says said.now packet × RefusesEnqueue disc.old moment packet result) }
+    ensures unchanged { result ≢ OK → (disc.new ≡ disc.old) × (out.new ≡ out.old) }
     ensures open { result ≢ NOT_OPEN }
 {
     match packet_of(said) {
-        Some(packet) => accept(shaper, moment, packet, out),
+        Some(packet) => accept(disc, moment, packet, out),
         None => BAD_PACKET,
     }
 }
@@ -73,11 +73,11 @@ pub extern "C" fn maltcove_raw_enqueue(
         m.old.handle.value }
     ensures unchanged { result ≢ OK → (m.new.handle.value ≡ m.old.handle.value) × (out.new ≡ out.old) }
 {
-    let Some(mut shaper) = take(alloc, m) else {
+    let Some(mut disc) = take(alloc, m) else {
         return NOT_OPEN;
     };
-    let code = accept_said(&mut shaper, moment, packet, out);
-    put(m, shaper);
+    let code = accept_said(&mut disc, moment, packet, out);
+    put(m, disc);
     code
 }
 
@@ -96,15 +96,15 @@ fn remainder(number: u32, flows: u32) -> u32
 }
 
 /// The number of a flow, from any number.
-fn flow_number(shaper: &Shaper, flow: u32) -> u16
-    ensures { result ≡ flow % shaper.now.sched.params.flows }
+fn flow_number(disc: &QueueDisc, flow: u32) -> u16
+    ensures { result ≡ flow % disc.now.sched.params.flows }
 {
-    remainder(flow, shaper.params().flows()) as u16
+    remainder(flow, disc.params().flows()) as u16
 }
 
 /// A packet comes to the flow of that number, where the caller chooses flows.
 fn accept_in_flow(
-    shaper: &mut Shaper,
+    disc: &mut QueueDisc,
     moment: u64,
     flow: u32,
     len: u32,
@@ -113,18 +113,18 @@ fn accept_in_flow(
     out: &mut MaltcoveAdmitted,
 ) -> i32
     ensures made { result ≡ OK
-        → (packet : PacketParts) × SaysInFlow (flow % shaper.old.sched.params.flows) len ecn tag packet
-        × Admits shaper.old moment packet out.new shaper.new }
-    ensures hashed { (result ≡ HASHED) ↔ (shaper.old.sched.params.classify ≡ Hash) }
-    ensures refused { result ≢ OK → result ≢ HASHED → RefusesInFlow shaper.old moment flow len ecn tag result }
-    ensures unchanged { result ≢ OK → (shaper.new ≡ shaper.old) × (out.new ≡ out.old) }
+        → (packet : PacketParts) × SaysInFlow (flow % disc.old.sched.params.flows) len ecn tag packet
+        × Admits disc.old moment packet out.new disc.new }
+    ensures hashed { (result ≡ HASHED) ↔ (disc.old.sched.params.classify ≡ Hash) }
+    ensures refused { result ≢ OK → result ≢ HASHED → RefusesInFlow disc.old moment flow len ecn tag result }
+    ensures unchanged { result ≢ OK → (disc.new ≡ disc.old) × (out.new ≡ out.old) }
     ensures open { result ≢ NOT_OPEN }
 {
-    if shaper.params().classify() == Classify::Hash {
+    if disc.params().classify() == Classify::Hash {
         return HASHED;
     }
-    match packet_in_flow(flow_number(shaper, flow), len, ecn, tag) {
-        Some(packet) => accept(shaper, moment, packet, out),
+    match packet_in_flow(flow_number(disc, flow), len, ecn, tag) {
+        Some(packet) => accept(disc, moment, packet, out),
         None => BAD_PACKET,
     }
 }
@@ -151,23 +151,23 @@ pub extern "C" fn maltcove_raw_enqueue_flow(
         → IfBehind (λ a. RefusesInFlow a moment flow len ecn tag result) m.old.handle.value }
     ensures unchanged { result ≢ OK → (m.new.handle.value ≡ m.old.handle.value) × (out.new ≡ out.old) }
 {
-    let Some(mut shaper) = take(alloc, m) else {
+    let Some(mut disc) = take(alloc, m) else {
         return NOT_OPEN;
     };
-    let code = accept_in_flow(&mut shaper, moment, flow, len, ecn, tag, out);
-    put(m, shaper);
+    let code = accept_in_flow(&mut disc, moment, flow, len, ecn, tag, out);
+    put(m, disc);
     code
 }
 
 /// The next packet goes, if one waits.
-fn give(shaper: &mut Shaper, moment: u64, out: &mut MaltcoveSent) -> i32
-    ensures sent { result ≡ OK → Sends shaper.old moment out.new shaper.new }
-    ensures idle { result ≡ IDLE → Idles shaper.old moment out.new shaper.new }
-    ensures refused { result ≢ OK → result ≢ IDLE → RefusesDequeue shaper.old moment result }
-    ensures unchanged { result ≢ OK → result ≢ IDLE → (shaper.new ≡ shaper.old) × (out.new ≡ out.old) }
+fn give(disc: &mut QueueDisc, moment: u64, out: &mut MaltcoveSent) -> i32
+    ensures sent { result ≡ OK → Sends disc.old moment out.new disc.new }
+    ensures idle { result ≡ IDLE → Idles disc.old moment out.new disc.new }
+    ensures refused { result ≢ OK → result ≢ IDLE → RefusesDequeue disc.old moment result }
+    ensures unchanged { result ≢ OK → result ≢ IDLE → (disc.new ≡ disc.old) × (out.new ≡ out.old) }
     ensures open { result ≢ NOT_OPEN }
 {
-    match shaper.dequeue(moment) {
+    match disc.dequeue(moment) {
         Ok(dequeued) => match &dequeued.sent {
             Some(sent) => {
                 *out = sent_of(sent, dequeued.drops);
@@ -200,28 +200,28 @@ pub extern "C" fn maltcove_raw_dequeue(
     ensures unchanged { result ≢ OK → result ≢ IDLE
         → (m.new.handle.value ≡ m.old.handle.value) × (out.new ≡ out.old) }
 {
-    let Some(mut shaper) = take(alloc, m) else {
+    let Some(mut disc) = take(alloc, m) else {
         return NOT_OPEN;
     };
-    let code = give(&mut shaper, moment, out);
-    put(m, shaper);
+    let code = give(&mut disc, moment, out);
+    put(m, disc);
     code
 }
 
 /// Packets go until none waits or the places are full, and how many went. At a moment that is refused none goes.
-fn give_burst(shaper: &mut Shaper, moment: u64, out: &mut [MaltcoveSent], given: &mut u64) -> i32
+fn give_burst(disc: &mut QueueDisc, moment: u64, out: &mut [MaltcoveSent], given: &mut u64) -> i32
     ensures full { result ≡ OK
-        → (given.new ≡ length out.old) × AreSent shaper.old moment out.new shaper.new }
+        → (given.new ≡ length out.old) × AreSent disc.old moment out.new disc.new }
     ensures idle { result ≡ IDLE
-        → (given.new < length out.old) × SendsAll shaper.old moment out.new given.new shaper.new }
+        → (given.new < length out.old) × SendsAll disc.old moment out.new given.new disc.new }
     ensures rest { result ≡ IDLE → drop (given.new + 1) out.new ≡ drop (given.new + 1) out.old }
-    ensures refused { result ≢ OK → result ≢ IDLE → RefusesDequeue shaper.old moment result }
+    ensures refused { result ≢ OK → result ≢ IDLE → RefusesDequeue disc.old moment result }
     ensures unchanged { result ≢ OK → result ≢ IDLE
-        → (shaper.new ≡ shaper.old) × (out.new ≡ out.old) × (given.new ≡ 0) }
+        → (disc.new ≡ disc.old) × (out.new ≡ out.old) × (given.new ≡ 0) }
     ensures open { result ≢ NOT_OPEN }
 {
     for place in 0..out.len() {
-        let code = give(shaper, moment, &mut out[place]);
+        let code = give(disc, moment, &mut out[place]);
         if code != OK {
             *given = place as u64;
             return code;
@@ -251,11 +251,11 @@ pub extern "C" fn maltcove_raw_dequeue_burst(
     ensures unchanged { result ≢ OK → result ≢ IDLE
         → (m.new.handle.value ≡ m.old.handle.value) × (out.new ≡ out.old) × (given.new ≡ 0) }
 {
-    let Some(mut shaper) = take(alloc, m) else {
+    let Some(mut disc) = take(alloc, m) else {
         *given = 0;
         return NOT_OPEN;
     };
-    let code = give_burst(&mut shaper, moment, out, given);
-    put(m, shaper);
+    let code = give_burst(&mut disc, moment, out, given);
+    put(m, disc);
     code
 }

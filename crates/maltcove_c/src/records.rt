@@ -5,8 +5,8 @@ ghost use Rattle.packet_core.specs.Packets.{PacketParts};
 ghost use Rattle.maltcove_c.specs.Records.{Says, SaysInFlow, address_in, admitted_told, cause_code, dropped_told, ecn_bits, ecn_in, fault_told, flow_told, flushed_told, idle_told, mark_code, nothing_told, params_told, sent_told, totals_told};
 
 use packet_core::{Classify, Ecn, EcnUse, FiveTuple, Ip, Packet, ParamFault, Params};
+use queue_disc_core::{Dropped, Enqueued, Handle, QueueDiscTotals};
 use sched_core::{Cause, FlowView, Mark, Sent};
-use shaper_core::{Dropped, Enqueued, Handle, ShaperTotals};
 
 /// A packet that comes.
 #[repr(C)]
@@ -333,7 +333,7 @@ pub(crate) fn flushed_of(packet: &Handle) -> MaltcoveFlushed
 }
 
 /// The statistics for C.
-pub(crate) fn totals_of(totals: &ShaperTotals) -> MaltcoveTotals
+pub(crate) fn totals_of(totals: &QueueDiscTotals) -> MaltcoveTotals
     ensures { result ≡ totals_told totals.now }
 {
     MaltcoveTotals {

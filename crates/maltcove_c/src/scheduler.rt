@@ -4,7 +4,7 @@ ghost use Rattle.std.specs.Prelude.{◌≡◌, Some, None, MatchOption};
 ghost use Rattle.std.specs.Option.{is_some};
 
 use crate::handle::Handle;
-use shaper_core::Shaper;
+use queue_disc_core::QueueDisc;
 use std::alloc::Global;
 use std::marker::Send;
 use std::mem;
@@ -31,7 +31,7 @@ pub(crate) fn none(alloc: Global) -> Maltcove
 }
 
 /// Takes the scheduler out, if there is one.
-pub(crate) fn take(alloc: Global, m: &mut Maltcove) -> Option<Box<Shaper>>
+pub(crate) fn take(alloc: Global, m: &mut Maltcove) -> Option<Box<QueueDisc>>
     ensures taken { MatchOption result (m.old.handle.value ≡ None) (λ b. m.old.handle.value ≡ Some b.value) }
     ensures left { m.new.handle.value ≡ None }
 {
@@ -43,11 +43,11 @@ pub(crate) fn take(alloc: Global, m: &mut Maltcove) -> Option<Box<Shaper>>
 }
 
 /// Puts the scheduler in, where there was none.
-pub(crate) fn put(m: &mut Maltcove, shaper: Box<Shaper>)
-    ensures { m.new.handle.value ≡ Some shaper.value }
+pub(crate) fn put(m: &mut Maltcove, disc: Box<QueueDisc>)
+    ensures { m.new.handle.value ≡ Some disc.value }
 {
     *m = Maltcove {
-        handle: Handle::of(shaper),
+        handle: Handle::of(disc),
         is_open: true,
     };
 }

@@ -3,8 +3,8 @@
 ghost use Rattle.std.specs.Prelude.{◌≡◌};
 ghost use Rattle.maltcove_c.specs.Statuses.{close_code, enqueue_code, moment_code, refusal_code};
 
+use queue_disc_core::EnqueueFault;
 use sched_core::{CloseFault, MomentFault, Refusal};
-use shaper_core::EnqueueFault;
 
 /// The call was made.
 pub(crate) const OK: i32 = 0;

@@ -3,7 +3,7 @@
 ghost use Rattle.std.specs.Prelude.{◌≡◌, ◌<◌, ◌≤◌, None};
 ghost use Rattle.fair_core.specs.Shown.{flow_shown};
 ghost use Rattle.sched_core.specs.Schedulers.{flows_of};
-ghost use Rattle.shaper_core.specs.Shapers.{queued_in, totals_of};
+ghost use Rattle.queue_disc_core.specs.QueueDiscs.{queued_in, totals_of};
 ghost use Rattle.maltcove_c.specs.Calls.{IfBehind};
 ghost use Rattle.maltcove_c.specs.Records.{flow_told, params_told, totals_told};
 ghost use Rattle.maltcove_c.specs.declared.status.TheConstants.{BAD_FLOW, NOT_OPEN, OK};
@@ -11,7 +11,7 @@ ghost use Rattle.maltcove_c.specs.declared.status.TheConstants.{BAD_FLOW, NOT_OP
 use crate::records::{MaltcoveFlow, MaltcoveParams, MaltcoveTotals, flow_of, params_of, totals_of};
 use crate::scheduler::{Maltcove, put, take};
 use crate::status::{BAD_FLOW, NOT_OPEN, OK};
-use shaper_core::Shaper;
+use queue_disc_core::QueueDisc;
 use std::alloc::Global;
 
 /// The statistics of all packets so far.
@@ -25,11 +25,11 @@ pub extern "C" fn maltcove_raw_totals(
     ensures shown { IfBehind (λ a. (result ≡ OK) × (out.new ≡ totals_told (totals_of a))) m.old.handle.value }
     ensures unchanged { m.new.handle.value ≡ m.old.handle.value }
 {
-    let Some(shaper) = take(alloc, m) else {
+    let Some(disc) = take(alloc, m) else {
         return NOT_OPEN;
     };
-    *out = totals_of(&shaper.totals());
-    put(m, shaper);
+    *out = totals_of(&disc.totals());
+    put(m, disc);
     OK
 }
 
@@ -40,24 +40,24 @@ pub extern "C" fn maltcove_raw_queued(alloc: Global, m: &mut Maltcove, out: &mut
     ensures shown { IfBehind (λ a. (result ≡ OK) × (out.new ≡ queued_in a)) m.old.handle.value }
     ensures unchanged { m.new.handle.value ≡ m.old.handle.value }
 {
-    let Some(shaper) = take(alloc, m) else {
+    let Some(disc) = take(alloc, m) else {
         return NOT_OPEN;
     };
-    *out = shaper.queued();
-    put(m, shaper);
+    *out = disc.queued();
+    put(m, disc);
     OK
 }
 
 /// Shows a flow, if there is one of that number.
-fn show(shaper: &Shaper, flow: u32, out: &mut MaltcoveFlow) -> i32
-    ensures shown { flow < shaper.now.sched.params.flows
-        → (result ≡ OK) × (out.new ≡ flow_told (flow_shown (flows_of shaper.now.sched) flow)) }
-    ensures bad { shaper.now.sched.params.flows ≤ flow → (result ≡ BAD_FLOW) × (out.new ≡ out.old) }
+fn show(disc: &QueueDisc, flow: u32, out: &mut MaltcoveFlow) -> i32
+    ensures shown { flow < disc.now.sched.params.flows
+        → (result ≡ OK) × (out.new ≡ flow_told (flow_shown (flows_of disc.now.sched) flow)) }
+    ensures bad { disc.now.sched.params.flows ≤ flow → (result ≡ BAD_FLOW) × (out.new ≡ out.old) }
 {
-    if flow >= shaper.params().flows() {
+    if flow >= disc.params().flows() {
         return BAD_FLOW;
     }
-    *out = flow_of(&shaper.flow_view(flow));
+    *out = flow_of(&disc.flow_view(flow));
     OK
 }
 
@@ -76,11 +76,11 @@ pub extern "C" fn maltcove_raw_flow(
         → (result ≡ BAD_FLOW) × (out.new ≡ out.old)) m.old.handle.value }
     ensures unchanged { m.new.handle.value ≡ m.old.handle.value }
 {
-    let Some(shaper) = take(alloc, m) else {
+    let Some(disc) = take(alloc, m) else {
         return NOT_OPEN;
     };
-    let code = show(&shaper, flow, out);
-    put(m, shaper);
+    let code = show(&disc, flow, out);
+    put(m, disc);
     code
 }
 
@@ -95,11 +95,11 @@ pub extern "C" fn maltcove_raw_params(
     ensures shown { IfBehind (λ a. (result ≡ OK) × (out.new ≡ params_told a.sched.params)) m.old.handle.value }
     ensures unchanged { m.new.handle.value ≡ m.old.handle.value }
 {
-    let Some(shaper) = take(alloc, m) else {
+    let Some(disc) = take(alloc, m) else {
         return NOT_OPEN;
     };
-    *out = params_of(shaper.params());
-    put(m, shaper);
+    *out = params_of(disc.params());
+    put(m, disc);
     OK
 }
 
@@ -110,10 +110,10 @@ pub extern "C" fn maltcove_raw_is_closed(alloc: Global, m: &mut Maltcove, out: &
     ensures shown { IfBehind (λ a. (result ≡ OK) × (out.new ≡ a.sched.standing.state.closed)) m.old.handle.value }
     ensures unchanged { m.new.handle.value ≡ m.old.handle.value }
 {
-    let Some(shaper) = take(alloc, m) else {
+    let Some(disc) = take(alloc, m) else {
         return NOT_OPEN;
     };
-    *out = shaper.is_closed();
-    put(m, shaper);
+    *out = disc.is_closed();
+    put(m, disc);
     OK
 }

@@ -1,10 +1,10 @@
-//! Schedulers, engines, shapers and choosers of flows.
+//! Schedulers, engines, queue discs and choosers of flows.
 
 use crate::sizes::{LARGEST, SIZES, first, packet, params, params_of, size};
 use journal_core::{Journal, MAX_EVENTS};
 use packet_core::ParamFields;
+use queue_disc_core::QueueDisc;
 use sched_core::{Engine, FlowChooser, Sched, Step, run_steps};
-use shaper_core::Shaper;
 use std::process::Abort;
 use test_support::SEED;
 
@@ -13,7 +13,7 @@ use test_support::SEED;
 fn memory_at_once(rt: HostRuntime) {
     for number in 0..SIZES {
         schedulers_at_once(&rt, size(number) as u64);
-        shaper_at_once(&rt, size(number) as u32);
+        disc_at_once(&rt, size(number) as u32);
         chooser_at_once(&rt, size(number) as u64);
         journal_at_once(&rt, size(number));
     }
@@ -28,12 +28,12 @@ fn schedulers_at_once(rt: &(impl Abort + AllocGlobal), enqueues: u64) {
     engine.reserve(enqueues).expect(rt, "memory");
 }
 
-fn shaper_at_once(rt: &(impl Abort + AllocGlobal), limit: u32) {
+fn disc_at_once(rt: &(impl Abort + AllocGlobal), limit: u32) {
     let mut fields = ParamFields::standard();
     fields.limit = limit.min(1_048_576);
     let params = params_of(rt, fields);
-    let shaper = Shaper::open(rt.alloc(), params, SEED).expect(rt, "memory");
-    assert_eq!(rt; shaper.params().limit(), fields.limit);
+    let disc = QueueDisc::open(rt.alloc(), params, SEED).expect(rt, "memory");
+    assert_eq!(rt; disc.params().limit(), fields.limit);
 }
 
 fn chooser_at_once(rt: &(impl Abort + AllocGlobal), packets: u64) {
@@ -87,16 +87,16 @@ fn engine_fills(rt: &(impl Abort + AllocGlobal)) {
     assert_eq!(rt; rows.len(), LARGEST);
 }
 
-/// And with a shaper, whose packets wait, and one of whose drops is read before the next packet comes.
+/// And with a queue disc, whose packets wait, and one of whose drops is read before the next packet comes.
 #[test]
-fn a_shaper_fills(rt: HostRuntime) {
-    shaper_fills(&rt);
+fn a_queue_disc_fills(rt: HostRuntime) {
+    disc_fills(&rt);
 }
 
-fn shaper_fills(rt: &(impl Abort + AllocGlobal)) {
-    let mut shaper = Shaper::open(rt.alloc(), params(rt), SEED).expect(rt, "memory");
+fn disc_fills(rt: &(impl Abort + AllocGlobal)) {
+    let mut disc = QueueDisc::open(rt.alloc(), params(rt), SEED).expect(rt, "memory");
     for number in 0..LARGEST {
-        let said = shaper.enqueue(1, packet(rt, number)).expect(rt, "memory");
+        let said = disc.enqueue(1, packet(rt, number)).expect(rt, "memory");
         assert_eq!(rt; said.id, number as u64);
     }
 }

@@ -5,8 +5,8 @@ use crate::digest::Digest;
 use crate::packets::{packet, tuples, words_of};
 use crate::random::Random;
 use packet_core::{Ecn, FiveTuple, Seed, read_params};
+use queue_disc_core::{QueueDisc, QueueDiscTotals};
 use sched_core::{Cause, Mark, Sent};
-use shaper_core::{Shaper, ShaperTotals};
 use std::alloc::Global;
 
 /// The rounds of a plan.
@@ -84,7 +84,7 @@ const FULL: Plan = Plan {
     ..FEW
 };
 
-/// A shaper's parameter words, and how its packets come and go.
+/// A queue disc's parameter words, and how its packets come and go.
 struct Job {
     words: [&'static str; 4],
     plan: Plan,
@@ -147,7 +147,7 @@ pub(crate) fn rounds(alloc: Global, seed: u64, parts: u32) -> Result<u64, Fault>
     Ok(digest.value())
 }
 
-/// Opens a shaper, lets packets come and go, and adds what was sent and dropped.
+/// Opens a queue disc, lets packets come and go, and adds what was sent and dropped.
 fn run(
     alloc: Global,
     job: &Job,
@@ -159,10 +159,10 @@ fn run(
         return Err(Fault::Words);
     };
     let tuples = tuples(alloc, job.plan.tuples, job.plan.is_ipv6, random)?;
-    let mut shaper = Shaper::open(alloc, params, Seed([7; 16]))?;
+    let mut disc = QueueDisc::open(alloc, params, Seed([7; 16]))?;
     for number in 0..job.plan.waiting {
         come(
-            &mut shaper,
+            &mut disc,
             &job.plan,
             &tuples,
             u64::from(number),
@@ -176,7 +176,7 @@ fn run(
     for number in 0..rounds {
         moment = moment.wrapping_add(job.plan.gap) & ((1 << 50) - 1);
         come(
-            &mut shaper,
+            &mut disc,
             &job.plan,
             &tuples,
             u64::from(number),
@@ -185,15 +185,15 @@ fn run(
             digest,
         )?;
         if number & job.plan.pause == 0 {
-            go(&mut shaper, moment, digest)?;
+            go(&mut disc, moment, digest)?;
         }
     }
-    add_totals(&shaper.totals(), digest);
+    add_totals(&disc.totals(), digest);
     Ok(())
 }
 
 /// Adds all totals.
-fn add_totals(totals: &ShaperTotals, digest: &mut Digest) {
+fn add_totals(totals: &QueueDiscTotals, digest: &mut Digest) {
     digest.add(totals.accepted);
     digest.add(totals.accepted_bytes);
     digest.add(totals.sent);
@@ -212,7 +212,7 @@ fn add_totals(totals: &ShaperTotals, digest: &mut Digest) {
 
 /// A packet comes, and the drops for it are read.
 fn come(
-    shaper: &mut Shaper,
+    disc: &mut QueueDisc,
     plan: &Plan,
     tuples: &[FiveTuple],
     number: u64,
@@ -227,19 +227,19 @@ fn come(
         return Err(Fault::Refused);
     };
     let packet = packet(tuple, bits, plan.is_ect, number)?;
-    let Ok(enqueued) = shaper.enqueue(moment, packet) else {
+    let Ok(enqueued) = disc.enqueue(moment, packet) else {
         return Err(Fault::Refused);
     };
     digest.add(enqueued.id << 20 ^ u64::from(enqueued.flow));
     if enqueued.drops > 0 {
-        read_drops(shaper, enqueued.drops, digest);
+        read_drops(disc, enqueued.drops, digest);
     }
     Ok(())
 }
 
 /// A packet goes, and the drops before it are read.
-fn go(shaper: &mut Shaper, moment: u64, digest: &mut Digest) -> Result<(), Fault> {
-    let (sent, drops) = match shaper.dequeue(moment) {
+fn go(disc: &mut QueueDisc, moment: u64, digest: &mut Digest) -> Result<(), Fault> {
+    let (sent, drops) = match disc.dequeue(moment) {
         Ok(dequeued) => (dequeued.sent, dequeued.drops),
         Err(_) => return Err(Fault::Refused),
     };
@@ -248,7 +248,7 @@ fn go(shaper: &mut Shaper, moment: u64, digest: &mut Digest) -> Result<(), Fault
         None => digest.add(0),
     }
     if drops > 0 {
-        read_drops(shaper, drops, digest);
+        read_drops(disc, drops, digest);
     }
     Ok(())
 }
@@ -273,9 +273,9 @@ fn add_sent(sent: &Sent, digest: &mut Digest) {
 }
 
 /// Reads so many drops.
-fn read_drops(shaper: &mut Shaper, drops: u64, digest: &mut Digest) {
+fn read_drops(disc: &mut QueueDisc, drops: u64, digest: &mut Digest) {
     for _ in 0..drops {
-        if let Some(dropped) = shaper.next_drop() {
+        if let Some(dropped) = disc.next_drop() {
             let cause = match dropped.cause {
                 Cause::Codel => 0u64,
                 Cause::Overflow => 1,

@@ -1,4 +1,4 @@
--- What a handle owns may go to another thread: a box of a shaper, or nothing.
+-- What a handle owns may go to another thread: a box of a queue disc, or nothing.
 use base.Shift.{Keyless}
 use mir.Raw.{raw}
 use denote.Memory.{lone}
@@ -16,8 +16,8 @@ use Rattle.std_alloc.specs.Box.Ownership.{box_owns}
 use Rattle.std.specs.contracts.impls.GlobalAllocator.TheImpl as global
 use Rattle.std_heap.specs.contracts.Global as Heap
 use Rattle.journal_core.specs.contracts.ghost_list.GhostList as ghost_list
-use Rattle.shaper_core.specs.Shapers.{Shaping}
-use Rattle.shaper_core.specs.contracts.shaper.Shaper as shaper
+use Rattle.queue_disc_core.specs.QueueDiscs.{DiscState}
+use Rattle.queue_disc_core.specs.contracts.queue_disc.QueueDisc as disc
 use Rattle.maltcove_c.specs.Handles.{owned_if}
 use Rattle.maltcove_c.specs.contracts.handle.Handle.{the_row, the_type}
 
@@ -25,8 +25,8 @@ use Rattle.maltcove_c.specs.contracts.handle.Handle.{the_row, the_type}
 ghost_list_send : (T : RattleType) → IsSend (ghost_list.the_row T)
 ghost_list_send T = record { owned = λ d vs. ((λ vss. (tt, ((λ uss. (tt, tt)), tt))), tt); leaving = λ k f vs. tt }
 
-shaper_send : IsSend shaper.the_row
-shaper_send = search (sendable, heap.crosses, ghost_list_send) depth 60 fits 30000
+disc_send : IsSend disc.the_row
+disc_send = search (sendable, heap.crosses, ghost_list_send) depth 60 fits 30000
 
 pointer_send : IsSend RawPtr
 pointer_send = search sendable
@@ -34,10 +34,10 @@ pointer_send = search sendable
 heap_send : IsSend Heap.the_field.row
 heap_send = search sendable depth 20
 
-owned : (alloc : Heap.the_row.Denot) (at : Ptr) (value : Option Shaping)
-    → Keyless (owned_if value (λ x. box_owns (global.ghosts.dealloc_token alloc) shaper.the_row at x))
+owned : (alloc : Heap.the_row.Denot) (at : Ptr) (value : Option DiscState)
+    → Keyless (owned_if value (λ x. box_owns (global.ghosts.dealloc_token alloc) disc.the_row at x))
 owned alloc at None = tt
-owned alloc at (Some x) = (lies shaper.the_row shaper_send at x, heap.frees.frees alloc (raw (lone shaper.the_row.mir)) at)
+owned alloc at (Some x) = (lies disc.the_row disc_send at x, heap.frees.frees alloc (raw (lone disc.the_row.mir)) at)
 
 pub send : IsSend the_row
 send =

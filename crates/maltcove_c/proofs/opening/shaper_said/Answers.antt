@@ -1,6 +1,0 @@
-use Rattle.maltcove_c.proofs.opening.shaper_said.Goals as goal
-use Rattle.maltcove_c.proofs.Openings.{refused_by}
-
-pub returns-clause-refused : goal.returns-clause-refused
-returns-clause-refused c =
-    refused_by c.args.words.now c.args.seed.now c.params_in-params.result c.shaper_of.result c.shaper_of.new.fault c.params_in-params.ensures.said c.params_in-params.ensures.text c.params_in-params.ensures.wrong c.shaper_of.ensures.none c.shaper_of.ensures.told c.shaper_of.ensures.refused

@@ -1,0 +1,17 @@
+pub mod SettledDrops
+pub mod RecentDrops
+pub mod DropCounts
+pub mod StepDrops
+pub mod QueueDiscSteps
+pub mod Multisets
+pub mod Growth
+pub mod Handles
+pub mod Balance
+pub mod StepMoves
+pub mod Balanced
+pub mod SoundSteps
+pub mod Renewals
+pub mod Readings
+pub mod Refusals
+pub mod CallLaws
+pub mod QueueDiscCalls

@@ -1,0 +1,11 @@
+pub mod Drops
+pub mod DropsKept
+pub mod QueueDiscTotals
+pub mod PacketLists
+pub mod PacketListsKept
+pub mod Laws
+pub mod QueueDiscs
+pub mod Ahead
+pub mod Calls
+pub mod QueueDiscKept
+pub mod Faults

@@ -1,9 +1,0 @@
-use Rattle.std.proofs.Common.{◌∙◌, sym}
-use Rattle.std.proofs.lemmas.Bool.{true≢false}
-use Rattle.shaper_core.proofs.ShaperCalls.{made_plain}
-use Rattle.shaper_core.proofs.shaper.Shaper.admit.Goals as goal
-
-pub returns-clause-made : goal.returns-clause-made
-returns-clause-made c =
-    made_plain c.args.self.now c.args.moment c.args.packet c.accept.new.self c.accept.result
-    (λ due soon later. true≢false (sym (c.is_due.ensures.always due soon later) ∙ c.if-is_due.false)) c.accept.ensures.fits c.accept.ensures.made

@@ -1,5 +1,0 @@
-use Rattle.shaper_core.proofs.Readings.{Flushing}
-use Rattle.shaper_core.proofs.shaper.Shaper.flush.Given as goal
-
-abbrev pub invariant-loop-place : goal.invariant-loop-place
-invariant-loop-place l = Flushing l.initial.self l.initial.out l.place l.out l.self
