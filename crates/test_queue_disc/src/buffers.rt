@@ -1,6 +1,6 @@
 //! Packets whose tags are numbers of buffers, each of which is given back once.
 
-use crate::discs::{disc, packet};
+use crate::queue_discs::{disc, packet};
 use queue_disc_core::QueueDisc;
 use sched_core::Cause;
 use std::process::Abort;

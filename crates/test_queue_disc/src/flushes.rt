@@ -1,6 +1,6 @@
 //! Packets that wait are given back by a flush.
 
-use crate::discs::{disc, packet, tag_of};
+use crate::queue_discs::{disc, packet, tag_of};
 use queue_disc_core::{Dropped, Flushed, QueueDisc, QueueDiscTotals};
 use sched_core::Cause;
 use std::process::Abort;

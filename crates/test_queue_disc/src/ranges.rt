@@ -1,6 +1,6 @@
 //! QueueDiscs with a parameter at an end of its range. Such a queue disc opens where memory is ample, and a packet passes.
 
-use crate::discs::{packet, tag_of};
+use crate::queue_discs::{packet, tag_of};
 use packet_core::{Classify, EcnUse, ParamFields, Params};
 use queue_disc_core::{Dropped, QueueDisc};
 use sched_core::Cause;

@@ -1,6 +1,6 @@
 //! Drops that are read several at once.
 
-use crate::discs::{disc_of, packet, tag_of};
+use crate::queue_discs::{disc_of, packet, tag_of};
 use queue_disc_core::{Dropped, QueueDisc};
 use sched_core::Cause;
 use std::process::Abort;

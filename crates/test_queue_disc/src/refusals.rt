@@ -1,6 +1,6 @@
 //! Why an enqueue is refused, and drops that wait to be read.
 
-use crate::discs::{disc, packet};
+use crate::queue_discs::{disc, packet};
 use queue_disc_core::{Dropped, EnqueueFault, Enqueued, QueueDisc};
 use sched_core::{Cause, CloseFault, MomentFault, Refusal};
 use std::process::Abort;

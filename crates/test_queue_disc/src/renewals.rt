@@ -1,6 +1,6 @@
 //! A queue disc goes on with a scheduler as new after a number of packets.
 
-use crate::discs::{credits_of, disc_renewed_after, packet, tag_of};
+use crate::queue_discs::{credits_of, disc_renewed_after, packet, tag_of};
 use packet_core::Params;
 use queue_disc_core::{Dropped, EnqueueFault, Flushed, QueueDisc, RENEW_AFTER};
 use sched_core::{MomentFault, Refusal};
