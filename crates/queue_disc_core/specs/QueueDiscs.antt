@@ -197,7 +197,7 @@ AreRead old [] new = new ≡ old
 AreRead old (d ∷ drops) new = (mid : DiscState) × IsRead old d mid × AreRead mid drops new
 
 -- A packet is flushed: the scheduler makes a dequeue at the moment of its last step, which gives the packet, and the
--- packets that CoDel drops on the way are there to be read. All that the scheduler counts of it as sent is put aside.
+-- packets that CoDel drops on the way are there to be read. All that the scheduler counts of it as sent is counted as flushed.
 pub record IsFlushed (old : DiscState) (packet : Handle) (new : DiscState) : Type 0 where
   pub sent : Sent
   pub serves : IsServed old.sched old.sched.standing.state.last (Some sent) new.sched

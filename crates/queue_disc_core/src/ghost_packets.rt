@@ -6,8 +6,8 @@ use crate::answers::Handle;
 use sched_core::GhostList;
 use std::marker::Model;
 
-/// The packets that a queue disc accepted, those that a dequeue gave, those whose drops were read and those that were flushed,
-/// over all renewals, and the moments at which memory for a renewal was refused. It takes no memory.
+/// The packets that a queue disc accepted, those that a dequeue gave, those whose drops were read and those that were
+/// flushed, over all renewals, and the moments at which memory for a renewal was refused. It takes no memory.
 #[derive(Debug, Drop)]
 pub(crate) struct GhostPackets {
     accepted: GhostList<Handle>,

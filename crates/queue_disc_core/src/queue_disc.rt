@@ -34,16 +34,16 @@ pub const RENEW_AFTER: u64 = 1 << 39;
 /// A queue disc isn't renewed once it accepted more packets than this.
 const LAST_RENEWAL: u64 = 1 << 63;
 
-/// A packet scheduler by FQ-CoDel (RFC 8290) that stores no journal. Each packet comes back once, with its tag: where it
-/// is sent, by `dequeue`; where it is lost, as a drop, by `drops` or `next_drop`; and by `flush`. Drops stay until they
-/// are read: while one wasn't, no packet is accepted.
+/// A packet scheduler by FQ-CoDel (RFC 8290) that stores no journal. Each packet comes back once, with its tag: where
+/// it is sent, by `dequeue`; where it is lost, as a drop, by `drops` or `next_drop`; and by `flush`. Drops stay until
+/// they are read: while one wasn't, no packet is accepted.
 ///
-/// A scheduler has ids for 2^40 packets. A queue disc doesn't end there: after 2^39 packets, at the first packet that comes
-/// while nothing waits and no drop is unread, it goes on with a scheduler as new, of the same parameters and seed. CoDel's
-/// states, the flows' credits and the lists of flows start anew then; ids, moments and totals go on. It takes the memory
-/// for the new scheduler first; where that is refused it goes on with the old one, and tries again at the next such
-/// packet. `Exhausted` is left for a scheduler that wasn't idle for so long that 2^40 packets came, and for a queue disc that
-/// accepted 2^63 packets.
+/// A scheduler has ids for 2^40 packets. A queue disc doesn't end there: after 2^39 packets, at the first packet that
+/// comes while nothing waits and no drop is unread, it goes on with a scheduler as new, of the same parameters and
+/// seed. CoDel's states, the flows' credits and the lists of flows start anew then; ids, moments and totals go on. It
+/// takes the memory for the new scheduler first; where that is refused it goes on with the old one, and tries again at
+/// the next such packet. `Exhausted` is left for a scheduler that wasn't idle for so long that 2^40 packets came, and
+/// for a queue disc that accepted 2^63 packets.
 #[derive(Debug, Drop)]
 pub struct QueueDisc {
     sched: Sched<Drops>,
@@ -52,8 +52,8 @@ pub struct QueueDisc {
     past: QueueDiscTotals,
     renew_after: u64,
     packets: GhostPackets,
-    // How many enqueues the scheduler has reserved, as far as is known: it has no fewer. So it is asked for more once in
-    // many enqueues.
+    // How many enqueues the scheduler has reserved, as far as is known: it has no fewer. So it is asked for more once
+    // in many enqueues.
     ahead: u64,
 }
 
@@ -124,8 +124,8 @@ fn keep_ahead(sched: &mut Sched<Drops>, ahead: u64) -> u64
     take_ahead(sched)
 }
 
-/// Reserves as many enqueues as packets may come before as many wait as may, but for drops that the recorder has. There is
-/// memory for all of these since the queue disc was opened, so none is taken. It says how many they are.
+/// Reserves as many enqueues as packets may come before as many wait as may, but for drops that the recorder has.
+/// There is memory for all of these since the queue disc was opened, so none is taken. It says how many they are.
 // Kept out of an enqueue: few come here.
 #[inline(never)]
 fn take_ahead(sched: &mut Sched<Drops>) -> u64
@@ -407,8 +407,8 @@ impl QueueDisc {
     }
 
     /// Gives the drops that weren't read yet, as many as fit, in the order of the drops: they stand from the front of
-    /// `out`, whose rest stays as it was. It answers how many they are. It takes no memory. Drops that don't fit stay to
-    /// be read.
+    /// `out`, whose rest stays as it was. It answers how many they are. It takes no memory. Drops that don't fit stay
+    /// to be read.
     pub fn drops(&mut self, out: &mut [Dropped]) -> usize
         ensures many { result ≡ min (length out.old) self.old.unread }
         ensures read { AreRead self.old (take result out.new) self.new }
@@ -422,9 +422,9 @@ impl QueueDisc {
     }
 
     /// Takes out packets that wait, as many as fit, as dequeues at the moment of the last step do: they stand from the
-    /// front of `out`, whose rest stays as it was. It answers how many they are, and fewer than fit only where a dequeue
-    /// finds none; 0 where nothing waits. So an embedder can free its buffers. The packets count as flushed, not as
-    /// sent. What CoDel drops on the way is there to be read, as any drop. It takes no memory.
+    /// front of `out`, whose rest stays as it was. It answers how many they are, and fewer than fit only where a
+    /// dequeue finds none; 0 where nothing waits. So an embedder can free its buffers. The packets count as flushed,
+    /// not as sent. What CoDel drops on the way is there to be read, as any drop. It takes no memory.
     pub fn flush(&mut self, out: &mut [Flushed]) -> usize
         ensures many { result ≤ length out.old }
         ensures flushed { result ≡ length out.old → AreFlushed self.old (take result out.new) self.new }

@@ -1,6 +1,5 @@
-//! Tests of queue discs: each tag comes back once, drops wait to be read, why an enqueue is refused, and which parameters can
-//! be had. What is expected was
-//! worked out by hand from the rules.
+//! Tests of queue discs: each tag comes back once, drops wait to be read, why an enqueue is refused, and which
+//! parameters can be had. What is expected was worked out by hand from the rules.
 #![tactic(auto)]
 
 #[cfg(test)]

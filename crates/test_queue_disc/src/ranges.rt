@@ -1,4 +1,5 @@
-//! QueueDiscs with a parameter at an end of its range. Such a queue disc opens where memory is ample, and a packet passes.
+//! QueueDiscs with a parameter at an end of its range. Such a queue disc opens where memory is ample, and a packet
+//! passes.
 
 use crate::queue_discs::{packet, tag_of};
 use packet_core::{Classify, EcnUse, ParamFields, Params};

@@ -78,8 +78,8 @@ fn renewed_after_each_three_packets(rt: HostRuntime) {
     renew_each_time(&rt, &mut disc);
 }
 
-/// In each round the packet of flow 1 comes to a scheduler as new, whose flow 2 has no credits. That of flow 2 comes while
-/// the first one waits.
+/// In each round the packet of flow 1 comes to a scheduler as new, whose flow 2 has no credits. That of flow 2 comes
+/// while the first one waits.
 fn renew_whenever_idle<R: Abort>(rt: &R, disc: &mut QueueDisc) {
     for round in 0..4 {
         let id = 2 * round;
