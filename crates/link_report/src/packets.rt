@@ -1,7 +1,7 @@
 //! The packets of a journal, and what became of each.
 
 ghost use Rattle.std.specs.Prelude.{◌≡◌, ◌<◌, ◌≤◌, ◌+◌, ◌-◌, IfOk, IsOk, OnOk, false, length, true, vec_capacity, vec_len};
-ghost use Rattle.indexmap.specs.IndexSet.{enqueue_room};
+ghost use Rattle.indexmap.specs.IndexSet.{spare};
 ghost use Rattle.packet_core.specs.Packets.{same_tuple};
 ghost use Rattle.journal_core.specs.TupleRows.{with_new};
 ghost use Rattle.link_report.specs.Packets as Spec;
@@ -304,11 +304,11 @@ fn take_room(
     ensures tuples { tuples.new.keys ≡ tuples.old.keys }
     ensures records { records.new.items ≡ records.old.items }
     ensures more { IfOk result (λ room. more ≤ room) }
-    ensures tuple_room { IfOk result (λ room. room ≤ enqueue_room tuples.new) }
+    ensures tuple_room { IfOk result (λ room. room ≤ spare tuples.new) }
     ensures record_room { IfOk result (λ room. room ≤ vec_capacity records.new - vec_len records.new) }
 
     // Where there is memory for them already, none is refused.
-    ensures succeeds { more ≤ enqueue_room tuples.old → vec_len records.old + more ≤ vec_capacity records.old → IsOk result }
+    ensures succeeds { more ≤ spare tuples.old → vec_len records.old + more ≤ vec_capacity records.old → IsOk result }
 {
     tuples.reserve(more)?;
     records.reserve(more)?;
@@ -327,7 +327,7 @@ fn number_of(
     ensures tuples { OnOk result (tuples.new.keys ≡ with_new same_tuple tuples.old.keys tuple) }
 
     // It takes no memory where there is a place for one more.
-    ensures succeeds { 0 < enqueue_room tuples.old → IsOk result }
+    ensures succeeds { 0 < spare tuples.old → IsOk result }
 {
     if has_number(tuples, &tuple, guess) {
         return Ok(guess);
