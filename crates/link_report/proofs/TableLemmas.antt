@@ -3,7 +3,13 @@ use Rattle.std.proofs.Common.{◌≡◌, ℕ, ◌+◌, ◌<◌, List, [], ◌∷
 use Rattle.std.specs.List.{flat_map}
 use Rattle.std.proofs.lemmas.List.{flat_map_more, take_more}
 use Rattle.link_report.specs.declared.table.Table.{Table}
+use Rattle.text_core.specs.Texts as texts
 use Rattle.link_report.specs.Tables.{Adds}
+
+-- what is written to the rows within is written
+pub adds_within : (old new : Table) (more : List ℕ) → texts.Adds old.rows new.rows more → Adds old new more
+unfolding Adds texts.Adds
+adds_within old new more adds = adds
 
 -- nothing is written yet
 pub adds_none : (table : Table) → Adds table table []

@@ -6,7 +6,13 @@ use Rattle.journal_core.specs.declared.event.Event.{Event}
 use Rattle.journal_core.specs.declared.event.Event.TheVariants.{Accepted, Sent, Dropped, Closed}
 use Rattle.journal_core.specs.Notes.{note_of}
 use Rattle.trace_core.specs.declared.report.Rows.{Rows}
+use Rattle.text_core.specs.Texts as texts
 use Rattle.trace_core.specs.Report.{Adds, event_line, note_line}
+
+-- what is written to the rows within is written
+pub adds_within : (old new : Rows) (more : List ℕ) → texts.Adds old.rows new.rows more → Adds old new more
+unfolding Adds texts.Adds
+adds_within old new more adds = adds
 
 -- nothing is written yet
 pub adds_none : (rows : Rows) → Adds rows rows []
