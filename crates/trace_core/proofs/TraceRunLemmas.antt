@@ -1,12 +1,14 @@
 -- A text's steps, made as its rows are taken.
-use Rattle.std.proofs.Common.{◌≡◌, ◌∙◌, ℕ, List, [], ◌∷◌, ◌++◌, Option, Some, None, Result, length, map, drop, refl, sym, subst, ap, arith, ◌-◌, take, append-nil, append_assoc, length-append}
-use Rattle.std.specs.Prelude.{MatchOption, OnOk}
+use Rattle.std.proofs.Common.{◌≡◌, ◌∙◌, ℕ, List, [], ◌∷◌, ◌++◌, Option, Some, None, Result, Ok, Err, length, map, drop, refl, sym, subst, ap, arith, ◌-◌, take, append-nil, append_assoc, length-append}
+use Rattle.std.specs.Prelude.{IfOk, MatchOption, OnOk}
 use Rattle.std.specs.List.{flat_map}
 use Rattle.std.proofs.Math.Seq.{drop-append_seam}
 use Rattle.std.proofs.lemmas.List.{flat_map_more, map-append, take_all}
 use Rattle.std.proofs.lemmas.List.Elements.{filter_map-append}
 use Rattle.std.proofs.lemmas.Result.{on_ok_weaker}
 use Rattle.journal_core.specs.Runs.{Takes, journal_of}
+use Rattle.journal_core.specs.Tallies.{HasSeen}
+use Rattle.journal_core.specs.declared.tally.Tally.{Tally}
 use Rattle.sched_core.specs.Schedulers.{Scheduler, discipline_of}
 use Rattle.packet_core.specs.Packets.{PacketParts}
 use Rattle.journal_core.specs.declared.event.Cause.TheVariants.{Codel, Overflow}
@@ -22,11 +24,11 @@ use Rattle.journal_core.specs.Disciplines.{Discipline, Given}
 use Rattle.journal_core.specs.Happened.{Acceptance, acceptance_of, acceptances}
 use Rattle.journal_core.specs.Notes.{note_of}
 use Rattle.journal_core.specs.State.{State, refusal_of}
-use Rattle.journal_core.specs.Steps.{Makes, Steps, drop_event, sent_events}
+use Rattle.journal_core.specs.Steps.{Admits, Makes, Steps, drop_event, sent_events}
 use Rattle.journal_core.proofs.LossLemmas.{drops_accept_none}
 use Rattle.journal_core.proofs.RunLemmas.{journal_push, runs_push}
 use Rattle.trace_core.proofs.ReportLemmas.{adds_both, adds_none, noted_lines}
-use Rattle.trace_core.specs.Report.{AcceptsBy, Adds, RunsStep, RunsSteps, accepted_flow, answer_lines, made_lines, note_line}
+use Rattle.trace_core.specs.Report.{Adds, RunsStep, RunsSteps, answer_lines, made_lines, note_line}
 use Rattle.trace_core.specs.declared.report.Rows.{Rows}
 
 -- no step is made yet
@@ -69,40 +71,68 @@ runs_more steps step old mid new before between after run more =
       told = rw (← flat_map_more made_lines [] run.made more.made) (adds_both _ _ _ (flat_map made_lines run.made) (made_lines more.made) run.told more.told);
     }
 
--- A dequeue accepts nothing,
+-- a dequeue accepts nothing
 sent_accepts_none : (moment : ℕ) (given : Option Given) → acceptances (sent_events moment given) ≡ []
 sent_accepts_none moment None = refl
 sent_accepts_none moment (Some g) = refl
 
--- and a step that isn't refused accepts its packet, if it has one.
-makes_accepts : {Q : Type 0} (d : Discipline Q) (old : State Q) (step : Step) (said : Answer) (made : List Event) (new : State Q) → Makes d old step said made new → AcceptsBy step made
-makes_accepts d old (Enqueue moment lane packet) said made new makes =
-    subst (AcceptsBy (Enqueue moment lane packet)) (sym makes.1.told) (_, refl, refl, drops_accept_none moment Overflow makes.1.lost)
-makes_accepts d old (Dequeue moment) said made new (given, _, serves) =
-    let none = filter_map-append acceptance_of (map (drop_event moment Codel) serves.dropped) (sent_events moment given) ∙ (λ i. drops_accept_none moment Codel serves.dropped i ++ sent_accepts_none moment given i) in
-    ap acceptances serves.told ∙ none
-makes_accepts d old (Close moment) said made new makes = ap acceptances makes.1.told
+dequeue_makes_none : {Q : Type 0} (d : Discipline Q) (old : State Q) (moment : ℕ) (said : Answer) (made : List Event) (new : State Q)
+    → Makes d old (Dequeue moment) said made new → acceptances made ≡ []
+dequeue_makes_none d old moment said made new (given, _, serves) =
+    ap acceptances serves.told ∙ filter_map-append acceptance_of (map (drop_event moment Codel) serves.dropped) (sent_events moment given)
+    ∙ (λ i. drops_accept_none moment Codel serves.dropped i ++ sent_accepts_none moment given i)
 
-refused_accepts : (step : Step) → AcceptsBy step []
-refused_accepts (Enqueue moment lane packet) = tt
-refused_accepts (Dequeue moment) = refl
-refused_accepts (Close moment) = refl
-
-pub step_accepts : {Q : Type 0} (d : Discipline Q) (old : State Q) (step : Step) (said : Answer) (made : List Event) (new : State Q) → Steps d old step said made new → AcceptsBy step made
-step_accepts d old step said made new = by (refusal_of old step)
+pub dequeue_accepts_none : {Q : Type 0} (d : Discipline Q) (old : State Q) (moment : ℕ) (said : Answer) (made : List Event) (new : State Q)
+    → Steps d old (Dequeue moment) said made new → acceptances made ≡ []
+dequeue_accepts_none d old moment said made new = by (refusal_of old (Dequeue moment))
   where
-    by : (refusal : Option Refusal) → MatchOption refusal (Makes d old step said made new) (λ r. (said ≡ answer.Refused r) × (made ≡ []) × (new ≡ old)) → AcceptsBy step made
-    by None makes = makes_accepts d old step said made new makes
-    by (Some r) refused = subst (AcceptsBy step) (sym refused.1) (refused_accepts step)
+    by : (refusal : Option Refusal) → MatchOption refusal (Makes d old (Dequeue moment) said made new) (λ r. (said ≡ answer.Refused r) × (made ≡ []) × (new ≡ old)) → acceptances made ≡ []
+    by None makes = dequeue_makes_none d old moment said made new makes
+    by (Some r) refused = ap acceptances refused.1
 
--- an enqueue whose first note is of an acceptance accepts that packet alone
-pub accepts_one : (moment lane : ℕ) (packet : PacketParts) (made : List Event) (flow : ℕ) → AcceptsBy (Enqueue moment lane packet) made → accepted_flow (map note_of made) ≡ Some flow
-    → (a : Acceptance) × (acceptances made ≡ a ∷ []) × (a.packet ≡ packet) × (a.flow ≡ flow)
-accepts_one moment lane packet [] flow accepts is = absurd cc
-accepts_one moment lane packet (Accepted l id m f p ∷ rest) flow (a, is_first, its_packet, none) is =
-    let b : Acceptance = record { id = id; moment = m; lane = l; flow = f; packet = p } in
-    let same : b ≡ a = cc in
-    (b, ap (λ more. b ∷ more) none, ap (λ (x : Acceptance). x.packet) same ∙ its_packet, cc)
-accepts_one moment lane packet (Sent id m ecn mark ∷ rest) flow accepts is = absurd cc
-accepts_one moment lane packet (Dropped id m why ∷ rest) flow accepts is = absurd cc
-accepts_one moment lane packet (Closed m ∷ rest) flow accepts is = absurd cc
+-- and a close neither
+pub close_accepts_none : {Q : Type 0} (d : Discipline Q) (old : State Q) (moment : ℕ) (said : Answer) (made : List Event) (new : State Q)
+    → Steps d old (Close moment) said made new → acceptances made ≡ []
+close_accepts_none d old moment said made new = by (refusal_of old (Close moment))
+  where
+    by : (refusal : Option Refusal) → MatchOption refusal (Makes d old (Close moment) said made new) (λ r. (said ≡ answer.Refused r) × (made ≡ []) × (new ≡ old)) → acceptances made ≡ []
+    by None makes = ap acceptances makes.1.told
+    by (Some r) refused = ap acceptances refused.1
+
+-- an enqueue that isn't refused accepts its packet, into the flow of its five-tuple
+pub enqueue_accepts : {Q : Type 0} (d : Discipline Q) (old : State Q) (moment lane : ℕ) (packet : PacketParts) (made : List Event) (new : State Q)
+    → Admits d old moment lane packet made new
+    → (a : Acceptance) × (acceptances made ≡ a ∷ []) × (a.packet ≡ packet) × (a.flow ≡ d.flow_of packet.tuple)
+enqueue_accepts d old moment lane packet made new admits =
+    let a : Acceptance = record { id = old.next_id; moment = moment; lane = lane; flow = d.flow_of packet.tuple; packet = packet } in
+    (a, ap acceptances admits.told ∙ ap (λ more. a ∷ more) (drops_accept_none moment Overflow admits.lost), refl, refl)
+
+-- the acceptances of a journal that a step's events were added to
+pub accepted_more : (old new made : List Event) (more : List Acceptance) → new ≡ old ++ made → acceptances made ≡ more → acceptances new ≡ acceptances old ++ more
+accepted_more old new made more joined are = ap acceptances joined ∙ filter_map-append acceptance_of old made ∙ ap (λ more. acceptances old ++ more) are
+
+-- and those where it accepts nothing
+pub accepted_same : (old new made : List Event) → new ≡ old ++ made → acceptances made ≡ [] → acceptances new ≡ acceptances old
+accepted_same old new made joined none = accepted_more old new made [] joined none ∙ append-nil (acceptances old)
+
+-- where a step accepts nothing, all packets that were accepted have come to the tally still
+pub none_seen : {E : Type 0} (r : Result Answer E) (tally : Tally) (step : Step) (old new : Scheduler)
+    → IfOk r (λ said. Takes (discipline_of old) old.standing step said new.standing)
+    → ((said : Answer) (made : List Event) → Steps (discipline_of old) old.standing.state step said made new.standing.state → acceptances made ≡ [])
+    → HasSeen tally (acceptances old.standing.events) → OnOk r (HasSeen tally (acceptances new.standing.events))
+none_seen (Ok said) tally step old new takes none seen = rw (accepted_same old.standing.events new.standing.events takes.made takes.journal (none said takes.made takes.steps)) seen
+none_seen (Err e) tally step old new takes none seen = tt
+
+-- so where a dequeue is made,
+pub dequeue_seen : {E : Type 0} (r : Result Answer E) (tally : Tally) (moment : ℕ) (old new : Scheduler)
+    → IfOk r (λ said. Takes (discipline_of old) old.standing (Dequeue moment) said new.standing)
+    → HasSeen tally (acceptances old.standing.events) → OnOk r (HasSeen tally (acceptances new.standing.events))
+dequeue_seen r tally moment old new takes seen =
+    none_seen r tally (Dequeue moment) old new takes (λ said made steps. dequeue_accepts_none (discipline_of old) old.standing.state moment said made new.standing.state steps) seen
+
+-- and where a close is
+pub close_seen : {E : Type 0} (r : Result Answer E) (tally : Tally) (moment : ℕ) (old new : Scheduler)
+    → IfOk r (λ said. Takes (discipline_of old) old.standing (Close moment) said new.standing)
+    → HasSeen tally (acceptances old.standing.events) → OnOk r (HasSeen tally (acceptances new.standing.events))
+close_seen r tally moment old new takes seen =
+    none_seen r tally (Close moment) old new takes (λ said made steps. close_accepts_none (discipline_of old) old.standing.state moment said made new.standing.state steps) seen

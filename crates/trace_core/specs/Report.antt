@@ -169,19 +169,3 @@ pub record RunsSteps (steps : List Step) (old new : Scheduler) (before after : R
 abbrev pub RunsText : List ℕ → Scheduler → Scheduler → Rows → Rows → Type 0
 RunsText text old new before after =
     (steps : List Step) × (steps_of text ≡ Ok steps) × RunsSteps steps old new before after
-
--- What a step accepts, by its events: an enqueue its packet, if it has an event at all, and another step nothing.
-abbrev pub AcceptsBy : Step → List Event → Type 0
-AcceptsBy (Enqueue moment lane packet) [] = Unit {0}
-AcceptsBy (Enqueue moment lane packet) (first ∷ rest) =
-    (a : Acceptance) × (acceptance_of first ≡ Some a) × (a.packet ≡ packet) × (acceptances rest ≡ [])
-AcceptsBy (Dequeue moment) made = acceptances made ≡ []
-AcceptsBy (Close moment) made = acceptances made ≡ []
-
--- the flow that the first event accepts a packet into, by notes of the events
-abbrev pub accepted_flow : List Note → Option ℕ
-accepted_flow [] = None
-accepted_flow (note.Accepted flow id ∷ rest) = Some flow
-accepted_flow (note.Sent ecn id ∷ rest) = None
-accepted_flow (note.Dropped why id ∷ rest) = None
-accepted_flow (note.Closed ∷ rest) = None

@@ -4,12 +4,12 @@ ghost use Rattle.std.specs.Result.{IsOkUnless};
 ghost use Rattle.std.specs.Io.KnownBytes.{Keeps};
 ghost use Rattle.packet_core.specs.declared.flow.Seed.{Seed};
 ghost use Rattle.packet_core.specs.declared.params.ParamFields.{ParamFields};
-ghost use Rattle.journal_core.specs.Happened.{Acceptance, acceptances};
-ghost use Rattle.journal_core.specs.Notes.{note_of};
+ghost use Rattle.journal_core.specs.Happened.{acceptances};
+ghost use Rattle.journal_core.specs.Runs.{Takes};
 ghost use Rattle.journal_core.specs.Tallies.{HasSeen};
-ghost use Rattle.journal_core.specs.declared.event.Event.{Event};
-ghost use Rattle.sched_core.specs.Schedulers.{new_scheduler};
-ghost use Rattle.trace_core.specs.Report.{AcceptsBy, IsReportOf, RunsStep, RunsText, accepted_flow};
+ghost use Rattle.journal_core.specs.declared.step.Step.TheVariants.{Enqueue};
+ghost use Rattle.sched_core.specs.Schedulers.{discipline_of, new_scheduler};
+ghost use Rattle.trace_core.specs.Report.{IsReportOf, RunsStep, RunsText};
 ghost use Rattle.row_core.specs.Streams.{EndsWith, IsEnd, IsReadFailure, IsWriteFailure, WentOn};
 ghost use Rattle.row_core.specs.Traces.{HasTaken, IsFaultOf, IsRowsFault, ReadFails, TextReader, reader_of};
 ghost use Rattle.row_core.specs.declared.faults.TraceFault.{TraceFault};
@@ -18,13 +18,13 @@ ghost use Rattle.trace_core.specs.declared.trace_run.RunFault.TheVariants.{Memor
 
 use crate::report::Rows;
 use crate::streams::Sink;
-use journal_core::{Note, Noted, Tally};
-use packet_core::{Params, Seed};
+use journal_core::{Noted, Tally};
+use packet_core::{Packet, Params, Seed};
 use row_core::{
     Interruptions, MAX_BYTES, MAX_INTERRUPTIONS, Next, Source, TraceFault, TraceFaultKind,
     TraceRows, read_text,
 };
-use sched_core::{Memory, Sched, Step};
+use sched_core::{Answer, Memory, Refusal, Sched, Step};
 use std::alloc::{AllocError, Global};
 use std::io::{Read, Write};
 use thiserror::Error;
@@ -198,33 +198,52 @@ fn run_step(
     ensures seen { OnOk result (HasSeen tally.new (acceptances sched.new.standing.events)) }
 {
     let first = sched.recorder().notes().len();
-    let answer = sched.make(step)?;
-    let own_notes = &sched.recorder().notes()[first..];
-    tally_step(tally, step, own_notes)?;
-    report.step(answer, own_notes)
+    let answer = make_step(sched, step, tally)?;
+    report.step(answer, &sched.recorder().notes()[first..])
 }
 
-/// Has the packet tallied that a step accepted, if it did, by notes of its events.
-fn tally_step(tally: &mut Tally, step: &Step, own_notes: &[Note]) -> Result<(), Memory>
-    ensures { OnOk result ((accepted : List Acceptance) → (made : List Event)
-        → own_notes.now ≡ map note_of made → AcceptsBy step.now made
-        → HasSeen tally.old accepted → HasSeen tally.new (accepted ++ acceptances made)) }
+/// Makes a step, and has its packet tallied, if it accepted one.
+fn make_step(sched: &mut Sched<Noted>, step: &Step, tally: &mut Tally) -> Result<Answer, Memory>
+    requires { HasSeen tally.old (acceptances sched.old.standing.events) }
+    ensures made { IfOk result
+        (λ said. Takes (discipline_of sched.old) sched.old.standing step.now said sched.new.standing) }
+    ensures params { OnOk result (sched.new.params ≡ sched.old.params) }
+    ensures seed { OnOk result (sched.new.seed ≡ sched.old.seed) }
+    ensures seen { OnOk result (HasSeen tally.new (acceptances sched.new.standing.events)) }
 {
-    if let Step::Enqueue { packet, .. } = step {
-        if let Some(flow) = accepted_flow(own_notes) {
-            tally.accept(packet.tuple(), flow)?;
-        }
+    match *step {
+        Step::Enqueue {
+            moment,
+            lane,
+            packet,
+        } => make_enqueue(sched, moment, lane, packet, tally),
+        Step::Dequeue { moment: _ } => sched.make(step),
+        Step::Close { moment: _ } => sched.make(step),
     }
-    Ok(())
 }
 
-/// The flow that the first event accepts a packet into, if it does.
-fn accepted_flow(notes: &[Note]) -> Option<u32>
-    ensures { result ≡ accepted_flow notes.now }
+/// Makes an enqueue. Where the packet is accepted, it is tallied in the flow that the scheduler says.
+fn make_enqueue(
+    sched: &mut Sched<Noted>,
+    moment: u64,
+    lane: u32,
+    packet: Packet,
+    tally: &mut Tally,
+) -> Result<Answer, Memory>
+    requires { HasSeen tally.old (acceptances sched.old.standing.events) }
+    ensures made { IfOk result (λ said.
+        Takes (discipline_of sched.old) sched.old.standing (Enqueue moment lane packet) said sched.new.standing) }
+    ensures params { OnOk result (sched.new.params ≡ sched.old.params) }
+    ensures seed { OnOk result (sched.new.seed ≡ sched.old.seed) }
+    ensures seen { OnOk result (HasSeen tally.new (acceptances sched.new.standing.events)) }
 {
-    match notes.first() {
-        Some(Note::Accepted { flow, .. }) => Some(*flow),
-        _ => None,
+    match sched.enqueue(moment, lane, packet) {
+        Ok(admitted) => {
+            tally.accept(packet.tuple(), admitted.flow)?;
+            Ok(Answer::Accepted)
+        }
+        Err(Refusal::Memory) => Err(AllocError),
+        Err(refusal) => Ok(Answer::Refused(refusal)),
     }
 }
 

@@ -15,8 +15,8 @@ returns c =
     let digits : listed c.of-digits.result ≡ summary_fields (summary_of c.args.span group.packets) = c.of-digits.ensures ∙ ap summary_fields (rw c.packets.ensures at (c.in_ok-summary.ensures {u = tt})) in
     let number : c.as_bytes.result.now ≡ decimal group.number = c.as_bytes.ensures ∙ c.of-number.ensures ∙ ap decimal c.number.ensures in
     let proto : c.as_bytes-2.result.now ≡ decimal group.tuple.proto = c.as_bytes-2.ensures ∙ c.of-proto.ensures ∙ ap decimal (c.from.ensures ∙ ap (λ (t : FiveTuple). t.proto) c.tuple-tuple.ensures) in
-    let src : c.as_bytes-3.result.now ≡ address_text group.tuple.src = c.as_bytes-3.ensures.value ∙ c.in_ok-src.ensures {u = tt} ∙ ap (λ (t : FiveTuple). address_text t.src) c.tuple-tuple.ensures in
-    let dst : c.as_bytes-4.result.now ≡ address_text group.tuple.dst = c.as_bytes-4.ensures.value ∙ c.in_ok-dst.ensures {u = tt} ∙ ap (λ (t : FiveTuple). address_text t.dst) c.tuple-tuple.ensures in
+    let src : c.as_bytes-3.result.now ≡ address_text group.tuple.src = c.as_bytes-3.ensures ∙ c.of-src.ensures ∙ ap (λ (t : FiveTuple). address_text t.src) c.tuple-tuple.ensures in
+    let dst : c.as_bytes-4.result.now ≡ address_text group.tuple.dst = c.as_bytes-4.ensures ∙ c.of-dst.ensures ∙ ap (λ (t : FiveTuple). address_text t.dst) c.tuple-tuple.ensures in
     let sport : c.as_bytes-5.result.now ≡ decimal group.tuple.sport = c.as_bytes-5.ensures ∙ c.of-sport.ensures ∙ ap decimal (c.from-2.ensures ∙ ap (λ (t : FiveTuple). t.sport) c.tuple-tuple.ensures) in
     let dport : c.as_bytes-6.result.now ≡ decimal group.tuple.dport = c.as_bytes-6.ensures ∙ c.of-dport.ensures ∙ ap decimal (c.from-3.ensures ∙ ap (λ (t : FiveTuple). t.dport) c.tuple-tuple.ensures) in
     let flow : c.as_bytes-7.result.now ≡ decimal (first_flow group.packets) = c.as_bytes-7.ensures ∙ c.of-flow.ensures ∙ ap decimal (c.from-4.ensures ∙ c.first_flow.ensures ∙ ap first_flow c.packets-2.ensures) in
