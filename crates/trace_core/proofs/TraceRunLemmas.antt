@@ -1,5 +1,5 @@
 -- A text's steps, made as its rows are taken.
-use Rattle.std.proofs.Common.{◌≡◌, ◌∙◌, ℕ, List, [], ◌∷◌, ◌++◌, Option, Some, None, Result, Ok, Err, length, map, drop, refl, sym, subst, ap, arith, ◌-◌, take, append-nil, append_assoc, length-append}
+use Rattle.std.proofs.Common.{◌≡◌, ◌∙◌, ℕ, List, [], ◌∷◌, ◌++◌, Option, Some, None, Result, Ok, Err, length, map, drop, refl, sym, ap, arith, ◌-◌, take, append-nil, append_assoc, length-append}
 use Rattle.std.specs.Prelude.{IfOk, MatchOption, OnOk}
 use Rattle.std.specs.List.{flat_map}
 use Rattle.std.proofs.Math.Seq.{drop-append_seam}
@@ -13,13 +13,12 @@ use Rattle.sched_core.specs.Schedulers.{Scheduler, discipline_of}
 use Rattle.packet_core.specs.Packets.{PacketParts}
 use Rattle.journal_core.specs.declared.event.Cause.TheVariants.{Codel, Overflow}
 use Rattle.journal_core.specs.declared.event.Event.{Event}
-use Rattle.journal_core.specs.declared.event.Event.TheVariants.{Accepted, Sent, Dropped, Closed}
 use Rattle.journal_core.specs.declared.note.Note.{Note}
 use Rattle.journal_core.specs.declared.outcome.Answer.{Answer}
 use Rattle.journal_core.specs.declared.outcome.Answer.TheVariants as answer
 use Rattle.journal_core.specs.declared.step.Refusal.{Refusal}
 use Rattle.journal_core.specs.declared.step.Step.{Step}
-use Rattle.journal_core.specs.declared.step.Step.TheVariants.{Enqueue, Dequeue, Close}
+use Rattle.journal_core.specs.declared.step.Step.TheVariants.{Dequeue, Close}
 use Rattle.journal_core.specs.Disciplines.{Discipline, Given}
 use Rattle.journal_core.specs.Happened.{Acceptance, acceptance_of, acceptances}
 use Rattle.journal_core.specs.Notes.{note_of}

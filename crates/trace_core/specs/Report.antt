@@ -1,12 +1,10 @@
 -- The text of a run's report.
-use Rattle.std.specs.Prelude.{◌≡◌, ◌<◌, length, ℕ, Bool, true, false, List, [], ◌∷◌, ◌++◌, Some, Ok, map, Option, None}
+use Rattle.std.specs.Prelude.{◌≡◌, ◌<◌, ℕ, Bool, true, false, List, [], ◌∷◌, ◌++◌, Ok}
 use Rattle.std.specs.Prelude.{codes}
 use Rattle.std.specs.Fmt.{decimal}
-use Rattle.std.specs.List.{flat_map, join_with_byte}
+use Rattle.std.specs.List.{flat_map}
 use Rattle.journal_core.specs.Runs.{Made, Runs, journal_of}
 use Rattle.journal_core.specs.Statistics.{statistics}
-use Rattle.journal_core.specs.declared.event.Cause.{Cause}
-use Rattle.journal_core.specs.declared.event.Cause.TheVariants as cause
 use Rattle.journal_core.specs.declared.event.Event.{Event}
 use Rattle.journal_core.specs.declared.event.Event.TheVariants as event
 use Rattle.journal_core.specs.declared.outcome.Answer.{Answer}
@@ -19,7 +17,6 @@ use Rattle.journal_core.specs.declared.totals.Totals.{Totals}
 use Rattle.journal_core.specs.declared.note.Note.{Note}
 use Rattle.journal_core.specs.declared.note.Note.TheVariants as note
 use Rattle.journal_core.specs.declared.tuple_rows.TupleRow.{TupleRow}
-use Rattle.journal_core.specs.Happened.{Acceptance, acceptance_of, acceptances}
 use Rattle.journal_core.specs.TupleRows.{tuple_rows}
 use Rattle.packet_core.specs.declared.flow.Seed.{Seed}
 use Rattle.packet_core.specs.declared.params.ParamFields.{ParamFields}
@@ -27,7 +24,6 @@ use Rattle.fair_core.specs.FairQueues.{FairQueues, no_queues}
 use Rattle.fair_core.specs.FqCodel.{fq_codel}
 use Rattle.journal_core.specs.State.{State, opening_state}
 use Rattle.journal_core.specs.declared.step.Step.{Step}
-use Rattle.journal_core.specs.declared.step.Step.TheVariants.{Enqueue, Dequeue, Close}
 use Rattle.sched_core.specs.Schedulers.{Scheduler, discipline_of}
 use Rattle.journal_core.specs.Steps.{Steps}
 use Rattle.row_core.specs.Traces.{steps_of, trace_of}

@@ -1,5 +1,5 @@
 //! The run of a trace: its steps are made as its rows are read, and the report is written.
-ghost use Rattle.std.specs.Prelude.{◌≡◌, ◌≢◌, ◌≤◌, ◌<◌, ◌+◌, ◌++◌, ◌⊎◌, ℕ, List, IfErr, IfOk, IfSome, OnErr, OnOk, [], length, map, take};
+ghost use Rattle.std.specs.Prelude.{◌≡◌, ◌≢◌, ◌≤◌, ◌<◌, ◌+◌, ◌++◌, ◌⊎◌, ℕ, List, IfErr, IfOk, IfSome, OnErr, OnOk, [], length, take};
 ghost use Rattle.std.specs.Result.{IsOkUnless};
 ghost use Rattle.std.specs.Io.KnownBytes.{Keeps};
 ghost use Rattle.packet_core.specs.declared.flow.Seed.{Seed};
