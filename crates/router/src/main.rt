@@ -1,4 +1,5 @@
-//! A router's buffers: one pool, and each buffer is given back at its packet's fate.
+//! A router's buffers: one pool, and each buffer is given back once: after its packet's bytes were sent, where the packet
+//! is lost, or at the end.
 #![tactic(auto)]
 
 ghost use Rattle.std.specs.Prelude.{◌≡◌, []};
@@ -49,7 +50,7 @@ impl Pool {
     }
 }
 
-/// It gives a packet's buffer back where the packet is sent or lost. What it was told stands in proofs alone.
+/// It gives a packet's buffer back where the packet is lost. What it was told stands in proofs alone.
 #[derive(Drop)]
 struct Returns<'a> {
     pool: &'a Pool,
@@ -90,7 +91,7 @@ impl Recorder for Returns<'_> {
     fn send(&mut self, served: &Served, moment: u64) {
         self.told = self.told.and(&Event::departure(served, moment));
         self.sent = self.sent.and(&served.waiting);
-        self.pool.give_back(&served.waiting.packet);
+        // The dequeue answers with the packet next. Its buffer has the bytes that go out then.
     }
 
     fn lose(&mut self, packet: &Waiting, moment: u64, cause: Cause) {
@@ -120,6 +121,8 @@ fn main(rt: HostRuntime) -> Result<()> {
         receive(&rt, &pool, &mut sched, moment)?;
     }
     if let Some(sent) = sched.dequeue(5)? {
+        // Here a router sends the buffer's bytes. Then the buffer is free.
+        pool.give_back(&sent.packet);
         println!(rt;
             "buffer {} leaves, {} are free",
             sent.packet.tag(),
