@@ -1,5 +1,5 @@
 -- A text's steps, made as its rows are taken.
-use Rattle.std.proofs.Common.{◌≡◌, ◌∙◌, ℕ, List, [], ◌∷◌, ◌++◌, Option, Some, None, Result, Ok, Err, length, map, drop, refl, sym, ap, arith, ◌-◌, take, append-nil, append_assoc, length-append}
+use Rattle.std.proofs.Common.{◌≡◌, ◌⊎◌, ◌∙◌, inl, inr, ℕ, List, [], ◌∷◌, ◌++◌, Option, Some, None, Result, Ok, Err, length, map, drop, refl, sym, ap, arith, ◌-◌, take, append-nil, append_assoc, length-append}
 use Rattle.std.specs.Prelude.{IfOk, MatchOption, OnOk}
 use Rattle.std.specs.List.{flat_map}
 use Rattle.std.proofs.Math.Seq.{drop-append_seam}
@@ -135,3 +135,16 @@ pub close_seen : {E : Type 0} (r : Result Answer E) (tally : Tally) (moment : �
     → HasSeen tally (acceptances old.standing.events) → OnOk r (HasSeen tally (acceptances new.standing.events))
 close_seen r tally moment old new takes seen =
     none_seen r tally (Close moment) old new takes (λ said made steps. close_accepts_none (discipline_of old) old.standing.state moment said made new.standing.state steps) seen
+
+-- and where either is
+pub other_seen : {E : Type 0} (r : Result Answer E) (tally : Tally) (step : Step) (old new : Scheduler)
+    → ((moment : ℕ) × (step ≡ Dequeue moment)) ⊎ ((moment : ℕ) × (step ≡ Close moment))
+    → IfOk r (λ said. Takes (discipline_of old) old.standing step said new.standing)
+    → HasSeen tally (acceptances old.standing.events) → OnOk r (HasSeen tally (acceptances new.standing.events))
+other_seen r tally step old new (inl (moment, is)) takes seen = dequeue_seen r tally moment old new (rw is at takes) seen
+other_seen r tally step old new (inr (moment, is)) takes seen = close_seen r tally moment old new (rw is at takes) seen
+
+-- what holds holds of an Ok
+pub always : {T E A : Type 0} (r : Result T E) → A → OnOk r A
+always (Ok x) a = a
+always (Err e) a = tt

@@ -217,8 +217,8 @@ fn make_step(sched: &mut Sched<Noted>, step: &Step, tally: &mut Tally) -> Result
             lane,
             packet,
         } => make_enqueue(sched, moment, lane, packet, tally),
-        Step::Dequeue { moment: _ } => sched.make(step),
-        Step::Close { moment: _ } => sched.make(step),
+        // One call for both: so it is merged into its caller.
+        Step::Dequeue { moment: _ } | Step::Close { moment: _ } => sched.make(step),
     }
 }
 
