@@ -234,11 +234,11 @@ static void count_bytes(void)
 		const char *params;
 		size_t kib;
 	} of[] = {
-		{ "limit 1", 491 },
-		{ "limit 1000", 602 },
-		{ "", 1630 },
-		{ "limit 1000 flows 65536", 31409 },
-		{ "limit 1048576", 117226 },
+		{ "limit 1", 490 },
+		{ "limit 1000", 614 },
+		{ "", 1769 },
+		{ "limit 1000 flows 65536", 31421 },
+		{ "limit 1048576", 131561 },
 	};
 
 	left = -1;
