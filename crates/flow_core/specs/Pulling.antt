@@ -23,8 +23,8 @@ pub record PullsFlow (flow : ℕ) (old : MutBor Holding) (n flow' : ℕ) (new : 
       old.now.comparisons new.now.comparisons
 
 -- no pull
-pub pulls_none : (flow : ℕ) (a : MutBor Holding) → PullsFlow flow a 0 flow a
-pulls_none flow a = record {
+pub flow_pulls_none : (flow : ℕ) (a : MutBor Holding) → PullsFlow flow a 0 flow a
+flow_pulls_none flow a = record {
   same_flow = refl;
   same_reference = refl;
   rest =
@@ -71,11 +71,11 @@ counts_more flows many old mid new n first then' = record {
 }
 
 -- one pull more
-pub pulls_more :
+pub flow_pulls_more :
     (flow : ℕ) (a : MutBor Holding) (flow' : ℕ) (b : MutBor Holding) (flow'' : ℕ) (c : MutBor Holding) (n : ℕ)
     → flow < length a.now.lists.queues → PullsFlow flow a n flow' b → PullsFlow flow' b 1 flow'' c
     → PullsFlow flow a (n + 1) flow'' c
-pulls_more flow a flow' b flow'' c n within first then' = record {
+flow_pulls_more flow a flow' b flow'' c n within first then' = record {
   same_flow = then'.same_flow ∙ first.same_flow;
   same_reference = then'.same_reference ∙ first.same_reference;
   rest =

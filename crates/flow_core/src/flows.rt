@@ -311,16 +311,16 @@ pub struct Line<'a> {
 
 impl Pull for Line<'_> {
     ghost use Rattle.flow_core.specs.FlowLists.{queue_at};
-    ghost use Rattle.flow_core.specs.Pulling.{PullsFlow, pulls_none, pulls_more};
+    ghost use Rattle.flow_core.specs.Pulling.{PullsFlow, flow_pulls_none, flow_pulls_more};
 
     ghost items = { λ l. queue_at l.flows.now.lists l.flow };
 
     ghost pulled = { λ a n b. PullsFlow a.flow a.flows n b.flow b.flows };
 
-    ghost pulled_none = { λ a. pulls_none a.flow a.flows };
+    ghost pulled_none = { λ a. flow_pulls_none a.flow a.flows };
 
     ghost pulled_more = { λ a b c n first then'.
-        pulls_more a.flow a.flows b.flow b.flows c.flow c.flows n a.within first then' };
+        flow_pulls_more a.flow a.flows b.flow b.flows c.flow c.flows n a.within first then' };
 
     #[inline(always)]
     fn pull(&mut self) -> Option<Waiting> {

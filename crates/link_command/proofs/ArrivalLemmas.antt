@@ -13,7 +13,7 @@ use Rattle.row_core.specs.declared.faults.TraceFaultKind.{TraceFaultKind}
 use Rattle.link_core.specs.Arrivals.{AreArrivals, arrival_moment}
 use Rattle.link_core.specs.declared.arrival.Arrival.{Arrival}
 use Rattle.link_core.specs.declared.arrival.TheConstants.{MAX_ARRIVALS, MAX_ARRIVAL_MOMENT}
-use Rattle.link_command.specs.ArrivalTexts.{HasItsRow, IsItsRow, IsOwnFault, IsOwnRow, IsPlaceFault, IsRowOfStep, IsStepFault, IsTextFault, arrival_step, last_moment, step_fault, without_lane}
+use Rattle.link_command.specs.ArrivalTexts.{HasItsRow, IsItsRow, IsOwnFault, IsOwnRow, IsPlaceFault, IsRowOfStep, IsStepFault, IsTextFault, arrival_step, last_arrival_of, step_fault, without_lane}
 use Rattle.link_command.specs.declared.arrivals.NoArrivals.{NoArrivals}
 use Rattle.link_command.specs.declared.arrivals.NoArrivals.TheVariants as no_arrivals
 use Rattle.link_command.specs.declared.faults.RowFault.{RowFault}
@@ -47,7 +47,7 @@ at_end (b ∷ arrivals) a zero e = absurd (omega arith)
 at_end (b ∷ arrivals) a (suc n) e = at_end arrivals a n (omega arith)
 
 -- the last moment is then that of the arrival
-pub last_more : (arrivals : List Arrival) (a : Arrival) → a.moment ≡ last_moment (arrivals ++ a ∷ [])
+pub last_more : (arrivals : List Arrival) (a : Arrival) → a.moment ≡ last_arrival_of (arrivals ++ a ∷ [])
 last_more arrivals a = sym (at_end arrivals a (length (arrivals ++ a ∷ []) - 1) (omega (arith, length_push arrivals a)))
 
 no_trace : (last : ℕ) (step : Step) (what : TraceFaultKind) → step_fault last step ≡ Some (Trace what) → ⊥
@@ -70,7 +70,7 @@ take_before [] step = refl
 take_before (s ∷ steps) step = ap (λ l. s ∷ l) (take_before steps step)
 
 step_fault_at : (steps : List Step) (step : Step) (what : RowFault) (arrivals : List Arrival) (l : ℕ) → AreArrivals arrivals → map without_lane steps ≡ map arrival_step arrivals
-    → l ≡ last_moment arrivals → step_fault l step ≡ Some what → IsStepFault (steps ++ step ∷ []) (length steps) what
+    → l ≡ last_arrival_of arrivals → step_fault l step ≡ Some what → IsStepFault (steps ++ step ∷ []) (length steps) what
 step_fault_at steps step what arrivals l are before same fault = record {
   within = omega (arith, length_push steps step);
   arrivals = arrivals;
@@ -81,7 +81,7 @@ step_fault_at steps step what arrivals l are before same fault = record {
 
 -- a step that is no arrival behind those that are
 pub place_fault : (steps : List Step) (step : Step) (what : RowFault) (arrivals : List Arrival) (l : ℕ) → AreArrivals arrivals → map without_lane steps ≡ map arrival_step arrivals
-    → l ≡ last_moment arrivals → step_fault l step ≡ Some what → IsPlaceFault (steps ++ step ∷ []) (length steps) what
+    → l ≡ last_arrival_of arrivals → step_fault l step ≡ Some what → IsPlaceFault (steps ++ step ∷ []) (length steps) what
 place_fault steps step (Trace what) arrivals l are before same fault = absurd (no_trace l step what fault)
 place_fault steps step NotAnArrival arrivals l are before same fault = step_fault_at steps step NotAnArrival arrivals l are before same fault
 place_fault steps step TooLate arrivals l are before same fault = step_fault_at steps step TooLate arrivals l are before same fault
@@ -103,7 +103,7 @@ step_fault_stays steps step place what h = record {
   arrivals = h.arrivals;
   are = h.are;
   before = ap (map without_lane) (take_less steps step place h.within) ∙ h.before;
-  fault = ap (step_fault (last_moment h.arrivals)) (get_before steps step (Close 0) place h.within) ∙ h.fault;
+  fault = ap (step_fault (last_arrival_of h.arrivals)) (get_before steps step (Close 0) place h.within) ∙ h.fault;
 }
 
 -- which stays the first one, whatever step follows
@@ -149,7 +149,7 @@ pub record AreSoFar (text : List ℕ) (rows : TraceRows) (turns : ℕ) (steps : 
   pub count : length arrivals ≤ turns
   pub before : All (λ (a : Arrival). a.moment ≤ last) arrivals
   pub same : map without_lane steps ≡ map arrival_step arrivals
-  pub last_is : last ≡ last_moment arrivals
+  pub last_is : last ≡ last_arrival_of arrivals
 
 pub none_so_far : (text : List ℕ) (rows : TraceRows) → HasTaken text rows 0 [] → AreSoFar text rows 0 [] [] 0
 none_so_far text rows taken = record {

@@ -7,16 +7,16 @@ use Rattle.clap.specs.declared.builder.value_parser.ValueParser.{ValueParser}
 use Rattle.clap.specs.declared.error.Error.{Error}
 use Rattle.clap.specs.declared.error.kind.ErrorKind.{ErrorKind}
 use Rattle.clap.specs.declared.error.kind.ErrorKind.TheVariants.{DisplayHelp, DisplayVersion, OutOfMemory}
-use Rattle.link_command.specs.CommandLine.{AsksForText, IsMistake, IsProgramLine, program_line}
+use Rattle.link_command.specs.CommandLine.{AsksForText, IsLinkMistake, IsProgramLine, link_line}
 use Rattle.link_command.specs.declared.faults.ProgramFault.{ProgramFault}
 use Rattle.link_command.specs.declared.faults.ProgramFault.TheVariants.{CommandLine, Memory}
 
 -- the command line is one whose matches and kinds of error `clap` tells, whatever tests its names
-free_by : (queues tables : ValueParser) → is_simple_and_free (program_line queues tables) ≡ true
+free_by : (queues tables : ValueParser) → is_simple_and_free (link_line queues tables) ≡ true
 unfolding clap_on_literals
 free_by queues tables = refl
 
-simple_by : (queues tables : ValueParser) → is_simple (program_line queues tables) ≡ true
+simple_by : (queues tables : ValueParser) → is_simple (link_line queues tables) ≡ true
 unfolding clap_on_literals
 simple_by queues tables = refl
 
@@ -45,7 +45,7 @@ pub text_asked : (line : App) (words : List Text) (e : Error) → IsProgramLine 
 text_asked line words e is h shown = record { line = line; of_program = is; kind = shown_kind (fault_of line words) e h shown }
 
 pub mistake_made : (line : App) (words : List Text) (e : Error) → IsProgramLine line → HasKind (fault_of line words) e
-    → (kind_of e ≢ DisplayHelp) × (kind_of e ≢ DisplayVersion) × (kind_of e ≢ OutOfMemory) → IsMistake words
+    → (kind_of e ≢ DisplayHelp) × (kind_of e ≢ DisplayVersion) × (kind_of e ≢ OutOfMemory) → IsLinkMistake words
 mistake_made line words e is h other = record {
   line = line;
   of_program = is;

@@ -6,8 +6,8 @@ use Rattle.std.proofs.lemmas.Bool.{cases_Bool, ltb-false}
 use Rattle.std.proofs.lemmas.List.{length-map, length_push}
 use Rattle.csv.specs.Reading.{default_config, records, strip_bom}
 use Rattle.journal_core.specs.declared.step.Step.{Step}
-use Rattle.row_core.specs.Rows.{◌>>=◌, row_of, tells_version, version_of}
-use Rattle.row_core.specs.Traces.{RowsSoFar, at_row, is_blank, no_rows, rows_of_records, steps_of, steps_told, trace_of, with_record, with_row, with_step, with_version}
+use Rattle.row_core.specs.Rows.{◌>>=◌, step_of_row, tells_version, version_of}
+use Rattle.row_core.specs.Traces.{RowsSoFar, at_row, is_blank, no_rows, rows_of_records, steps_of, steps_told, trace_of, with_record, with_row_more, with_step, with_version}
 use Rattle.row_core.specs.declared.faults.TraceFault.{TraceFault}
 use Rattle.row_core.specs.declared.faults.TraceFaultKind.{TraceFaultKind}
 use Rattle.row_core.specs.declared.row.Version.{Version}
@@ -29,14 +29,14 @@ step_few : (rows : RowsSoFar) (r : Result Step TraceFaultKind) → AreFewRows ro
 step_few rows (Err what) h room = tt
 step_few rows (Ok step) h room = let steps = h.steps in record { steps = omega (arith, length_push rows.steps step); rows_few = omega arith }
 
-row_few : (rows : RowsSoFar) (fields : List (List ℕ)) → AreFewRows rows → IfOk (with_row rows fields) AreFewRows
+row_few : (rows : RowsSoFar) (fields : List (List ℕ)) → AreFewRows rows → IfOk (with_row_more rows fields) AreFewRows
 row_few rows fields h = elim (cases_Bool (ltb 1000000 rows.next_row)) [
   | inl many ↦ rw many tt
   | inr few ↦
       let room = ltb-false 1000000 rows.next_row few in
       rw few (elim (cases_Bool (tells_version rows.next_row fields)) [
         | inl version ↦ rw version (version_few rows (version_of fields) h room)
-        | inr step ↦ rw step (step_few rows (row_of rows.version fields) h room)
+        | inr step ↦ rw step (step_few rows (step_of_row rows.version fields) h room)
       ])
 ]
 

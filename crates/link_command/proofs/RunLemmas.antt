@@ -19,7 +19,7 @@ use Rattle.link_report.specs.declared.summary.TheConstants.{MAX_EVENTS}
 use Rattle.link_report.proofs.PacketLemmas.{few_packets}
 use Rattle.link_report.specs.SeriesTables.{series_text}
 use Rattle.link_report.specs.StepTables.{steps_text}
-use Rattle.link_command.specs.CommandLine.{AsksForRun, IsMistake, Texts}
+use Rattle.link_command.specs.CommandLine.{AsksForLink, IsLinkMistake, Texts}
 use Rattle.link_command.specs.FaultsOn.{IsWordsFault}
 use Rattle.link_command.specs.InputFaults.{IsInputFault}
 use Rattle.std.specs.Io.KnownBytes.{Keeps}
@@ -70,7 +70,7 @@ pub table_fails : (texts : Texts) (input : Option (List ℕ)) (why : ProgramFaul
 table_fails texts input why memory = rw memory tt
 
 -- of words that ask for a run
-pub run_fails : (words : List (List ℕ)) (texts : Texts) (input : Option (List ℕ)) (why : ProgramFault) → AsksForRun words texts → IsRunFault texts input why
+pub run_fails : (words : List (List ℕ)) (texts : Texts) (input : Option (List ℕ)) (why : ProgramFault) → AsksForLink words texts → IsRunFault texts input why
     → IsFaultOn words input why
 run_fails words texts input (CommandLine text) asks h = absurd h
 run_fails words texts input NotUtf8 asks h = h
@@ -83,7 +83,7 @@ run_fails words texts input Write asks h = h
 
 -- of words that ask for nothing
 pub parse_fails : (words : List (List ℕ)) (input : Option (List ℕ)) (why : ProgramFault) → (why ≡ Memory) ⊎ ((text : String Global) × (why ≡ CommandLine text))
-    → ((text : String Global) → why ≡ CommandLine text → IsMistake words) → IsFaultOn words input why
+    → ((text : String Global) → why ≡ CommandLine text → IsLinkMistake words) → IsFaultOn words input why
 parse_fails words input why (inl memory) mistake = rw memory tt
 parse_fails words input why (inr command) mistake = rw command.1 (mistake command.0 command.1)
 

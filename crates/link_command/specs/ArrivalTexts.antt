@@ -30,8 +30,8 @@ pub record IsArrivalText (bytes : List ℕ) (arrivals : List Arrival) : Type 0 w
   pub same : map without_lane steps ≡ map arrival_step arrivals
 
 -- the moment of the last of some arrivals, and 0 of none
-abbrev pub last_moment : List Arrival → ℕ
-last_moment arrivals = moment_at arrivals (length arrivals - 1)
+abbrev pub last_arrival_of : List Arrival → ℕ
+last_arrival_of arrivals = moment_at arrivals (length arrivals - 1)
 
 -- what is wrong with a step as an arrival after one that came at that moment, if anything is
 abbrev pub step_fault : ℕ → Step → Option RowFault
@@ -48,7 +48,7 @@ pub record IsStepFault (steps : List Step) (place : ℕ) (what : RowFault) : Typ
   pub arrivals : List Arrival
   pub are : AreArrivals arrivals
   pub before : map without_lane (take place steps) ≡ map arrival_step arrivals
-  pub fault : step_fault (last_moment arrivals) (get_or steps place (Close 0)) ≡ Some what
+  pub fault : step_fault (last_arrival_of arrivals) (get_or steps place (Close 0)) ≡ Some what
 
 -- The same, of a place at which there are more arrivals than a link takes, too.
 abbrev pub IsPlaceFault : List Step → ℕ → RowFault → Type 0

@@ -42,13 +42,13 @@ abbrev pub parameter_rule : Rule
 parameter_rule = record (new_rule (codes "PARAM")) { action = Some Append }
 
 -- the command line without its arguments: words without the program's name, and a version
-abbrev pub bare_line : App
-bare_line = on_top (λ top. record top { no_binary_name = true; has_version = true }) (new_app (codes "maltlink"))
+abbrev pub bare_link_line : App
+bare_link_line = on_top (λ top. record top { no_binary_name = true; has_version = true }) (new_app (codes "maltlink"))
 
 -- the command line, by what tests the names of queues and of tables
-abbrev pub program_line : ValueParser → ValueParser → App
-program_line queues tables =
-    with_rule (with_rule (with_rule (with_rule (with_rule (with_rule (with_rule (with_rule bare_line rate_rule)
+abbrev pub link_line : ValueParser → ValueParser → App
+link_line queues tables =
+    with_rule (with_rule (with_rule (with_rule (with_rule (with_rule (with_rule (with_rule bare_link_line rate_rule)
     (option_rule (codes "overhead"))) (option_rule (codes "mpu"))) (option_rule (codes "seed")))
     (named_rule (codes "compare") queues)) (option_rule (codes "every"))) (named_rule (codes "write") tables))
     parameter_rule
@@ -71,7 +71,7 @@ pub record IsProgramLine (line : App) : Type 0 where
   pub tables : ValueParser
   pub takes_queues : TakesNames queue_names queues
   pub takes_tables : TakesNames table_names tables
-  pub is : line ≡ program_line queues tables
+  pub is : line ≡ link_line queues tables
 
 -- the table of that name, and that of five-tuples where there is none
 abbrev pub table_called : Text → TableName
@@ -113,7 +113,7 @@ texts_of run = record {
 }
 
 -- The words are those of a run, and say these texts.
-pub record AsksForRun (words : List Text) (texts : Texts) : Type 0 where
+pub record AsksForLink (words : List Text) (texts : Texts) : Type 0 where
   pub line : App
   pub of_program : IsProgramLine line
   pub taken : fault_of line words ≡ []
@@ -126,7 +126,7 @@ pub record AsksForText (words : List Text) : Type 0 where
   pub kind : IsAmong DisplayHelp (fault_of line words) ⊎ IsAmong DisplayVersion (fault_of line words)
 
 -- they aren't those of a command line
-pub record IsMistake (words : List Text) : Type 0 where
+pub record IsLinkMistake (words : List Text) : Type 0 where
   pub line : App
   pub of_program : IsProgramLine line
   pub kind : ErrorKind

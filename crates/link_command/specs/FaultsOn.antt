@@ -1,7 +1,7 @@
 -- The faults of the words of a run.
 use Rattle.std.specs.Prelude.{◌≡◌, ◌-◌, [], Option, Some, get_or, string_bytes, unwrap_or}
 use Rattle.link_command.specs.CommandLine.{Texts}
-use Rattle.link_command.specs.Values.{IsParamsFault, IsSeedFault, IsValueFault, place_of, value_text}
+use Rattle.link_command.specs.Values.{IsParamsFault, IsSeedFault, IsValueFault, word_place_of, value_text}
 use Rattle.link_command.specs.declared.faults.ProgramFault.{ProgramFault}
 use Rattle.link_command.specs.declared.faults.ProgramFault.TheVariants as fault
 use Rattle.link_command.specs.declared.faults.ValueFault.{ValueFault}
@@ -29,7 +29,7 @@ IsWordsFault texts (fault.Value name what found) =
     IsValueFault texts name what × (string_bytes found ≡ value_text name texts)
 IsWordsFault texts (fault.Seed found) = IsSeedFault texts × (string_bytes found ≡ unwrap_or texts.seed [])
 IsWordsFault texts (fault.Params what found) =
-    IsParamsFault texts what × (string_bytes found ≡ get_or texts.parameters (place_of what - 1) [])
+    IsParamsFault texts what × (string_bytes found ≡ get_or texts.parameters (word_place_of what - 1) [])
 IsWordsFault texts fault.Memory = Unit {0}
 IsWordsFault texts (fault.CommandLine text) = ⊥
 IsWordsFault texts fault.NotUtf8 = ⊥

@@ -12,17 +12,17 @@ use Rattle.link_command.specs.declared.fields.FieldName.{FieldName}
 use Rattle.link_command.specs.declared.fields.FieldName.TheVariants as field
 
 -- the place of a field in a row, from 1
-abbrev pub place_of : FieldName → ℕ
-place_of field.Kind = 1
-place_of field.Version = 2
-place_of field.Moment = 2
-place_of field.Proto = 3
-place_of field.Src = 4
-place_of field.Dst = 5
-place_of field.Sport = 6
-place_of field.Dport = 7
-place_of field.Len = 8
-place_of field.Ecn = 9
+abbrev pub field_place_of : FieldName → ℕ
+field_place_of field.Kind = 1
+field_place_of field.Version = 2
+field_place_of field.Moment = 2
+field_place_of field.Proto = 3
+field_place_of field.Src = 4
+field_place_of field.Dst = 5
+field_place_of field.Sport = 6
+field_place_of field.Dport = 7
+field_place_of field.Len = 8
+field_place_of field.Ecn = 9
 
 -- the greatest number that a field of an arrival may have: moments are below 2^60, and lengths have a fault of their own
 abbrev pub greatest_of : FieldName → ℕ
@@ -39,7 +39,7 @@ greatest_of field.Ecn = 2 ^ 64 - 1
 
 -- the text of a field, and none where the row ends before it
 abbrev pub text_in : List (List ℕ) → FieldName → List ℕ
-text_in fields name = field_of fields (place_of name - 1)
+text_in fields name = field_of fields (field_place_of name - 1)
 
 -- The number that a text is, if it is one. A number that 64 bits don't hold counts as the greatest that they hold.
 abbrev pub number_in : List ℕ → Option ℕ
@@ -71,16 +71,16 @@ IsField None fact = ⊥
 IsField (Some name) fact = fact name
 
 -- The field in which a fault of a row with these fields stands, and none where it stands in no single one.
-abbrev pub StandsIn : List (List ℕ) → RowFault → Option FieldName → Type 0
-StandsIn fields NotAnArrival found = found ≡ Some field.Kind
-StandsIn fields TooLate found = found ≡ Some field.Moment
-StandsIn fields Backwards found = found ≡ Some field.Moment
-StandsIn fields (Trace kind.BadKind) found = found ≡ Some field.Kind
-StandsIn fields (Trace kind.BadNumber) found = found ≡ Some (numberless_field fields)
-StandsIn fields (Trace kind.BadAddress) found = IsField found (λ name. (name ≡ field.Src) ⊎ (name ≡ field.Dst))
-StandsIn fields (Trace kind.BadEcn) found = found ≡ Some field.Ecn
-StandsIn fields (Trace kind.LengthOutOfRange) found = found ≡ Some field.Len
-StandsIn fields (Trace kind.Read) found = found ≡ None
-StandsIn fields (Trace kind.TooLarge) found = found ≡ None
-StandsIn fields (Trace kind.BadFieldCount) found = found ≡ None
-StandsIn fields (Trace kind.Memory) found = found ≡ None
+abbrev pub IsFaultOfField : List (List ℕ) → RowFault → Option FieldName → Type 0
+IsFaultOfField fields NotAnArrival found = found ≡ Some field.Kind
+IsFaultOfField fields TooLate found = found ≡ Some field.Moment
+IsFaultOfField fields Backwards found = found ≡ Some field.Moment
+IsFaultOfField fields (Trace kind.BadKind) found = found ≡ Some field.Kind
+IsFaultOfField fields (Trace kind.BadNumber) found = found ≡ Some (numberless_field fields)
+IsFaultOfField fields (Trace kind.BadAddress) found = IsField found (λ name. (name ≡ field.Src) ⊎ (name ≡ field.Dst))
+IsFaultOfField fields (Trace kind.BadEcn) found = found ≡ Some field.Ecn
+IsFaultOfField fields (Trace kind.LengthOutOfRange) found = found ≡ Some field.Len
+IsFaultOfField fields (Trace kind.Read) found = found ≡ None
+IsFaultOfField fields (Trace kind.TooLarge) found = found ≡ None
+IsFaultOfField fields (Trace kind.BadFieldCount) found = found ≡ None
+IsFaultOfField fields (Trace kind.Memory) found = found ≡ None

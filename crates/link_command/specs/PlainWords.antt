@@ -9,8 +9,8 @@ use Rattle.link_command.specs.declared.plain.ValueKind.{ValueKind}
 use Rattle.link_command.specs.declared.plain.ValueKind.TheVariants.{Packets, Bytes, Time, Other}
 
 -- what the value is that a word has after it, if it has one
-unfoldable pub kind_of : List ℕ → Option ValueKind
-kind_of word =
+unfoldable pub value_kind_of : List ℕ → Option ValueKind
+value_kind_of word =
     if bytes_eq word (codes "limit") then Some Packets
     else if bytes_eq word (codes "drop_batch") then Some Packets
     else if bytes_eq word (codes "quantum") then Some Bytes
@@ -28,8 +28,8 @@ unfoldable pub packet_unit_of : List ℕ → Option ℕ
 packet_unit_of unit = if bytes_eq unit (codes "p") then Some 1 else None
 
 -- how many bytes a unit has
-unfoldable pub byte_unit_of : List ℕ → Option ℕ
-byte_unit_of unit =
+unfoldable pub bytes_of_unit : List ℕ → Option ℕ
+bytes_of_unit unit =
     if bytes_eq unit (codes "b") then Some 1
     else if bytes_eq unit (codes "Kb") then Some 1024
     else if bytes_eq unit (codes "Mb") then Some 1048576
@@ -53,8 +53,8 @@ part_by digits None unit = None
 part_by digits (Some n) unit = whole_quotient (n * unit) (10 ^ digits)
 
 -- One to six digits after a point, as a part of a unit, where that is a whole number.
-abbrev pub part_of : List ℕ → ℕ → Option ℕ
-part_of decimals unit =
+abbrev pub decimal_part_of : List ℕ → ℕ → Option ℕ
+decimal_part_of decimals unit =
     if nat_lt 6 (length decimals) then None else part_by (length decimals) (numeral_of decimals) unit
 
 -- the sum of two numbers, where both are there
@@ -66,7 +66,7 @@ sum_of None other = None
 abbrev pub time_in : List ℕ → List ℕ → Option ℕ → Option ℕ
 time_in whole decimals None = None
 time_in whole decimals (Some unit) =
-    sum_of (product_of (numeral_of whole) (Some unit)) (part_of decimals unit)
+    sum_of (product_of (numeral_of whole) (Some unit)) (decimal_part_of decimals unit)
 
 -- a time in microseconds, from the digits before its point and from what follows these: a point, digits and a unit
 abbrev pub point_time_of : List ℕ → List ℕ → Option ℕ
@@ -79,17 +79,17 @@ point_time_of whole (c ∷ rest) =
 -- The value that digits and what follows them say in a form in which tc prints a value of that kind, if they do.
 abbrev pub value_in : ValueKind → List ℕ → List ℕ → Option ℕ
 value_in Packets digits unit = product_of (numeral_of digits) (packet_unit_of unit)
-value_in Bytes digits unit = product_of (numeral_of digits) (byte_unit_of unit)
+value_in Bytes digits unit = product_of (numeral_of digits) (bytes_of_unit unit)
 value_in Time digits unit = point_time_of digits unit
 value_in Other digits unit = None
 
-abbrev pub value_of : ValueKind → List ℕ → Option ℕ
-value_of kind word = value_in kind (take (digits_in_front word) word) (drop (digits_in_front word) word)
+abbrev pub plain_value_of : ValueKind → List ℕ → Option ℕ
+plain_value_of kind word = value_in kind (take (digits_in_front word) word) (drop (digits_in_front word) word)
 
 -- A value in the form in which it is read: digits alone, where it is in the other form. A number above 2^64 - 1 is
 -- written as that one, which is outside every range.
 abbrev pub plain_value : ValueKind → List ℕ → List ℕ
-plain_value kind word = option_map_or decimal (option_map (λ n. min n (2 ^ 64 - 1)) (value_of kind word)) word
+plain_value kind word = option_map_or decimal (option_map (λ n. min n (2 ^ 64 - 1)) (plain_value_of kind word)) word
 
 -- a word in the form in which it is read, where it may be a value that the word before it awaits
 abbrev pub word_in : Option ValueKind → List ℕ → List ℕ
@@ -98,7 +98,7 @@ word_in (Some kind) word = plain_value kind word
 
 -- what value the next word is, if it is one
 abbrev pub awaited_after : Option ValueKind → List ℕ → Option ValueKind
-awaited_after None word = kind_of word
+awaited_after None word = value_kind_of word
 awaited_after (Some kind) word = None
 
 -- the words in the form in which they are read, where the first one may be an awaited value

@@ -5,8 +5,8 @@ use Rattle.packet_core.specs.Numerals.{numeral_of}
 use Rattle.packet_core.specs.Words.{digits_in_front, product_of}
 
 -- how many bits a second a unit of bytes has
-unfoldable pub byte_unit_of : List ℕ → Option ℕ
-byte_unit_of unit =
+unfoldable pub bits_of_byte_unit : List ℕ → Option ℕ
+bits_of_byte_unit unit =
     if bytes_eq unit (codes "bps") then Some 8
     else if bytes_eq unit (codes "kbps") then Some 8000
     else if bytes_eq unit (codes "mbps") then Some 8000000
@@ -31,9 +31,9 @@ rate_unit_of unit =
     else if bytes_eq unit (codes "mibit") then Some 1048576
     else if bytes_eq unit (codes "gibit") then Some 1073741824
     else if bytes_eq unit (codes "tibit") then Some 1099511627776
-    else byte_unit_of unit
+    else bits_of_byte_unit unit
 
 -- a rate, in bits a second: digits, and then a unit
-abbrev pub rate_of : List ℕ → Option ℕ
-rate_of text =
+abbrev pub bit_rate_of : List ℕ → Option ℕ
+bit_rate_of text =
     product_of (numeral_of (take (digits_in_front text) text)) (rate_unit_of (drop (digits_in_front text) text))

@@ -15,7 +15,7 @@ use Rattle.link_report.specs.PacketTables.{packets_text}
 use Rattle.link_report.specs.SeriesTables.{series_text}
 use Rattle.link_report.specs.StepTables.{steps_text}
 use Rattle.link_command.specs.ArrivalTexts.{IsArrivalText}
-use Rattle.link_command.specs.CommandLine.{AsksForRun, AsksForText, IsMistake, Texts}
+use Rattle.link_command.specs.CommandLine.{AsksForLink, AsksForText, IsLinkMistake, Texts}
 use Rattle.link_command.specs.FaultsOn.{IsWordsFault}
 use Rattle.link_command.specs.InputFaults.{IsInputFault}
 use Rattle.link_command.specs.Values.{RunParts, SaysRun}
@@ -87,7 +87,7 @@ pub record IsTableFor (texts : Texts) (input : Option (List ℕ)) (text : List �
 -- The words ask for that table, or for help or the version, of whose text no more is said.
 abbrev pub IsAsked : List (List ℕ) → Option (List ℕ) → List ℕ → Type 0
 IsAsked words input text =
-    ((texts : Texts) × AsksForRun words texts × IsTableFor texts input text) ⊎ AsksForText words
+    ((texts : Texts) × AsksForLink words texts × IsTableFor texts input text) ⊎ AsksForText words
 
 -- What was asked for was written behind what was there.
 abbrev pub Answers : List (List ℕ) → Option (List ℕ) → Option (List ℕ) → Option (List ℕ) → Type 0
@@ -118,18 +118,18 @@ IsRunFault texts input fault.Write = ⊥
 
 -- The fault is one of these words and this input, before anything is written. That memory was wanting can't be said.
 abbrev pub IsFaultOn : List (List ℕ) → Option (List ℕ) → ProgramFault → Type 0
-IsFaultOn words input (fault.CommandLine text) = IsMistake words
+IsFaultOn words input (fault.CommandLine text) = IsLinkMistake words
 IsFaultOn words input fault.Memory = Unit {0}
 IsFaultOn words input fault.NotUtf8 = ⊥
 IsFaultOn words input fault.Write = ⊥
 IsFaultOn words input (fault.Value name what found) =
-    (texts : Texts) × AsksForRun words texts × IsRunFault texts input (fault.Value name what found)
+    (texts : Texts) × AsksForLink words texts × IsRunFault texts input (fault.Value name what found)
 IsFaultOn words input (fault.Seed found) =
-    (texts : Texts) × AsksForRun words texts × IsRunFault texts input (fault.Seed found)
+    (texts : Texts) × AsksForLink words texts × IsRunFault texts input (fault.Seed found)
 IsFaultOn words input (fault.Params what found) =
-    (texts : Texts) × AsksForRun words texts × IsRunFault texts input (fault.Params what found)
+    (texts : Texts) × AsksForLink words texts × IsRunFault texts input (fault.Params what found)
 IsFaultOn words input (fault.Row number what found) =
-    (texts : Texts) × AsksForRun words texts × IsRunFault texts input (fault.Row number what found)
+    (texts : Texts) × AsksForLink words texts × IsRunFault texts input (fault.Row number what found)
 
 -- The same by which the writer came from what it held to what it holds: a front of what was asked for more, where a
 -- write failed, and else what it held.

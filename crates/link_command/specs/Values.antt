@@ -11,7 +11,7 @@ use Rattle.link_core.specs.Links.{IsLink}
 use Rattle.link_core.specs.declared.link.LinkFields.{LinkFields}
 use Rattle.link_command.specs.CommandLine.{Texts}
 use Rattle.link_command.specs.PlainWords.{plain_words_of}
-use Rattle.link_command.specs.Rates.{rate_of}
+use Rattle.link_command.specs.Rates.{bit_rate_of}
 use Rattle.link_command.specs.declared.faults.ValueFault.{ValueFault}
 use Rattle.link_command.specs.declared.faults.ValueFault.TheVariants.{NotANumber, OutOfRange}
 use Rattle.link_command.specs.declared.faults.ValueName.{ValueName}
@@ -48,7 +48,7 @@ fault_within least most (Some n) = if nat_le least n && nat_le n most then None 
 
 -- what is wrong with the value of an option: rates in bits a second, lengths in bytes, widths in microseconds
 abbrev pub value_fault : ValueName → Texts → Option ValueFault
-value_fault Rate texts = fault_within 1000 1000000000000 (rate_of texts.rate)
+value_fault Rate texts = fault_within 1000 1000000000000 (bit_rate_of texts.rate)
 value_fault Overhead texts = fault_within 0 1000 (bytes_given texts.overhead)
 value_fault Mpu texts = fault_within 0 65535 (bytes_given texts.mpu)
 value_fault Every texts = width_fault (width_given texts.every)
@@ -70,7 +70,7 @@ AreGoodBefore Every texts =
 
 -- The link of these texts, whose values are good.
 pub record SaysLink (texts : Texts) (link : LinkFields) : Type 0 where
-  pub rate : rate_of texts.rate ≡ Some link.rate
+  pub rate : bit_rate_of texts.rate ≡ Some link.rate
   pub overhead : bytes_given texts.overhead ≡ Some link.overhead
   pub mpu : bytes_given texts.mpu ≡ Some link.mpu
   pub ranges : IsLink link
@@ -91,11 +91,11 @@ pub record SaysRun (texts : Texts) (run : RunParts) : Type 0 where
   pub params : params_of_words (plain_words_of texts.parameters) ≡ Ok run.params
 
 -- the place of the word that a fault is of, from 1
-abbrev pub place_of : ParamFault → ℕ
-place_of (param_fault.UnknownWord place) = place
-place_of (param_fault.MissingValue place) = place
-place_of (param_fault.NotANumber place) = place
-place_of (param_fault.OutOfRange place) = place
+abbrev pub word_place_of : ParamFault → ℕ
+word_place_of (param_fault.UnknownWord place) = place
+word_place_of (param_fault.MissingValue place) = place
+word_place_of (param_fault.NotANumber place) = place
+word_place_of (param_fault.OutOfRange place) = place
 
 -- The value of the option is the first one that is wrong, and this is wrong with it.
 pub record IsValueFault (texts : Texts) (name : ValueName) (what : ValueFault) : Type 0 where

@@ -4,7 +4,7 @@ ghost use Rattle.std.specs.Prelude.{◌≡◌, ◌≢◌, ◌⊎◌, IfErr, IfOk
 ghost use Rattle.clap.specs.Words.{app_of, first_of, found_of, kind_of, rows_of, rule_of, with_rule};
 ghost use Rattle.clap.specs.declared.builder.command.Command.TheViews.{out-Command as fields_of};
 ghost use Rattle.command_core.specs.Shown.{IsShown};
-ghost use Rattle.link_command.specs.CommandLine.{AsksForRun, AsksForText, IsMistake, IsProgramLine, TakesNames, bare_line, named_rule, option_rule, parameter_rule, queue_names, rate_rule, table_called, table_named, table_names, texts_in, texts_of};
+ghost use Rattle.link_command.specs.CommandLine.{AsksForLink, AsksForText, IsLinkMistake, IsProgramLine, TakesNames, bare_link_line, named_rule, option_rule, parameter_rule, queue_names, rate_rule, table_called, table_named, table_names, texts_in, texts_of};
 
 use crate::faults::ProgramFault;
 use crate::manual;
@@ -68,11 +68,11 @@ pub enum Asked<'a> {
 /// Reads the words behind the program's name.
 pub fn parse<'a>(alloc: Global, words: &'a [&'a str]) -> Result<Asked<'a>, ProgramFault>
     ensures run { IfOk result (λ asked. (run : _) → asked ≡ Asked.Run run
-        → AsksForRun (map (λ w. w.now) words.entry.now) (texts_of run)) }
+        → AsksForLink (map (λ w. w.now) words.entry.now) (texts_of run)) }
     ensures text { IfOk result (λ asked. (text : _) → asked ≡ Asked.Text text
         → AsksForText (map (λ w. w.now) words.entry.now)) }
     ensures mistake { IfErr result (λ fault. (text : _) → fault ≡ ProgramFault.CommandLine text
-        → IsMistake (map (λ w. w.now) words.entry.now)) }
+        → IsLinkMistake (map (λ w. w.now) words.entry.now)) }
     ensures fault { IfErr result (λ fault. (fault ≡ ProgramFault.Memory)
         ⊎ ((text : _) × (fault ≡ ProgramFault.CommandLine text))) }
     ensures shown { IfErr result (λ fault. (text : _) → fault ≡ ProgramFault.CommandLine text
@@ -180,7 +180,7 @@ fn program_command<'a>(alloc: Global) -> Result<Command<'a>, AllocError>
 
 /// The command line without its arguments.
 fn bare_command<'a>(alloc: Global) -> Result<Command<'a>, AllocError>
-    ensures line { IfOk result (λ r. app_of r ≡ bare_line) }
+    ensures line { IfOk result (λ r. app_of r ≡ bare_link_line) }
     ensures local { IfOk result (λ r. (fields_of r).has_globals ≡ false) }
 {
     let named = Command::new(alloc, "maltlink").bin_name("maltlink")?;

@@ -2,7 +2,7 @@
 
 ghost use Rattle.std.specs.Prelude.{◌≡◌, ◌⊎◌, IfOk};
 ghost use Rattle.csv.specs.Records.{fields_of};
-ghost use Rattle.link_command.specs.Fields.{StandsIn, first_amiss, greatest_of, is_amiss, numberless_field, place_of, text_in};
+ghost use Rattle.link_command.specs.Fields.{IsFaultOfField, first_amiss, greatest_of, is_amiss, numberless_field, field_place_of, text_in};
 
 use crate::faults::RowFault;
 use csv::ByteRecord;
@@ -58,7 +58,7 @@ const NUMBERS: [FieldName; 5] = [
 impl FieldName {
     /// Its place in a row, from 1.
     pub fn number(self) -> usize
-        ensures { result ≡ place_of self }
+        ensures { result ≡ field_place_of self }
     {
         match self {
             FieldName::Kind => 1,
@@ -105,7 +105,7 @@ pub(crate) fn faulty_field(
     row: &ByteRecord,
     first: &ByteRecord,
 ) -> Result<Option<FieldName>, AllocError>
-    ensures { IfOk result (StandsIn (fields_of row.now) what) }
+    ensures { IfOk result (IsFaultOfField (fields_of row.now) what) }
 {
     Ok(match what {
         RowFault::NotAnArrival | RowFault::Trace(TraceFaultKind::BadKind) => Some(FieldName::Kind),

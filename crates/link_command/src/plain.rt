@@ -2,7 +2,7 @@
 
 ghost use Rattle.std.specs.Prelude.{◌≡◌, ◌<◌, ◌≤◌, ◌-◌, ◌^◌, IfOk, IfSome, length, map, min, option_map, string_bytes};
 ghost use Rattle.packet_core.specs.Numerals.{numeral_of};
-ghost use Rattle.link_command.specs.PlainWords.{awaited_after, byte_unit_of, kind_of, packet_unit_of, part_of, plain_value, plain_words_of, point_time_of, time_unit_of, value_of, whole_quotient, word_in};
+ghost use Rattle.link_command.specs.PlainWords.{awaited_after, bytes_of_unit, value_kind_of, packet_unit_of, decimal_part_of, plain_value, plain_words_of, point_time_of, time_unit_of, plain_value_of, whole_quotient, word_in};
 
 use crate::counts::{digits_in_front, scaled, split_digits};
 use packet_core::read_numeral;
@@ -45,7 +45,7 @@ fn awaited_after(awaited: Option<ValueKind>, word: &str) -> Option<ValueKind>
 {
     match awaited {
         Some(_) => None,
-        None => kind_of(word),
+        None => value_kind_of(word),
     }
 }
 
@@ -60,9 +60,9 @@ fn plain_word(alloc: Global, awaited: Option<ValueKind>, word: &str) -> Result<S
 }
 
 /// What the value is that a word has after it, if it has one.
-#[tactic(auto, using(crate::proofs::TextLemmas::differ), unfolding(crate::specs::PlainWords::kind_of))]
-fn kind_of(word: &str) -> Option<ValueKind>
-    ensures { result ≡ kind_of word.now }
+#[tactic(auto, using(crate::proofs::TextLemmas::differ), unfolding(crate::specs::PlainWords::value_kind_of))]
+fn value_kind_of(word: &str) -> Option<ValueKind>
+    ensures { result ≡ value_kind_of word.now }
 {
     match word {
         "limit" => Some(ValueKind::Packets),
@@ -91,7 +91,7 @@ fn plain_value(alloc: Global, kind: ValueKind, word: &str) -> Result<String, All
 
 /// The value that a word says in a form in which tc prints it, and 2^64 - 1 where it is more than that.
 fn value(kind: ValueKind, word: &str) -> Option<u64>
-    ensures { result ≡ option_map (λ n. min n (2 ^ 64 - 1)) (value_of kind word.now) }
+    ensures { result ≡ option_map (λ n. min n (2 ^ 64 - 1)) (plain_value_of kind word.now) }
 {
     let (digits, unit) = split_digits(word);
     match kind {
@@ -114,9 +114,9 @@ fn packet_unit(text: &str) -> Option<u64>
 }
 
 /// How many bytes a unit has.
-#[tactic(auto, using(crate::proofs::TextLemmas::differ), unfolding(crate::specs::PlainWords::byte_unit_of))]
+#[tactic(auto, using(crate::proofs::TextLemmas::differ), unfolding(crate::specs::PlainWords::bytes_of_unit))]
 fn byte_unit(text: &str) -> Option<u64>
-    ensures { result ≡ byte_unit_of text.now }
+    ensures { result ≡ bytes_of_unit text.now }
 {
     match text {
         "b" => Some(1),
@@ -156,7 +156,7 @@ fn time_unit(text: &[u8]) -> Option<u64>
 /// The digits after a point as a part of a unit, where that is a whole number.
 fn part(decimals: &[u8], unit: u64) -> Option<u64>
     requires { unit ≤ 1000000 }
-    ensures { result ≡ part_of decimals.now unit }
+    ensures { result ≡ decimal_part_of decimals.now unit }
 {
     if decimals.len() > MAX_DECIMALS {
         return None;

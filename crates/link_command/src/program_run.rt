@@ -9,7 +9,7 @@ ghost use Rattle.link_command.specs.CommandLine.{texts_of};
 ghost use Rattle.link_command.specs.Faults.{status_of};
 ghost use Rattle.link_command.specs.declared.faults.ProgramFault.{ProgramFault};
 ghost use Rattle.link_command.specs.Runs.{Answers, FailsBy, IsAsked, IsFaultOn, IsJournalText, IsComparedText, IsRunFault, IsTableFor, IsTableOf, IsTraceOf};
-ghost use Rattle.link_command.specs.RunsSaid.{parts_of};
+ghost use Rattle.link_command.specs.RunsSaid.{run_parts_of};
 ghost use Rattle.link_report.specs.Packets.{known_of};
 
 use crate::arrivals::read_arrivals;
@@ -127,7 +127,7 @@ fn table_text<F: Write>(
 ) -> Result<Vec<u8>, ProgramFault>
     requires arrivals { AreArrivals arrivals.now }
     requires few { length arrivals.now ≤ MAX_ROWS }
-    ensures text { IfOk result (λ text. IsTableOf (texts_of request.now) (parts_of run.now) arrivals.now text.items) }
+    ensures text { IfOk result (λ text. IsTableOf (texts_of request.now) (run_parts_of run.now) arrivals.now text.items) }
     ensures fault { IfErr result (λ fault. fault ≡ ProgramFault.Memory) }
     ensures quiet { terminals.faults ≡ false → Keeps (F.contents notes.old) (F.contents notes.new) }
 {
@@ -207,7 +207,7 @@ fn trace_text<F: Write>(
     terminals: Terminals,
 ) -> Result<Vec<u8>, ProgramFault>
     requires { AreArrivals arrivals.now }
-    ensures text { IfOk result (λ text. IsTraceOf (parts_of run.now) arrivals.now text.items) }
+    ensures text { IfOk result (λ text. IsTraceOf (run_parts_of run.now) arrivals.now text.items) }
     ensures fault { IfErr result (λ fault. fault ≡ ProgramFault.Memory) }
     ensures quiet { terminals.faults ≡ false → Keeps (F.contents notes.old) (F.contents notes.new) }
 {
@@ -230,7 +230,7 @@ fn bins_text<F: Write>(
 ) -> Result<Vec<u8>, ProgramFault>
     requires arrivals { AreArrivals arrivals.now }
     requires table { request.now.table ≡ TableName.Series }
-    ensures text { IfOk result (λ text. IsTableOf (texts_of request.now) (parts_of run.now) arrivals.now text.items) }
+    ensures text { IfOk result (λ text. IsTableOf (texts_of request.now) (run_parts_of run.now) arrivals.now text.items) }
     ensures fault { IfErr result (λ fault. fault ≡ ProgramFault.Memory) }
     ensures quiet { terminals.faults ≡ false → Keeps (F.contents notes.old) (F.contents notes.new) }
 {
@@ -262,7 +262,7 @@ fn compared_text<F: Write>(
     requires steps { request.now.table ≢ TableName.Steps }
     requires series { request.now.table ≢ TableName.Series }
     ensures text { IfOk result (λ text. IsComparedText request.now.table request.now.has_fifo
-        (parts_of run.now) arrivals.now events.now.events text.items) }
+        (run_parts_of run.now) arrivals.now events.now.events text.items) }
     ensures fault { IfErr result (λ fault. fault ≡ ProgramFault.Memory) }
     ensures quiet { terminals.faults ≡ false → Keeps (F.contents notes.old) (F.contents notes.new) }
 {

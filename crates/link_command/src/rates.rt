@@ -1,7 +1,7 @@
 //! Rates, as tc writes them.
 
 ghost use Rattle.std.specs.Prelude.{◌≡◌, ◌-◌, ◌^◌, min, option_map};
-ghost use Rattle.link_command.specs.Rates.{byte_unit_of, rate_of, rate_unit_of};
+ghost use Rattle.link_command.specs.Rates.{bits_of_byte_unit, bit_rate_of, rate_unit_of};
 
 use crate::counts::{scaled, split_digits};
 
@@ -9,7 +9,7 @@ use crate::counts::{scaled, split_digits};
 /// case (tc(8), "RATES"). `bit` or nothing is a bit a second, and `bps` a byte; `k`, `m`, `g` and `t` before them are
 /// thousands, millions and so on, and `ki`, `mi`, `gi` and `ti` powers of 1,024. Another text has none.
 pub fn read_rate(text: &str) -> Option<u64>
-    ensures { result ≡ option_map (λ n. min n (2 ^ 64 - 1)) (rate_of text.now) }
+    ensures { result ≡ option_map (λ n. min n (2 ^ 64 - 1)) (bit_rate_of text.now) }
 {
     let (digits, unit) = split_digits(text);
     scaled(digits.as_bytes(), rate_unit(unit))
@@ -36,9 +36,9 @@ fn rate_unit(text: &str) -> Option<u64>
 }
 
 /// How many bits a second a unit of bytes has.
-#[tactic(auto, using(crate::proofs::TextLemmas::differ), unfolding(crate::specs::Rates::byte_unit_of))]
+#[tactic(auto, using(crate::proofs::TextLemmas::differ), unfolding(crate::specs::Rates::bits_of_byte_unit))]
 fn byte_unit(text: &str) -> Option<u64>
-    ensures { result ≡ byte_unit_of text.now }
+    ensures { result ≡ bits_of_byte_unit text.now }
 {
     match text {
         "bps" => Some(8),

@@ -6,9 +6,9 @@ ghost use Rattle.command_core.specs.Seeds.{seed_given};
 ghost use Rattle.link_command.specs.CommandLine.{texts_of};
 ghost use Rattle.link_command.specs.FaultsOn.{IsGivenFault, IsOfValue, IsWordsFault};
 ghost use Rattle.link_command.specs.PlainWords.{plain_words_of};
-ghost use Rattle.link_command.specs.Rates.{rate_of};
-ghost use Rattle.link_command.specs.Values.{AreGoodBefore, SaysLink, SaysRun, bytes_given, fault_within, place_of, value_text, width_fault, width_given};
-ghost use Rattle.link_command.specs.RunsSaid.{parts_of};
+ghost use Rattle.link_command.specs.Rates.{bit_rate_of};
+ghost use Rattle.link_command.specs.Values.{AreGoodBefore, SaysLink, SaysRun, bytes_given, fault_within, word_place_of, value_text, width_fault, width_given};
+ghost use Rattle.link_command.specs.RunsSaid.{run_parts_of};
 ghost use Rattle.link_command.specs.declared.values.GivenFault.TheVariants as given;
 
 use crate::command_line::RunRequest;
@@ -62,7 +62,7 @@ pub(crate) enum GivenFault {
 
 /// The run of a request. The values of options are tested in their order, and then the parameter words.
 pub(crate) fn run_of(alloc: Global, request: &RunRequest<'_>) -> Result<Run, ProgramFault>
-    ensures run { IfOk result (λ run. SaysRun (texts_of request.now) (parts_of run)) }
+    ensures run { IfOk result (λ run. SaysRun (texts_of request.now) (run_parts_of run)) }
     ensures fault { IfErr result (IsWordsFault (texts_of request.now)) }
 {
     match said(alloc, request) {
@@ -76,7 +76,7 @@ pub(crate) fn run_of(alloc: Global, request: &RunRequest<'_>) -> Result<Run, Pro
 
 /// What a request says, or its first fault.
 fn said(alloc: Global, request: &RunRequest<'_>) -> Result<Run, GivenFault>
-    ensures run { IfOk result (λ run. SaysRun (texts_of request.now) (parts_of run)) }
+    ensures run { IfOk result (λ run. SaysRun (texts_of request.now) (run_parts_of run)) }
     ensures fault { IfErr result (IsGivenFault (texts_of request.now)) }
 {
     let link = link_of(request)?;
@@ -113,10 +113,10 @@ fn link_of(request: &RunRequest<'_>) -> Result<Link, GivenFault>
 
 /// The rate that a text says.
 fn rate_in_range(text: &str) -> Result<u64, GivenFault>
-    ensures rate { IfOk result (λ rate. rate_of text.now ≡ Some rate) }
-    ensures good { IfOk result (λ _. fault_within 1000 1000000000000 (rate_of text.now) ≡ None) }
+    ensures rate { IfOk result (λ rate. bit_rate_of text.now ≡ Some rate) }
+    ensures good { IfOk result (λ _. fault_within 1000 1000000000000 (bit_rate_of text.now) ≡ None) }
     ensures range { IfOk result (λ rate. (1000 ≤ rate) × (rate ≤ 1000000000000)) }
-    ensures fault { IfErr result (IsOfValue ValueName.Rate (fault_within 1000 1000000000000 (rate_of text.now))) }
+    ensures fault { IfErr result (IsOfValue ValueName.Rate (fault_within 1000 1000000000000 (bit_rate_of text.now))) }
 {
     within(ValueName::Rate, read_rate(text), MIN_RATE, MAX_RATE)
 }
@@ -293,7 +293,7 @@ fn text_or_none(text: Option<&str>) -> &str
 
 /// The word that a fault is of.
 fn word_at<'a>(words: &[&'a str], fault: ParamFault) -> &'a str
-    ensures { result.now ≡ get_or (map (λ w. w.now) words.now) (place_of fault - 1) [] }
+    ensures { result.now ≡ get_or (map (λ w. w.now) words.now) (word_place_of fault - 1) [] }
 {
     let (ParamFault::UnknownWord(place)
     | ParamFault::MissingValue(place)

@@ -19,7 +19,7 @@ use Rattle.link_core.specs.Arrivals.{AreArrivals}
 use Rattle.link_core.specs.Fifo.{GivesHead, IsFifoJournal, TakesIn, fifo}
 use Rattle.link_core.specs.LinkLaw.{LinkPoint}
 use Rattle.link_core.specs.LinkLaw.LinkState.{idle}
-use Rattle.link_core.specs.LinkLaws.{AreApart, FollowsArrival, sendings}
+use Rattle.link_core.specs.LinkLaws.{AreSentInTurn, FollowsArrival, sendings}
 use Rattle.link_core.specs.LinkRuns.{IsLinkRunOf, IsLinkRunTo}
 use Rattle.link_core.specs.Links.{IsLink}
 use Rattle.link_core.proofs.Causality.{run_follows}
@@ -97,9 +97,9 @@ module _ (p : ParamFields) (seed : Seed) (link : LinkFields) (arrivals : List Ar
       (run_follows (fifo p seed) IsTracked (steps_tracked p seed) (λ s es t. (ByRecursion-parts (λ id. id < s.next_id) (fate_ids es) (map (λ (w : Waiting). w.id) s.queues) t.known).0) link arrivals h.steps h.made h.last opening_tracked h.run)
 
   -- packets are sent one after another
-  pub fifo_apart : IsLink link → AreArrivals arrivals → (events : List Event) → IsFifoJournal p seed link arrivals events → AreApart link arrivals 0 (sendings events)
+  pub fifo_apart : IsLink link → AreArrivals arrivals → (events : List Event) → IsFifoJournal p seed link arrivals events → AreSentInTurn link arrivals 0 (sendings events)
   fifo_apart range are events h =
-      subst (λ (es : List Event). AreApart link arrivals 0 (sendings es)) (sym h.journal) (link_apart (fifo p seed) link range arrivals are h.steps h.made h.last h.run)
+      subst (λ (es : List Event). AreSentInTurn link arrivals 0 (sendings es)) (sym h.journal) (link_apart (fifo p seed) link range arrivals are h.steps h.made h.last h.run)
 
   -- there is one run at most, and one journal
   pub fifo_run_once : (steps steps' : List Step) (made made' : List Made) (last last' : State (List Waiting)) → IsLinkRunOf (fifo p seed) link arrivals steps made last → IsLinkRunOf (fifo p seed) link arrivals steps' made' last'

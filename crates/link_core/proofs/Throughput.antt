@@ -23,7 +23,7 @@ use Rattle.link_core.specs.declared.arrival.Arrival.{Arrival}
 use Rattle.link_core.specs.declared.link.LinkFields.{LinkFields}
 use Rattle.link_core.specs.LinkLaw.{Follows, LinkPoint, LinkState, MovesFrom, after_ids}
 use Rattle.link_core.specs.LinkLaw.LinkState.{idle, asks, free}
-use Rattle.link_core.specs.LinkLaws.{AreApart, Sending, sending_of, sendings, work_of}
+use Rattle.link_core.specs.LinkLaws.{AreSentInTurn, Sending, sending_of, sendings, work_of}
 use Rattle.link_core.specs.Arrivals.{AreArrivals}
 use Rattle.link_core.specs.LinkRuns.{IsLinkRunOf}
 use Rattle.link_core.specs.Links.{IsLink}
@@ -101,8 +101,8 @@ module _ (link : LinkFields) (some : 0 < link.rate) (arrivals : List Arrival) wh
   -- behind a dequeue at those units
   starts_after : (last from units : ℕ) (coming : List Arrival) (given : Option Given) (moment : ℕ) (rest : List Sending) → from ≤ units → moment ≡ units / link.rate
       → StartsFrom last idle coming from
-      → ((from' : ℕ) → StartsFrom last (after_ids link arrivals units (given_ids given)) coming from' → AreApart link arrivals from' rest)
-      → AreApart link arrivals from (given_sendings moment given ++ rest)
+      → ((from' : ℕ) → StartsFrom last (after_ids link arrivals units (given_ids given)) coming from' → AreSentInTurn link arrivals from' rest)
+      → AreSentInTurn link arrivals from (given_sendings moment given ++ rest)
   starts_after last from units coming None moment rest late is idles go = go from idles
   starts_after last from units coming (Some g) moment rest late is idles go = (units, late, is, go _ (omega arith))
 
@@ -114,12 +114,12 @@ module _ (link : LinkFields) (some : 0 < link.rate) (arrivals : List Arrival) wh
       omega arith
 
   abbrev Sends : ℕ → List Event → List Sending → Type 0
-  Sends from events rest = AreApart link arrivals from (sendings events ++ rest)
+  Sends from events rest = AreSentInTurn link arrivals from (sendings events ++ rest)
 
   -- one move
   move_apart : (last from : ℕ) (state : LinkState) (coming : List Arrival) (step : Step) (events : List Event) (new : LinkPoint) (rest : List Sending)
       → MovesFrom link arrivals state coming step events new → StepSends step events → AreComing last coming → StartsFrom last state coming from
-      → ((last' from' : ℕ) → AreComing last' new.coming → StartsFrom last' new.state new.coming from' → AreApart link arrivals from' rest)
+      → ((last' from' : ℕ) → AreComing last' new.coming → StartsFrom last' new.state new.coming from' → AreSentInTurn link arrivals from' rest)
       → Sends from events rest
   move_apart last from idle [] step events new rest m s comes starts go = absurd m
   move_apart last from idle (a ∷ more) step events new rest m s comes starts go =
@@ -146,23 +146,23 @@ module _ (link : LinkFields) (some : 0 < link.rate) (arrivals : List Arrival) wh
   module _ {Q : Type 0} (d : Discipline Q) where
     pub run_apart : (steps : List Step) (made : List Made) (point end : LinkPoint) (old new : State Q) (last from : ℕ)
         → Follows link arrivals point steps made end → Runs d old steps made new → AllByRecursion (λ (m : Made). is_refused m.answer ≡ false) made
-        → AreComing last point.coming → StartsFrom last point.state point.coming from → AreApart link arrivals from (sendings (journal_of made))
+        → AreComing last point.coming → StartsFrom last point.state point.coming from → AreSentInTurn link arrivals from (sendings (journal_of made))
     run_apart [] [] point end old new last from f r accepted comes starts = tt
     run_apart [] (m ∷ made) point end old new last from f r accepted comes starts = absurd f
     run_apart (step ∷ steps) [] point end old new last from f r accepted comes starts = absurd f
     run_apart (step ∷ steps) (m ∷ made) point end old new last from f r accepted comes starts =
         let s = step_sends d old r.0 step m.answer m.events r.1 accepted.0 in
-        subst (AreApart link arrivals from) (sym (filter_map-append sending_of m.events (journal_of made)))
+        subst (AreSentInTurn link arrivals from) (sym (filter_map-append sending_of m.events (journal_of made)))
         (move_apart last from point.state point.coming step m.events f.0 (sendings (journal_of made)) f.1 s comes starts
         (λ last' from' comes' starts'. run_apart steps made f.0 end r.0 new last' from' f.2 r.2 accepted.1 comes' starts'))
 
   -- those behind others are apart too
-  apart_behind : (from : ℕ) (before rest : List Sending) → AreApart link arrivals from (before ++ rest) → (from' : ℕ) × AreApart link arrivals from' rest
+  apart_behind : (from : ℕ) (before rest : List Sending) → AreSentInTurn link arrivals from (before ++ rest) → (from' : ℕ) × AreSentInTurn link arrivals from' rest
   apart_behind from [] rest a = (from, a)
   apart_behind from (s ∷ before) rest a = apart_behind (a.0 + work_of link arrivals s) before rest a.3
 
   -- when a later one starts
-  apart_sum : (from : ℕ) (between behind : List Sending) (later : Sending) → AreApart link arrivals from (between ++ later ∷ behind)
+  apart_sum : (from : ℕ) (between behind : List Sending) (later : Sending) → AreSentInTurn link arrivals from (between ++ later ∷ behind)
       → (start : ℕ) × (from + sum_by (work_of link arrivals) between ≤ start) × (later.moment ≡ start / link.rate)
   apart_sum from [] behind later a = (a.0, let e = a.1 in omega arith, a.2)
   apart_sum from (s ∷ between) behind later a =
@@ -172,10 +172,10 @@ module _ (link : LinkFields) (some : 0 < link.rate) (arrivals : List Arrival) wh
       let more = next.1 in
       (next.0, omega arith, next.2)
 
-  pub rate_between : (all before between behind : List Sending) (one later : Sending) → all ≡ before ++ (one ∷ between ++ later ∷ behind) → AreApart link arrivals 0 all
+  pub rate_between : (all before between behind : List Sending) (one later : Sending) → all ≡ before ++ (one ∷ between ++ later ∷ behind) → AreSentInTurn link arrivals 0 all
       → sum_by (work_of link arrivals) (one ∷ between) + link.rate * one.moment < link.rate * (later.moment + 1)
   rate_between all before between behind one later is apart =
-      let a = (apart_behind 0 before (one ∷ between ++ later ∷ behind) (subst (AreApart link arrivals 0) is apart)).1 in
+      let a = (apart_behind 0 before (one ∷ between ++ later ∷ behind) (subst (AreSentInTurn link arrivals 0) is apart)).1 in
       let last = apart_sum (a.0 + work_of link arrivals one) between behind later a.3 in
       let parts = sum_by-cons (work_of link arrivals) one between in
       let first_at : one.moment ≡ a.0 / link.rate = a.2 in
@@ -187,7 +187,7 @@ module _ (link : LinkFields) (some : 0 < link.rate) (arrivals : List Arrival) wh
 
 -- whatever the discipline is
 pub link_apart : {Q : Type 0} (d : Discipline Q) (link : LinkFields) → IsLink link → (arrivals : List Arrival) → AreArrivals arrivals → (steps : List Step) (made : List Made) (last : State Q) → IsLinkRunOf d link arrivals steps made last
-    → AreApart link arrivals 0 (sendings (journal_of made))
+    → AreSentInTurn link arrivals 0 (sendings (journal_of made))
 link_apart d link range arrivals are steps made last run =
     let some : 0 < link.rate = let r = range.rate in omega arith in
     run_apart link some arrivals d steps made (record { state = idle; coming = arrivals }) (record { state = idle; coming = [] }) (opening_state d.opening) last 0 0 run.law run.runs

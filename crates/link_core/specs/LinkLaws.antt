@@ -36,8 +36,8 @@ work_of link arrivals s = work link (length_at arrivals s.id)
 
 -- The packets are sent one after another: each starts at an exact time, in units of 1/rate microseconds, not before the
 -- one before it ends; and its moment is that time, rounded down to whole microseconds.
-abbrev pub AreApart : LinkFields → List Arrival → ℕ → List Sending → Type 0
-AreApart link arrivals from [] = Unit {0}
-AreApart link arrivals from (s ∷ rest) =
+abbrev pub AreSentInTurn : LinkFields → List Arrival → ℕ → List Sending → Type 0
+AreSentInTurn link arrivals from [] = Unit {0}
+AreSentInTurn link arrivals from (s ∷ rest) =
     (start : ℕ) × (from ≤ start) × (s.moment ≡ start / link.rate)
-    × AreApart link arrivals (start + work_of link arrivals s) rest
+    × AreSentInTurn link arrivals (start + work_of link arrivals s) rest

@@ -22,10 +22,10 @@ pub record IsLink (l : LinkFields) : Type 0 where
   pub mpu : IsMpuInRange l.mpu
 
 -- that field is the first one that is out of its range
-abbrev pub IsFirstOutOfRange : LinkName → LinkFields → Type 0
-IsFirstOutOfRange Rate l = ¬ IsRateInRange l.rate
-IsFirstOutOfRange Overhead l = IsRateInRange l.rate × ¬ IsOverheadInRange l.overhead
-IsFirstOutOfRange Mpu l = IsRateInRange l.rate × IsOverheadInRange l.overhead × ¬ IsMpuInRange l.mpu
+abbrev pub IsFirstLinkFault : LinkName → LinkFields → Type 0
+IsFirstLinkFault Rate l = ¬ IsRateInRange l.rate
+IsFirstLinkFault Overhead l = IsRateInRange l.rate × ¬ IsOverheadInRange l.overhead
+IsFirstLinkFault Mpu l = IsRateInRange l.rate × IsOverheadInRange l.overhead × ¬ IsMpuInRange l.mpu
 
 -- the bytes on the wire of a packet of that length
 abbrev pub wire : LinkFields → ℕ → ℕ

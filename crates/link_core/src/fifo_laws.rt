@@ -16,7 +16,7 @@ ghost use Rattle.link_core.specs.declared.link.LinkFields.{LinkFields};
 ghost use Rattle.link_core.specs.Arrivals.{AreArrivals};
 ghost use Rattle.link_core.specs.Fifo.{IsFifoJournal, fifo};
 ghost use Rattle.link_core.specs.LinkLaw.LinkState.{idle};
-ghost use Rattle.link_core.specs.LinkLaws.{AreApart, FollowsArrival, Sending, sendings, work_of};
+ghost use Rattle.link_core.specs.LinkLaws.{AreSentInTurn, FollowsArrival, Sending, sendings, work_of};
 ghost use Rattle.link_core.specs.Links.{IsLink};
 ghost use Rattle.link_core.specs.LinkRuns.{IsLinkRunOf, IsLinkRunTo};
 
@@ -59,7 +59,7 @@ pub fn fifo_throughput()
     ensures apart { (p : ParamFields) (seed : Seed) (link : LinkFields) → IsLink link
         → (arrivals : List Arrival) → AreArrivals arrivals
         → (events : List Event) → IsFifoJournal p seed link arrivals events
-        → AreApart link arrivals 0 (sendings events) }
+        → AreSentInTurn link arrivals 0 (sendings events) }
     ensures rate { (p : ParamFields) (seed : Seed) (link : LinkFields) → IsLink link
         → (arrivals : List Arrival) → AreArrivals arrivals
         → (events : List Event) → IsFifoJournal p seed link arrivals events

@@ -15,7 +15,7 @@ ghost use Rattle.link_core.specs.declared.arrival.Arrival.{Arrival};
 ghost use Rattle.link_core.specs.declared.link.LinkFields.{LinkFields};
 ghost use Rattle.link_core.specs.Arrivals.{AreArrivals};
 ghost use Rattle.link_core.specs.LinkLaw.LinkState.{idle};
-ghost use Rattle.link_core.specs.LinkLaws.{AreApart, FollowsArrival, Sending, sendings, work_of};
+ghost use Rattle.link_core.specs.LinkLaws.{AreSentInTurn, FollowsArrival, Sending, sendings, work_of};
 ghost use Rattle.link_core.specs.Links.{IsLink};
 ghost use Rattle.link_core.specs.LinkRuns.{IsLinkRun, IsLinkRunTo};
 
@@ -62,7 +62,7 @@ pub fn throughput()
         → (arrivals : List Arrival) → AreArrivals arrivals
         → (steps : List Step) (made : List Made) (last : State FairQueues)
         → IsLinkRun p seed link arrivals steps made last
-        → AreApart link arrivals 0 (sendings (journal_of made)) }
+        → AreSentInTurn link arrivals 0 (sendings (journal_of made)) }
     ensures rate { (p : ParamFields) (seed : Seed) (link : LinkFields) → IsLink link
         → (arrivals : List Arrival) → AreArrivals arrivals
         → (steps : List Step) (made : List Made) (last : State FairQueues)

@@ -51,13 +51,13 @@ impl Model for Link {
 }
 
 impl Link {
-    ghost use Rattle.link_core.specs.Links.{IsFirstOutOfRange, IsLink, IsMpuInRange, IsOverheadInRange, IsRateInRange, wire, work};
+    ghost use Rattle.link_core.specs.Links.{IsFirstLinkFault, IsLink, IsMpuInRange, IsOverheadInRange, IsRateInRange, wire, work};
 
     /// The link, where each field is in its range. Otherwise it names the first that isn't.
     pub fn try_new(fields: LinkFields) -> Result<Link, LinkName>
         ensures ranges { IsOk result ↔ IsLink fields }
         ensures value { IfOk result (λ link. link ≡ fields) }
-        ensures first { IfErr result (λ name. IsFirstOutOfRange name fields) }
+        ensures first { IfErr result (λ name. IsFirstLinkFault name fields) }
     {
         if fields.rate < 1_000 || fields.rate > 1_000_000_000_000 {
             return Err(LinkName::Rate);

@@ -12,7 +12,7 @@ use Rattle.std.proofs.lemmas.List.FromFn.{length-map-range_with_len, get_or-map-
 use Rattle.link_report.specs.declared.packets.PacketRecord.{PacketRecord}
 use Rattle.link_report.specs.Packets.{delay_sent, last_moment, sent_len}
 use Rattle.link_picture.specs.declared.bins.Bin.{Bin}
-use Rattle.link_picture.specs.Bins.{HasRoom, bin_of, bins_from, greatest, is_dropped, is_in, longer, packets_in}
+use Rattle.link_picture.specs.Bins.{LeavesRoom, bin_of, bins_from, greatest, is_dropped, is_in, longer, packets_in}
 
 -- A moment is in the bin whose number is the quotient,
 in_own : (width moment number : ℕ) → 0 < width → number ≡ moment / width → is_in width number moment ≡ true
@@ -98,7 +98,7 @@ greatest_more (x ∷ xs) None = ap greatest (sym (append-nil (x ∷ xs)))
 greatest_more (x ∷ xs) (Some y) = ap (λ n. Some n) (sym (fold_push max x xs y))
 
 -- a bin with a packet more
-pub bin_more : (packets : List PacketRecord) (p : PacketRecord) (bin : Bin) (longest : Option ℕ) (len lost bytes drops : ℕ) → HasRoom packets → bin ≡ bin_of packets → longest ≡ longer bin.longest (delay_sent p) → len ≡ sent_len p → len < 2 ^ 16 → lost ≡ cond (is_dropped p) 1 0 → lost ≤ 1
+pub bin_more : (packets : List PacketRecord) (p : PacketRecord) (bin : Bin) (longest : Option ℕ) (len lost bytes drops : ℕ) → LeavesRoom packets → bin ≡ bin_of packets → longest ≡ longer bin.longest (delay_sent p) → len ≡ sent_len p → len < 2 ^ 16 → lost ≡ cond (is_dropped p) 1 0 → lost ≤ 1
     → bytes ≡ min (bin.sent_bytes + len) (2 ^ 64 - 1) → drops ≡ min (bin.drops + lost) (2 ^ 64 - 1) → record { longest = longest; sent_bytes = bytes; drops = drops } ≡ bin_of (packets ++ p ∷ [])
 bin_more packets p bin longest len lost bytes drops room is waits of_len short of_lost one adds counts =
     let most = waits ∙ ap (λ (b : Bin). longer b.longest (delay_sent p)) is ∙ greatest_more (filter_map delay_sent packets) (delay_sent p) ∙ ap greatest (sym (filter_map-append delay_sent packets (p ∷ []))) in
@@ -114,7 +114,7 @@ bin_more packets p bin longest len lost bytes drops room is waits of_len short o
     λ i. record { longest = most i; sent_bytes = all_bytes i; drops = all_drops i }
 
 -- the packets of a bin leave room where all do
-in_room : (width number : ℕ) (packets : List PacketRecord) → HasRoom packets → HasRoom (packets_in width number packets)
+in_room : (width number : ℕ) (packets : List PacketRecord) → LeavesRoom packets → LeavesRoom (packets_in width number packets)
 in_room width number packets room =
     let test = λ (q : PacketRecord). is_in width number (last_moment q) in
     let both = sum_by-filter_both test (λ q. not (test q)) (λ _. refl) sent_len packets in
@@ -126,8 +126,8 @@ in_room width number packets room =
 
 -- A packet goes to the bin at its place,
 pub add_in : (width first count place number : ℕ) (bins : List Bin) (p : PacketRecord) (read new : Bin) → 0 < width → number ≡ last_moment p / width → first ≤ number → place ≡ number - first → place < length bins → read ≡ get_or bins place read
-    → ((packets : List PacketRecord) → HasRoom packets → read ≡ bin_of packets → new ≡ bin_of (packets ++ p ∷ []))
-    → (packets : List PacketRecord) → HasRoom packets → bins ≡ bins_from width first count packets → set bins place new ≡ bins_from width first count (packets ++ p ∷ [])
+    → ((packets : List PacketRecord) → LeavesRoom packets → read ≡ bin_of packets → new ≡ bin_of (packets ++ p ∷ []))
+    → (packets : List PacketRecord) → LeavesRoom packets → bins ≡ bins_from width first count packets → set bins place new ≡ bins_from width first count (packets ++ p ∷ [])
 add_in width first count place number bins p read new wide is from at low reads more packets room are =
     let long = ap length are ∙ length_bins width first count packets in
     let within : place < count = omega arith in
@@ -143,7 +143,7 @@ add_out width first count number bins p wide is out packets are =
 
 -- the turn of the loop over packets
 pub bins_turn : (width first count i : ℕ) (packets : List PacketRecord) (d : PacketRecord) (len : ℕ) (old new : List Bin) → i < length packets → length packets ≤ 2 ^ 40 → len ≡ sent_len (get_or packets i d) → len < 2 ^ 16 → sum_by sent_len (take i packets) ≤ 65535 * i → old ≡ bins_from width first count (take i packets)
-    → ((before : List PacketRecord) → HasRoom before → old ≡ bins_from width first count before → new ≡ bins_from width first count (before ++ get_or packets i d ∷ []))
+    → ((before : List PacketRecord) → LeavesRoom before → old ≡ bins_from width first count before → new ≡ bins_from width first count (before ++ get_or packets i d ∷ []))
     → (new ≡ bins_from width first count (take (i + 1) packets)) × (sum_by sent_len (take (i + 1) packets) ≤ 65535 * (i + 1))
 bins_turn width first count i packets d len old new low short of_len small sums are more =
     let sum = sum_by_more sent_len packets i d low in

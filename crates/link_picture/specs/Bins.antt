@@ -37,7 +37,7 @@ longer (Some x) None = Some x
 longer (Some x) (Some y) = Some (max x y)
 
 -- the sums of packets leave room for one more in 64 bits
-pub record HasRoom (packets : List PacketRecord) : Type 0 where
+pub record LeavesRoom (packets : List PacketRecord) : Type 0 where
   pub bytes : sum_by sent_len packets < 2 ^ 63
   pub few : length packets < 2 ^ 63
 

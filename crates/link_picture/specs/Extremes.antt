@@ -6,7 +6,7 @@ use Rattle.link_picture.specs.declared.scales.TheConstants.{LEAST_WAIT, USUAL_WA
 use Rattle.link_picture.specs.declared.scales.WaitScale.{WaitScale}
 use Rattle.link_picture.specs.Octave.{octave_of}
 use Rattle.link_picture.specs.Percentages.{CurveParts}
-use Rattle.link_picture.specs.Points.{rate_of}
+use Rattle.link_picture.specs.Points.{bin_rate_of}
 
 -- the longest wait in some bins, and at least the one given
 abbrev pub longest_in : ℕ → List Bin → ℕ
@@ -22,7 +22,7 @@ longest_wait content = longest_of (longest_of 0 content.scheduler.items) content
 
 -- the greatest rate in some bins of a width, and at least the one given
 abbrev pub rate_in : ℕ → ℕ → List Bin → ℕ
-rate_in width rate bins = fold (λ most (bin : Bin). max most (rate_of width bin)) rate bins
+rate_in width rate bins = fold (λ most (bin : Bin). max most (bin_rate_of width bin)) rate bins
 
 -- the same in the bins of some lines
 abbrev pub rate_of_all : ℕ → ℕ → List CurveParts → ℕ

@@ -43,14 +43,14 @@ share_points scale percent [] = []
 share_points scale percent (wait ∷ waits) = share_point scale percent wait ∷ share_points scale (percent + 1) waits
 
 -- what was sent in a bin of a width, in bits a second
-abbrev pub rate_of : ℕ → Bin → ℕ
-rate_of width bin = bin.sent_bytes * 8000000 / width
+abbrev pub bin_rate_of : ℕ → Bin → ℕ
+bin_rate_of width bin = bin.sent_bytes * 8000000 / width
 
 -- the point of the throughput in the bin at a place
 abbrev pub rate_point : RateScale → Axis → ℕ → Bin → Point
 rate_point scale axis place bin = record {
   x = bin_x axis.count place;
-  y = RATE_BOTTOM - part_of (rate_of axis.width bin) scale.top PANEL_HEIGHT;
+  y = RATE_BOTTOM - part_of (bin_rate_of axis.width bin) scale.top PANEL_HEIGHT;
 }
 
 -- those of bins, of which the first is at that place

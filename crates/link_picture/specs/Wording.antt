@@ -42,9 +42,9 @@ rate_text rate step =
 
 -- An address: four numbers with dots, or in brackets the text of RFC 5952. Of the numbers of two bytes each that has the
 -- longest run of zeros as `::` (section 4).
-abbrev pub address_text : Ip → List ℕ
-address_text (V4 octets) = ipv4_text octets
-address_text (V6 octets) = codes "[" ++ (ipv6_text (segments_of octets) ++ codes "]")
+abbrev pub address_label : Ip → List ℕ
+address_label (V4 octets) = ipv4_text octets
+address_label (V6 octets) = codes "[" ++ (ipv6_text (segments_of octets) ++ codes "]")
 
 -- the name of a protocol, and its number where it has none here
 abbrev pub protocol_text : ℕ → List ℕ
@@ -58,9 +58,9 @@ protocol_text protocol =
 -- a number, and where the packets of its five-tuple come from
 abbrev pub source_text : ℕ → FiveTuple → List ℕ
 source_text number tuple =
-    decimal number ++ (codes ": " ++ (protocol_text tuple.proto ++ (codes " " ++ (address_text tuple.src
+    decimal number ++ (codes ": " ++ (protocol_text tuple.proto ++ (codes " " ++ (address_label tuple.src
     ++ (codes ":" ++ decimal tuple.sport)))))
 
 -- where they go
 abbrev pub destination_text : FiveTuple → List ℕ
-destination_text tuple = codes "to " ++ (address_text tuple.dst ++ (codes ":" ++ decimal tuple.dport))
+destination_text tuple = codes "to " ++ (address_label tuple.dst ++ (codes ":" ++ decimal tuple.dport))

@@ -4,7 +4,7 @@ ghost use Rattle.std.specs.Prelude.{◌≡◌, ◌≤◌, ◌∷◌, ◌++◌, [
 ghost use Rattle.link_report.specs.declared.packets.PacketRecord.{PacketRecord};
 ghost use Rattle.link_report.specs.declared.summary.TheConstants.{MAX_EVENTS};
 ghost use Rattle.link_report.specs.Packets.{sent_len};
-ghost use Rattle.link_picture.specs.Bins.{HasRoom, bin_of, bins_of, is_dropped, longer};
+ghost use Rattle.link_picture.specs.Bins.{LeavesRoom, bin_of, bins_of, is_dropped, longer};
 
 use crate::axis::Axis;
 use journal_core::Memory;
@@ -37,7 +37,7 @@ impl Bin {
     /// With a packet more, of whose length so much was sent, and whose fate came in the bin.
     fn with(&self, packet: &PacketRecord, len: u16) -> Bin
         requires { len ≡ sent_len packet.now }
-        ensures { (packets : List PacketRecord) → HasRoom packets → self.now ≡ bin_of packets
+        ensures { (packets : List PacketRecord) → LeavesRoom packets → self.now ≡ bin_of packets
             → result ≡ bin_of (packets ++ packet.now ∷ []) }
     {
         Bin {
@@ -101,7 +101,7 @@ fn empty_bins(alloc: Global, axis: &Axis) -> Result<Vec<Bin>, Memory>
 /// Adds a packet, of whose length so much was sent, to the bin in which its fate came, if the axis has that.
 fn add(bins: &mut Vec<Bin>, axis: &Axis, packet: &PacketRecord, len: u16)
     requires { len ≡ sent_len packet.now }
-    ensures { (packets : List PacketRecord) → HasRoom packets → bins.old.items ≡ bins_of axis.now packets
+    ensures { (packets : List PacketRecord) → LeavesRoom packets → bins.old.items ≡ bins_of axis.now packets
         → bins.new.items ≡ bins_of axis.now (packets ++ packet.now ∷ []) }
 {
     let number = packet.last_moment() / axis.width;

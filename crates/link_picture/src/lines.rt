@@ -1,7 +1,7 @@
 //! Which five-tuples have lines of their own in a picture.
 
 ghost use Rattle.std.specs.Prelude.{◌≡◌, ◌==◌, ◌+◌, IfNone, IfOk, IfSome, filter, length, min, slice_index, slice_set};
-ghost use Rattle.link_picture.specs.Lines.{AreChosen, AreCounts, AreMost, AreNone, IsPlaceOfMost, line_of, packets_on};
+ghost use Rattle.link_picture.specs.Lines.{AreChosen, AreLineCounts, AreMost, AreNone, IsPlaceOfMost, line_number_of, packets_on};
 
 use journal_core::Memory;
 use link_report::PacketRecord;
@@ -38,7 +38,7 @@ fn most_of(alloc: Global, tuples: usize, packets: &[PacketRecord]) -> Result<Vec
 
 /// How many packets each five-tuple has.
 fn counts_of(alloc: Global, tuples: usize, packets: &[PacketRecord]) -> Result<Vec<u64>, Memory>
-    ensures { IfOk result (λ counts. AreCounts tuples packets.now counts.items) }
+    ensures { IfOk result (λ counts. AreLineCounts tuples packets.now counts.items) }
 {
     let mut counts = zeros(alloc, tuples)?;
     for packet in packets {
@@ -86,8 +86,8 @@ fn place_of_most(counts: &[u64]) -> Option<usize>
 }
 
 /// The line of the five-tuple with that number: its place among those chosen. All others have the one after these.
-pub fn line_of(chosen: &[u64], tuple: u64) -> usize
-    ensures { result ≡ line_of chosen.now tuple }
+pub fn line_number_of(chosen: &[u64], tuple: u64) -> usize
+    ensures { result ≡ line_number_of chosen.now tuple }
 {
     for (line, number) in chosen.iter().enumerate() {
         if *number == tuple {
@@ -108,7 +108,7 @@ pub fn packets_on(
 {
     let mut own = Vec::new(alloc);
     for packet in packets {
-        if line_of(chosen, packet.tuple) == line {
+        if line_number_of(chosen, packet.tuple) == line {
             own.push(*packet)?;
         }
     }

@@ -1,7 +1,7 @@
 //! The points of a picture, from the bins and the percentiles of its lines.
 
 ghost use Rattle.std.specs.Prelude.{◌≡◌, ◌<◌, ◌≤◌, ◌+◌, ◌-◌, ◌*◌, ◌/◌, ◌^◌, min, IfOk};
-ghost use Rattle.link_picture.specs.Points.{bin_x, part_of, rate_of, rate_point, rate_points, share_point, share_points, wait_part, wait_point, wait_points};
+ghost use Rattle.link_picture.specs.Points.{bin_x, part_of, bin_rate_of, rate_point, rate_points, share_point, share_points, wait_part, wait_point, wait_points};
 
 use crate::axis::Axis;
 use crate::bins::Bin;
@@ -88,8 +88,8 @@ pub fn rate_y(scale: &RateScale, rate: u128) -> u64
 }
 
 /// What was sent in a bin, in bits a second, rounded down.
-pub fn rate_of(axis: &Axis, bin: &Bin) -> u128
-    ensures { result ≡ rate_of axis.now.width bin.now }
+pub fn bin_rate_of(axis: &Axis, bin: &Bin) -> u128
+    ensures { result ≡ bin_rate_of axis.now.width bin.now }
 {
     u128::from(bin.sent_bytes) * 8_000_000 / u128::from(axis.width)
 }
@@ -156,7 +156,7 @@ pub fn rate_points(
     for (place, bin) in bins.iter().enumerate() {
         points.push(Point {
             x: bin_x(axis.count, place as u64),
-            y: rate_y(scale, rate_of(axis, bin)),
+            y: rate_y(scale, bin_rate_of(axis, bin)),
         })?;
     }
     Ok(points)

@@ -117,7 +117,7 @@ fn protocol_text(alloc: Global, protocol: u8) -> Result<String, Memory>
 
 /// An address: one of IPv4 as four numbers with dots, and one of IPv6 in brackets, as RFC 5952 writes it.
 fn address_text(alloc: Global, address: Ip) -> Result<String, Memory>
-    ensures { IfOk result (λ text. string_bytes text ≡ Spec.address_text address) }
+    ensures { IfOk result (λ text. string_bytes text ≡ Spec.address_label address) }
 {
     match address {
         Ip::V4(octets) => {

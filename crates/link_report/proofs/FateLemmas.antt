@@ -28,7 +28,7 @@ use Rattle.link_report.specs.declared.packets.Fate.{Fate}
 use Rattle.link_report.specs.declared.packets.Fate.TheVariants.{Waiting, Sent, Dropped}
 use Rattle.link_report.specs.declared.packets.PacketRecord.{PacketRecord}
 use Rattle.link_report.specs.Fates.{fate_from, fate_in, record_of, tuples_in}
-use Rattle.link_report.specs.Packets.{Known, arrived, known_of, nothing_known, number_of, with_event, with_fate}
+use Rattle.link_report.specs.Packets.{Known, arrived, known_of, nothing_known, number_of, known_with_event, with_fate}
 
 -- THE FATE THAT EVENTS GIVE AN ID
 
@@ -107,11 +107,11 @@ dropped_once events before behind id moment cause once is =
 -- FIVE-TUPLES AND THEIR NUMBERS
 
 -- The five-tuples that are known are those of the acceptances, from any point on,
-tuples_from : (known : Known) (events : List Event) → (fold with_event known events).tuples ≡ fold (with_new same_tuple) known.tuples (map tuple_of (acceptances events))
+tuples_from : (known : Known) (events : List Event) → (fold known_with_event known events).tuples ≡ fold (with_new same_tuple) known.tuples (map tuple_of (acceptances events))
 tuples_from known [] = refl
 tuples_from known (event.Accepted lane id moment flow packet ∷ events) = tuples_from (arrived known id moment flow packet) events
-tuples_from known (event.Sent id moment ecn mark ∷ events) = tuples_from (with_event known (event.Sent id moment ecn mark)) events
-tuples_from known (event.Dropped id moment cause ∷ events) = tuples_from (with_event known (event.Dropped id moment cause)) events
+tuples_from known (event.Sent id moment ecn mark ∷ events) = tuples_from (known_with_event known (event.Sent id moment ecn mark)) events
+tuples_from known (event.Dropped id moment cause ∷ events) = tuples_from (known_with_event known (event.Dropped id moment cause)) events
 tuples_from known (event.Closed moment ∷ events) = tuples_from known events
 
 -- and of a whole journal.
@@ -119,11 +119,11 @@ pub tuples_known : (events : List Event) → (known_of events).tuples ≡ tuples
 tuples_known events = tuples_from nothing_known events
 
 -- how many were sent is the number of the events that send
-sends_from : (known : Known) (events : List Event) → (fold with_event known events).sent ≡ known.sent + length (filter_map sent_of events)
+sends_from : (known : Known) (events : List Event) → (fold known_with_event known events).sent ≡ known.sent + length (filter_map sent_of events)
 sends_from known [] = omega arith
 sends_from known (event.Accepted lane id moment flow packet ∷ events) = sends_from (arrived known id moment flow packet) events
-sends_from known (event.Sent id moment ecn mark ∷ events) = let rest = sends_from (with_event known (event.Sent id moment ecn mark)) events in omega arith
-sends_from known (event.Dropped id moment cause ∷ events) = sends_from (with_event known (event.Dropped id moment cause)) events
+sends_from known (event.Sent id moment ecn mark ∷ events) = let rest = sends_from (known_with_event known (event.Sent id moment ecn mark)) events in omega arith
+sends_from known (event.Dropped id moment cause ∷ events) = sends_from (known_with_event known (event.Dropped id moment cause)) events
 sends_from known (event.Closed moment ∷ events) = sends_from known events
 
 -- A five-tuple more leaves the number of each that is then among them.
@@ -236,8 +236,8 @@ abbrev IsTable : List Event → Type 0
 IsTable events = (known_of events).packets ≡ map (record_of events) (acceptances events)
 
 -- what is known with an event more
-known_push : (before : List Event) (e : Event) → known_of (before ++ e ∷ []) ≡ with_event (known_of before) e
-known_push before e = fold-append with_event nothing_known before (e ∷ [])
+known_push : (before : List Event) (e : Event) → known_of (before ++ e ∷ []) ≡ known_with_event (known_of before) e
+known_push before e = fold-append known_with_event nothing_known before (e ∷ [])
 
 -- a packet is accepted, whose id no fate names so far
 table_accepts : (before : List Event) (lane id moment flow : ℕ) (packet : PacketParts) → is_among (fate_ids before) id ≡ false → IsTable before → IsTable (before ++ event.Accepted lane id moment flow packet ∷ [])

@@ -20,7 +20,7 @@ use Rattle.journal_core.proofs.TupleEquality.{any_agree}
 use Rattle.link_report.specs.declared.packets.Fate.{Fate}
 use Rattle.link_report.specs.declared.packets.Fate.TheVariants.{Waiting, Sent, Dropped}
 use Rattle.link_report.specs.declared.packets.PacketRecord.{PacketRecord}
-use Rattle.link_report.specs.Packets.{Known, known_of, nothing_known, number_of, with_event, with_fate}
+use Rattle.link_report.specs.Packets.{Known, known_of, nothing_known, number_of, known_with_event, with_fate}
 
 -- The equality that is derived for five-tuples, by which the set finds them, is that of all their parts.
 addresses_agree : (a b : Ip) → (ip_equality.ghosts).eq a b ≡ same_ip a b
@@ -91,7 +91,7 @@ pushed : {X : Type 0} (xs : List X) (x : X) → length (xs ++ x ∷ []) ≤ leng
 pushed xs x = omega (arith, length_push xs x)
 
 -- each event is at most one packet more
-one_packet : (known : Known) (e : Event) → length (with_event known e).packets ≤ length known.packets + 1
+one_packet : (known : Known) (e : Event) → length (known_with_event known e).packets ≤ length known.packets + 1
 one_packet known (event.Accepted lane id moment flow packet) =
     let p : PacketRecord = record { id = id; tuple = number_of known.tuples packet.tuple; flow = flow; len = packet.len; ecn = packet.ecn; arrived = moment; fate = Waiting } in
     pushed known.packets p
@@ -99,24 +99,24 @@ one_packet known (event.Sent id moment ecn mark) = omega (arith, length-with_fat
 one_packet known (event.Dropped id moment cause) = omega (arith, length-with_fate known.packets id (Dropped moment cause))
 one_packet known (event.Closed moment) = omega arith
 
-few_from : (known : Known) (events : List Event) → length (fold with_event known events).packets ≤ length known.packets + length events
+few_from : (known : Known) (events : List Event) → length (fold known_with_event known events).packets ≤ length known.packets + length events
 few_from known [] = omega arith
-few_from known (e ∷ events) = omega (arith, one_packet known e, few_from (with_event known e) events)
+few_from known (e ∷ events) = omega (arith, one_packet known e, few_from (known_with_event known e) events)
 
 -- there are no more packets than events
 pub few_packets : (events : List Event) → length (known_of events).packets ≤ length events
 few_packets events = omega (arith, few_from nothing_known events)
 
 -- each event is at most one packet sent more
-pub one_sent : (known : Known) (e : Event) → (with_event known e).sent ≤ known.sent + 1
+pub one_sent : (known : Known) (e : Event) → (known_with_event known e).sent ≤ known.sent + 1
 one_sent known (event.Accepted lane id moment flow packet) = omega arith
 one_sent known (event.Sent id moment ecn mark) = omega arith
 one_sent known (event.Dropped id moment cause) = omega arith
 one_sent known (event.Closed moment) = omega arith
 
-sent_from : (known : Known) (events : List Event) → (fold with_event known events).sent ≤ known.sent + length events
+sent_from : (known : Known) (events : List Event) → (fold known_with_event known events).sent ≤ known.sent + length events
 sent_from known [] = omega arith
-sent_from known (e ∷ events) = omega (arith, one_sent known e, sent_from (with_event known e) events)
+sent_from known (e ∷ events) = omega (arith, one_sent known e, sent_from (known_with_event known e) events)
 
 -- no more were sent than there are events
 pub few_sent : (events : List Event) → (known_of events).sent ≤ length events

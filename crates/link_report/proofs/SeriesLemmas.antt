@@ -16,8 +16,8 @@ use Rattle.link_report.specs.declared.series.Series.{Series}
 use Rattle.link_report.specs.declared.table.Queue.{Queue}
 use Rattle.link_report.specs.declared.table.Table.{Table}
 use Rattle.link_report.specs.Series.{bin_at}
-use Rattle.link_report.specs.SeriesTables.{AreRows, IsAt, IsIn, Walk, begins, begun, ended, later, lines_at, noted, noted_of, nothing, of_number, on_to, series_line, still_waiting, times, walked, with_event, with_row}
-use Rattle.link_report.specs.Tables.{Adds, HasText}
+use Rattle.link_report.specs.SeriesTables.{AreRows, HasRowsBefore, IsIn, Walk, begins, begun, ended, later, lines_at, noted, noted_of, nothing, of_number, on_to, series_line, still_waiting, times, walked, walk_with_event, numbers_with_row}
+use Rattle.link_report.specs.Tables.{AddsToTable, HasTableText}
 use Rattle.link_report.proofs.TableLemmas.{adds_line, adds_none}
 
 abbrev one_if : Bool → ℕ
@@ -131,7 +131,7 @@ listed test (suc m) n xs up low each high =
     ]
 
 -- the numbers with a row, in ascending order
-pub rows_listed : (happenings : List Happenings) (numbers : List ℕ) → AreRows happenings numbers → IsNonDecreasing numbers → numbers ≡ with_row happenings
+pub rows_listed : (happenings : List Happenings) (numbers : List ℕ) → AreRows happenings numbers → IsNonDecreasing numbers → numbers ≡ numbers_with_row happenings
 rows_listed happenings numbers are up =
     listed (λ k. (of_number happenings k).has_row) (length happenings) 0 numbers up (λ k less. absurd (omega arith)) (λ k from. are.once k)
     (λ k past. ap (λ (h : Happenings). h.has_row) (get_or_past happenings k nothing (omega arith)))
@@ -179,7 +179,7 @@ cond_append false xs x = sym (append-nil xs)
 
 -- The rows of some five-tuples were written, and what waits is left for the next bin.
 pub record Wrote (queue : Queue) (from : ℕ) (happenings : List Happenings) (numbers : List ℕ) (old new : Table) (now : List Happenings) (rows : List ℕ) : Type 0 where
-  pub text : Adds old new (lines_at queue from happenings numbers)
+  pub text : AddsToTable old new (lines_at queue from happenings numbers)
   pub long : length now ≡ length happenings
   pub each : (k : ℕ) → of_number now k ≡ cond (nat_lt 0 (times numbers k)) (still_waiting (of_number happenings k)) (of_number happenings k)
   pub left : rows ≡ filter (λ k. nat_lt 0 (of_number happenings k).waiting) numbers
@@ -189,7 +189,7 @@ wrote_none queue from happenings table =
     record { text = adds_none table; long = refl; each = λ k. refl; left = refl }
 
 module _ (queue : Queue) (from : ℕ) (happenings : List Happenings) (all : List ℕ) (i d : ℕ) (old mid new : Table) (now next : List Happenings) (rows after : List ℕ) (number : ℕ) (waits : Bool) (are : AreRows happenings all) (low : i < length all)
-    (is : number ≡ get_or all i d) (so : Wrote queue from happenings (take i all) old mid now rows) (writes : number < length now → Adds mid new (series_line queue from number (of_number now number)))
+    (is : number ≡ get_or all i d) (so : Wrote queue from happenings (take i all) old mid now rows) (writes : number < length now → AddsToTable mid new (series_line queue from number (of_number now number)))
     (leaves : number < length now → next ≡ set now number (still_waiting (of_number now number))) (answers : number < length now → waits ≡ nat_lt 0 (of_number now number).waiting) (pushed : after ≡ cond waits (rows ++ number ∷ []) rows) where
   low_now : number < length now
   low_now =
@@ -237,7 +237,7 @@ module _ (queue : Queue) (from : ℕ) (happenings : List Happenings) (all : List
   -- one row more
   pub wrote_more : Wrote queue from happenings (take (i + 1) all) old new next after
   wrote_more =
-      let line = subst (λ (h : Happenings). Adds mid new (series_line queue from number h)) unchanged (writes low_now) in
+      let line = subst (λ (h : Happenings). AddsToTable mid new (series_line queue from number h)) unchanged (writes low_now) in
       record {
         text = adds_line (λ k. series_line queue from k (of_number happenings k)) all i number d old mid new low is so.text line;
         long = ap length (leaves low_now) ∙ length-set now number (still_waiting (of_number now number)) ∙ so.long;
@@ -290,7 +290,7 @@ module _ (queue : Queue) (from : ℕ) (happenings : List Happenings) (all : List
       subst (λ (hs : List Happenings). AreRows hs rows) (sym wrote_all) next
 
 -- a bin with no row
-no_rows : (happenings : List Happenings) → AreRows happenings [] → (map still_waiting happenings ≡ happenings) × (with_row happenings ≡ [])
+no_rows : (happenings : List Happenings) → AreRows happenings [] → (map still_waiting happenings ≡ happenings) × (numbers_with_row happenings ≡ [])
 no_rows happenings are =
     let fails : (k : ℕ) → (of_number happenings k).has_row ≡ false = λ k. elim (cases_Bool (of_number happenings k).has_row) [
       | inl holds ↦ let one : times [] k ≡ 1 = are.once k ∙ ap one_if holds in absurd (omega arith)
@@ -335,7 +335,7 @@ later_bin zero walk = omega arith
 later_bin (suc count) walk = omega (arith, later_bin count walk)
 
 -- to the same place of the walk but for the number of the bin
-moved : (before : List ℕ) (series : Series) (table : Table) (old new : Walk) (bin : ℕ) → IsAt before series table old → IsSame old new → IsAt before (record series { bin = bin }) table (record new { bin = bin })
+moved : (before : List ℕ) (series : Series) (table : Table) (old new : Walk) (bin : ℕ) → HasRowsBefore before series table old → IsSame old new → HasRowsBefore before (record series { bin = bin }) table (record new { bin = bin })
 moved before series table old new bin at same =
     record {
       place = record {
@@ -345,18 +345,18 @@ moved before series table old new bin at same =
         happenings = at.place.happenings ∙ sym same.happenings;
         rows = subst (λ (hs : List Happenings). AreRows hs series.rows.items) (sym same.happenings) at.place.rows;
       };
-      text = subst (λ (text : List ℕ). HasText table (before ++ text)) (sym same.text) at.text;
+      text = subst (λ (text : List ℕ). HasTableText table (before ++ text)) (sym same.text) at.text;
     }
 
 -- The loop over bins begins,
-pub bins_begin : (before : List ℕ) (series : Series) (table : Table) (walk : Walk) (first turn : ℕ) → turn ≡ first → IsAt before series table walk → IsAt before series table (later (turn - first) walk)
+pub bins_begin : (before : List ℕ) (series : Series) (table : Table) (walk : Walk) (first turn : ℕ) → turn ≡ first → HasRowsBefore before series table walk → HasRowsBefore before series table (later (turn - first) walk)
 bins_begin before series table walk first turn is at =
     let none : turn - first ≡ 0 = omega arith in
     rw none at
 
 -- goes on by a bin that ended,
-pub bins_turn : (before : List ℕ) (series : Series) (table : Table) (walk : Walk) (first turn bin : ℕ) → first ≤ turn → series.bin ≡ turn → bin ≡ turn + 1 → IsAt before series table (ended (later (turn - first) walk))
-    → IsAt before (record series { bin = bin }) table (later (turn + 1 - first) walk)
+pub bins_turn : (before : List ℕ) (series : Series) (table : Table) (walk : Walk) (first turn bin : ℕ) → first ≤ turn → series.bin ≡ turn → bin ≡ turn + 1 → HasRowsBefore before series table (ended (later (turn - first) walk))
+    → HasRowsBefore before (record series { bin = bin }) table (later (turn + 1 - first) walk)
 bins_turn before series table walk first turn bin from is more at =
     let next : turn + 1 - first ≡ suc (turn - first) = omega arith in
     let was = at.place.bin in
@@ -372,14 +372,14 @@ bins_turn before series table walk first turn bin from is more at =
     })
 
 -- and ends, at its last bin
-pub bins_end : (before : List ℕ) (series : Series) (table : Table) (walk : Walk) (first turn bin : ℕ) → first ≡ walk.bin → turn - first ≡ bin - first → IsAt before series table (later (turn - first) walk) → IsAt before (record series { bin = bin }) table (on_to bin walk)
+pub bins_end : (before : List ℕ) (series : Series) (table : Table) (walk : Walk) (first turn bin : ℕ) → first ≡ walk.bin → turn - first ≡ bin - first → HasRowsBefore before series table (later (turn - first) walk) → HasRowsBefore before (record series { bin = bin }) table (on_to bin walk)
 bins_end before series table walk first turn bin is last at =
     let count : turn - first ≡ bin - walk.bin = omega arith in
     moved before series table (later (turn - first) walk) (later (bin - walk.bin) walk) bin at (rw count (record { queue = refl; every = refl; happenings = refl; text = refl }))
 
 -- or at the first with no row.
-pub bins_stop : (before : List ℕ) (series : Series) (table : Table) (walk : Walk) (first turn bin : ℕ) → first ≡ walk.bin → first ≤ turn → turn ≤ bin → series.rows.items ≡ [] → IsAt before series table (later (turn - first) walk)
-    → IsAt before (record series { bin = bin }) table (on_to bin walk)
+pub bins_stop : (before : List ℕ) (series : Series) (table : Table) (walk : Walk) (first turn bin : ℕ) → first ≡ walk.bin → first ≤ turn → turn ≤ bin → series.rows.items ≡ [] → HasRowsBefore before series table (later (turn - first) walk)
+    → HasRowsBefore before (record series { bin = bin }) table (on_to bin walk)
 bins_stop before series table walk first turn bin is from below none at =
     let was = later (turn - first) walk in
     let empty = subst (λ (numbers : List ℕ). AreRows was.happenings numbers) none at.place.rows in
@@ -388,17 +388,17 @@ bins_stop before series table walk first turn bin is from below none at =
     moved before series table was (later (bin - walk.bin) walk) bin at (subst (λ (w : Walk). IsSame was w) whole (idle_later (bin - turn) was empty))
 
 -- A bin's rows are written.
-pub bin_ends : (before : List ℕ) (series : Series) (sorted : List ℕ) (table new : Table) (walk : Walk) (from : ℕ) (now : List Happenings) (rows : List ℕ) (after : Series) → IsAt before series table walk → IsPermutation series.rows.items sorted → IsNonDecreasing sorted
-    → from ≡ min (series.bin * series.every) (2 ^ 64 - 1) → (AreRows series.happenings.items sorted → Adds table new (lines_at series.queue from series.happenings.items sorted)) → (AreRows series.happenings.items sorted → now ≡ map still_waiting series.happenings.items)
-    → (AreRows series.happenings.items sorted → AreRows now rows) → after.queue ≡ series.queue → after.every ≡ series.every → after.bin ≡ series.bin → after.happenings.items ≡ now → after.rows.items ≡ rows → IsAt before after new (ended walk)
-unfolding Adds
+pub bin_ends : (before : List ℕ) (series : Series) (sorted : List ℕ) (table new : Table) (walk : Walk) (from : ℕ) (now : List Happenings) (rows : List ℕ) (after : Series) → HasRowsBefore before series table walk → IsPermutation series.rows.items sorted → IsNonDecreasing sorted
+    → from ≡ min (series.bin * series.every) (2 ^ 64 - 1) → (AreRows series.happenings.items sorted → AddsToTable table new (lines_at series.queue from series.happenings.items sorted)) → (AreRows series.happenings.items sorted → now ≡ map still_waiting series.happenings.items)
+    → (AreRows series.happenings.items sorted → AreRows now rows) → after.queue ≡ series.queue → after.every ≡ series.every → after.bin ≡ series.bin → after.happenings.items ≡ now → after.rows.items ≡ rows → HasRowsBefore before after new (ended walk)
+unfolding AddsToTable
 bin_ends before series sorted table new walk from now rows after at moves up starts adds leaves left queue every bin happenings kept =
     let place = at.place in
     let old = rows_permuted walk.happenings series.rows.items sorted place.rows moves in
     let are = subst (λ (hs : List Happenings). AreRows hs sorted) (sym place.happenings) old in
     let all = rows_listed walk.happenings sorted old up in
     let start : from ≡ min (walk.bin * walk.every) (2 ^ 64 - 1) = starts ∙ (λ k. min (place.bin k * place.every k) (2 ^ 64 - 1)) in
-    let lines : lines_at series.queue from series.happenings.items sorted ≡ lines_at walk.queue (min (walk.bin * walk.every) (2 ^ 64 - 1)) walk.happenings (with_row walk.happenings) = λ k. lines_at (place.queue k) (start k) (place.happenings k) (all k) in
+    let lines : lines_at series.queue from series.happenings.items sorted ≡ lines_at walk.queue (min (walk.bin * walk.every) (2 ^ 64 - 1)) walk.happenings (numbers_with_row walk.happenings) = λ k. lines_at (place.queue k) (start k) (place.happenings k) (all k) in
     let next : now ≡ map still_waiting walk.happenings = leaves are ∙ ap (λ hs. map still_waiting hs) place.happenings in
     record {
       place = record {
@@ -408,27 +408,27 @@ bin_ends before series sorted table new walk from now rows after at moves up sta
         happenings = happenings ∙ next;
         rows = subst (λ (numbers : List ℕ). AreRows (map still_waiting walk.happenings) numbers) (sym kept) (subst (λ (hs : List Happenings). AreRows hs rows) next (left are));
       };
-      text = subst (λ (text : List ℕ). HasText new text) (append_assoc before walk.text (lines_at walk.queue (begins walk) walk.happenings (with_row walk.happenings))) (subst (λ (text : List ℕ). HasText new ((before ++ walk.text) ++ text)) lines (adds are (before ++ walk.text) at.text));
+      text = subst (λ (text : List ℕ). HasTableText new text) (append_assoc before walk.text (lines_at walk.queue (begins walk) walk.happenings (numbers_with_row walk.happenings))) (subst (λ (text : List ℕ). HasTableText new ((before ++ walk.text) ++ text)) lines (adds are (before ++ walk.text) at.text));
     }
 
 -- The walk over events begins,
-pub walk_begins : (before : List ℕ) (series : Series) (table : Table) (queue : Queue) (every tuples count : ℕ) → count ≡ tuples → IsIn series (begun queue every count) → HasText table before → IsAt before series table (begun queue every tuples)
+pub walk_begins : (before : List ℕ) (series : Series) (table : Table) (queue : Queue) (every tuples count : ℕ) → count ≡ tuples → IsIn series (begun queue every count) → HasTableText table before → HasRowsBefore before series table (begun queue every tuples)
 walk_begins before series table queue every tuples count is begins has =
-    record { place = subst (λ (n : ℕ). IsIn series (begun queue every n)) is begins; text = subst (λ (text : List ℕ). HasText table text) (sym (append-nil before)) has }
+    record { place = subst (λ (n : ℕ). IsIn series (begun queue every n)) is begins; text = subst (λ (text : List ℕ). HasTableText table text) (sym (append-nil before)) has }
 
 -- goes on,
 pub walk_goes_on : (before : List ℕ) (series : Series) (table : Table) (queue : Queue) (every tuples : ℕ) (packets given : List PacketRecord) (events : List Event) (i : ℕ) (event : Event) → i < length events → event ≡ get_or events i event → given ≡ packets
-    → IsAt before series table (with_event given (walked queue every tuples packets (take i events)) event) → IsAt before series table (walked queue every tuples packets (take (i + 1) events))
+    → HasRowsBefore before series table (walk_with_event given (walked queue every tuples packets (take i events)) event) → HasRowsBefore before series table (walked queue every tuples packets (take (i + 1) events))
 walk_goes_on before series table queue every tuples packets given events i event low is same at =
     let was = walked queue every tuples packets (take i events) in
-    let more = fold_more (with_event packets) (begun queue every tuples) events i event low in
-    let own = subst (λ (ps : List PacketRecord). IsAt before series table (with_event ps was event)) same at in
-    let here = subst (λ (e : Event). IsAt before series table (with_event packets was e)) is own in
-    subst (λ (w : Walk). IsAt before series table w) (sym more) here
+    let more = fold_more (walk_with_event packets) (begun queue every tuples) events i event low in
+    let own = subst (λ (ps : List PacketRecord). HasRowsBefore before series table (walk_with_event ps was event)) same at in
+    let here = subst (λ (e : Event). HasRowsBefore before series table (walk_with_event packets was e)) is own in
+    subst (λ (w : Walk). HasRowsBefore before series table w) (sym more) here
 
 -- and ends.
-pub walk_ends : (old mid new : Table) (series after : Series) (walk : Walk) → ((before : List ℕ) → HasText old before → IsAt before series mid walk) → ((before : List ℕ) (w : Walk) → IsAt before series mid w → IsAt before after new (ended w)) → Adds old new (ended walk).text
-unfolding Adds
+pub walk_ends : (old mid new : Table) (series after : Series) (walk : Walk) → ((before : List ℕ) → HasTableText old before → HasRowsBefore before series mid walk) → ((before : List ℕ) (w : Walk) → HasRowsBefore before series mid w → HasRowsBefore before after new (ended w)) → AddsToTable old new (ended walk).text
+unfolding AddsToTable
 walk_ends old mid new series after walk at ends = λ before has. (ends before walk (at before has)).text
 
 -- the id of the packet that an event is of, and its moment
@@ -446,7 +446,7 @@ abbrev moment_of : Option (ℕ × ℕ) → ℕ
 moment_of None = 0
 moment_of (Some own) = own.1
 
-walk_by : (packets : List PacketRecord) (walk : Walk) (event : Event) (id moment : ℕ) → own_of event ≡ Some (id, moment) → with_event packets walk event ≡ noted_of (slice_get packets id) (on_to (bin_at walk.every moment) walk) event
+walk_by : (packets : List PacketRecord) (walk : Walk) (event : Event) (id moment : ℕ) → own_of event ≡ Some (id, moment) → walk_with_event packets walk event ≡ noted_of (slice_get packets id) (on_to (bin_at walk.every moment) walk) event
 walk_by packets walk (Accepted lane i m flow packet) id moment is =
     let ids : i ≡ id = ap id_of is in
     let moments : m ≡ moment = ap moment_of is in
@@ -463,11 +463,11 @@ walk_by packets walk (Closed m) id moment is = cc
 
 -- An event of a packet is taken.
 pub taken : (before : List ℕ) (series mid after : Series) (table : Table) (packets : List PacketRecord) (walk : Walk) (event : Event) (id moment bin : ℕ) (p : PacketRecord) → own_of event ≡ Some (id, moment) → slice_get packets id ≡ Some p → bin ≡ bin_at series.every moment → series.every ≡ walk.every
-    → IsAt before mid table (on_to bin walk) → ((w : Walk) → IsIn mid w → IsIn after (noted p w event)) → IsAt before after table (with_event packets walk event)
+    → HasRowsBefore before mid table (on_to bin walk) → ((w : Walk) → IsIn mid w → IsIn after (noted p w event)) → HasRowsBefore before after table (walk_with_event packets walk event)
 taken before series mid after table packets walk event id moment bin p own found of_bin every at notes =
     let there : bin ≡ bin_at walk.every moment = of_bin ∙ ap (λ n. bin_at n moment) every in
-    let here = subst (λ (n : ℕ). IsAt before mid table (on_to n walk)) there at in
+    let here = subst (λ (n : ℕ). HasRowsBefore before mid table (on_to n walk)) there at in
     let next = on_to (bin_at walk.every moment) walk in
-    let new : IsAt before after table (noted p next event) = record { place = notes next here.place; text = here.text } in
-    let one = subst (λ (o : Option PacketRecord). IsAt before after table (noted_of o next event)) (sym found) new in
-    subst (λ (w : Walk). IsAt before after table w) (sym (walk_by packets walk event id moment own)) one
+    let new : HasRowsBefore before after table (noted p next event) = record { place = notes next here.place; text = here.text } in
+    let one = subst (λ (o : Option PacketRecord). HasRowsBefore before after table (noted_of o next event)) (sym found) new in
+    subst (λ (w : Walk). HasRowsBefore before after table w) (sym (walk_by packets walk event id moment own)) one

@@ -53,10 +53,10 @@ len_of len (Sent at ecn mark place) = len
 len_of len (Dropped at cause) = 0
 
 -- the moment of a fate, and that of the arrival where there is none yet
-abbrev pub moment_of : ℕ → Fate → ℕ
-moment_of arrived Waiting = arrived
-moment_of arrived (Sent at ecn mark place) = at
-moment_of arrived (Dropped at cause) = at
+abbrev pub moment_of_fate : ℕ → Fate → ℕ
+moment_of_fate arrived Waiting = arrived
+moment_of_fate arrived (Sent at ecn mark place) = at
+moment_of_fate arrived (Dropped at cause) = at
 
 abbrev pub is_sent : PacketRecord → Bool
 is_sent p = is_sending p.fate
@@ -79,7 +79,7 @@ abbrev pub sent_len : PacketRecord → ℕ
 sent_len p = len_of p.len p.fate
 
 abbrev pub last_moment : PacketRecord → ℕ
-last_moment p = moment_of p.arrived p.fate
+last_moment p = moment_of_fate p.arrived p.fate
 
 -- the packets with that fate for the one at the place
 abbrev pub with_fate : List PacketRecord → ℕ → Fate → List PacketRecord
@@ -124,15 +124,15 @@ is_arrival (event.Dropped id moment cause) = false
 is_arrival (event.Closed moment) = false
 
 -- with an event more: an arrival adds its packet, and a fate is set at the packet with its id
-abbrev pub with_event : Known → Event → Known
-with_event known (event.Accepted lane id moment flow packet) = arrived known id moment flow packet
-with_event known (event.Sent id moment ecn mark) = record known {
+abbrev pub known_with_event : Known → Event → Known
+known_with_event known (event.Accepted lane id moment flow packet) = arrived known id moment flow packet
+known_with_event known (event.Sent id moment ecn mark) = record known {
   packets = with_fate known.packets id (Sent moment ecn mark known.sent);
   sent = known.sent + 1;
 }
-with_event known (event.Dropped id moment cause) = record known { packets = with_fate known.packets id (Dropped moment cause) }
-with_event known (event.Closed moment) = known
+known_with_event known (event.Dropped id moment cause) = record known { packets = with_fate known.packets id (Dropped moment cause) }
+known_with_event known (event.Closed moment) = known
 
 -- the packets of a journal
 abbrev pub known_of : List Event → Known
-known_of events = fold with_event nothing_known events
+known_of events = fold known_with_event nothing_known events

@@ -16,7 +16,7 @@ use Rattle.link_report.specs.FlowTables.{decimal_of}
 use Rattle.link_report.specs.Packets.{known_of}
 use Rattle.link_report.specs.QueueNames.{queue_name}
 use Rattle.link_report.specs.Series.{bin_at}
-use Rattle.link_report.specs.Tables.{HasText, line_of}
+use Rattle.link_report.specs.Tables.{HasTableText, line_of}
 
 -- a sum, and the greatest number of 64 bits where it is above that
 abbrev pub added : ℕ → ℕ → ℕ
@@ -46,8 +46,8 @@ abbrev pub still_waiting : Happenings → Happenings
 still_waiting h = of_waiting h.waiting h.waiting_bytes
 
 -- a packet of that length arrived
-abbrev pub with_arrival : Happenings → ℕ → Happenings
-with_arrival h len = record h {
+abbrev pub with_one_arrived : Happenings → ℕ → Happenings
+with_one_arrived h len = record h {
   packets = added h.packets 1;
   bytes = added h.bytes len;
   waiting = added h.waiting 1;
@@ -55,8 +55,8 @@ with_arrival h len = record h {
 }
 
 -- a packet of that length waits no more
-abbrev pub without : Happenings → ℕ → Happenings
-without h len = record h { waiting = h.waiting - 1; waiting_bytes = h.waiting_bytes - len }
+abbrev pub with_one_gone : Happenings → ℕ → Happenings
+with_one_gone h len = record h { waiting = h.waiting - 1; waiting_bytes = h.waiting_bytes - len }
 
 -- packets with a mark, and one more if that is one
 abbrev pub with_mark : ℕ → Mark → ℕ
@@ -66,7 +66,7 @@ with_mark marked Threshold = added marked 1
 
 -- a packet of that length was sent after that delay
 abbrev pub with_sending : Happenings → ℕ → ℕ → Mark → Happenings
-with_sending h len delay mark = record (without h len) {
+with_sending h len delay mark = record (with_one_gone h len) {
   sent = added h.sent 1;
   sent_bytes = added h.sent_bytes len;
   delay_sum = min (h.delay_sum + delay) (2 ^ 128 - 1);
@@ -76,11 +76,11 @@ with_sending h len delay mark = record (without h len) {
 
 -- a packet of that length was dropped
 abbrev pub with_drop : Happenings → ℕ → Happenings
-with_drop h len = record (without h len) { dropped = added h.dropped 1 }
+with_drop h len = record (with_one_gone h len) { dropped = added h.dropped 1 }
 
 -- an event of that packet happened
 abbrev pub with_own : PacketRecord → Happenings → Event → Happenings
-with_own p h (Accepted lane id moment flow packet) = with_arrival h p.len
+with_own p h (Accepted lane id moment flow packet) = with_one_arrived h p.len
 with_own p h (Sent id moment ecn mark) = with_sending h p.len (moment - p.arrived) mark
 with_own p h (Dropped id moment cause) = with_drop h p.len
 with_own p h (Closed moment) = h
@@ -119,8 +119,8 @@ abbrev pub of_number : List Happenings → ℕ → Happenings
 of_number happenings number = slice_index_or happenings number nothing
 
 -- the numbers of the five-tuples that have a row, in ascending order
-abbrev pub with_row : List Happenings → List ℕ
-with_row happenings = filter (λ number. (of_number happenings number).has_row) (range_with_len 0 (length happenings))
+abbrev pub numbers_with_row : List Happenings → List ℕ
+numbers_with_row happenings = filter (λ number. (of_number happenings number).has_row) (range_with_len 0 (length happenings))
 
 -- their rows in a bin that begins at that moment
 abbrev pub lines_at : Queue → ℕ → List Happenings → List ℕ → List ℕ
@@ -154,7 +154,7 @@ begins walk = min (walk.bin * walk.every) (2 ^ 64 - 1)
 abbrev pub ended : Walk → Walk
 ended walk = record walk {
   happenings = map still_waiting walk.happenings;
-  text = walk.text ++ lines_at walk.queue (begins walk) walk.happenings (with_row walk.happenings);
+  text = walk.text ++ lines_at walk.queue (begins walk) walk.happenings (numbers_with_row walk.happenings);
 }
 
 -- so many bins later
@@ -178,18 +178,18 @@ noted_of None walk event = walk
 noted_of (Some p) walk event = noted p walk event
 
 -- with an event more, of one of these packets, in the bin of its moment
-abbrev pub with_event : List PacketRecord → Walk → Event → Walk
-with_event packets walk (Accepted lane id moment flow packet) =
+abbrev pub walk_with_event : List PacketRecord → Walk → Event → Walk
+walk_with_event packets walk (Accepted lane id moment flow packet) =
     noted_of (slice_get packets id) (on_to (bin_at walk.every moment) walk) (Accepted lane id moment flow packet)
-with_event packets walk (Sent id moment ecn mark) =
+walk_with_event packets walk (Sent id moment ecn mark) =
     noted_of (slice_get packets id) (on_to (bin_at walk.every moment) walk) (Sent id moment ecn mark)
-with_event packets walk (Dropped id moment cause) =
+walk_with_event packets walk (Dropped id moment cause) =
     noted_of (slice_get packets id) (on_to (bin_at walk.every moment) walk) (Dropped id moment cause)
-with_event packets walk (Closed moment) = walk
+walk_with_event packets walk (Closed moment) = walk
 
 -- the walk over events, of these packets
 abbrev pub walked : Queue → ℕ → ℕ → List PacketRecord → List Event → Walk
-walked queue every tuples packets events = fold (with_event packets) (begun queue every tuples) events
+walked queue every tuples packets events = fold (walk_with_event packets) (begun queue every tuples) events
 
 -- the rows of a queue's journal: those of the bins of its events, the last one's too
 abbrev pub series_lines : Queue → ℕ → List Event → List ℕ
@@ -223,6 +223,6 @@ pub record IsIn (series : Series) (walk : Walk) : Type 0 where
   pub rows : AreRows walk.happenings series.rows.items
 
 -- and the table has the rows of the bins before, behind what it had.
-pub record IsAt (before : List ℕ) (series : Series) (table : Table) (walk : Walk) : Type 0 where
+pub record HasRowsBefore (before : List ℕ) (series : Series) (table : Table) (walk : Walk) : Type 0 where
   pub place : IsIn series walk
-  pub text : HasText table (before ++ walk.text)
+  pub text : HasTableText table (before ++ walk.text)

@@ -22,13 +22,13 @@ step_line (Dequeue moment) = line_of (codes "deq" ∷ decimal moment ∷ [])
 step_line (Close moment) = line_of (codes "close" ∷ decimal moment ∷ [])
 
 -- whether a step's packet has an address of IPv6
-abbrev pub is_ipv6 : Step → Bool
-is_ipv6 (Enqueue moment lane packet) = packets.is_ipv6 packet.tuple.src || packets.is_ipv6 packet.tuple.dst
-is_ipv6 (Dequeue moment) = false
-is_ipv6 (Close moment) = false
+abbrev pub is_ipv6_step : Step → Bool
+is_ipv6_step (Enqueue moment lane packet) = packets.is_ipv6 packet.tuple.src || packets.is_ipv6 packet.tuple.dst
+is_ipv6_step (Dequeue moment) = false
+is_ipv6_step (Close moment) = false
 
 abbrev pub any_ipv6 : List Step → Bool
-any_ipv6 steps = list_any is_ipv6 steps
+any_ipv6 steps = list_any is_ipv6_step steps
 
 -- The trace: the row that names the second version, where an address is of IPv6, and then a row for each step.
 abbrev pub steps_text : List Step → List ℕ

@@ -6,9 +6,9 @@ pub use Rattle.text_core.specs.Texts.{IsFilled, address_text, cause_name, ecn_di
 unfoldable pub use Rattle.text_core.specs.Texts.{line_of}
 
 -- The rows that were written are this text, and the next row starts at its end.
-abbrev pub HasText : Table → List ℕ → Type 0
-HasText table text = texts.HasText table.rows text
+abbrev pub HasTableText : Table → List ℕ → Type 0
+HasTableText table text = texts.HasText table.rows text
 
 -- These bytes are written after the rows so far, whatever those are.
-unfoldable pub Adds : Table → Table → List ℕ → Type 0
-Adds old new more = (text : List ℕ) → HasText old text → HasText new (text ++ more)
+unfoldable pub AddsToTable : Table → Table → List ℕ → Type 0
+AddsToTable old new more = (text : List ℕ) → HasTableText old text → HasTableText new (text ++ more)

@@ -53,7 +53,7 @@ fn write_known_flows(
 ) -> Result<(), Memory>
     requires few { length packets.now.packets ≤ MAX_EVENTS }
     requires fifo_few { IfSome fifo (λ p. length p.now.packets ≤ MAX_EVENTS) }
-    ensures { OnOk result (Tables.Adds table.old table.new
+    ensures { OnOk result (Tables.AddsToTable table.old table.new
         (known_flows_text packets.now (option_map (λ p. p.now) fifo.entry))) }
 {
     header(table)?;
@@ -68,7 +68,7 @@ fn write_known_flows(
 fn write_flows(table: &mut Table, events: &[Event], fifo: Option<&[Event]>) -> Result<(), Memory>
     requires few { length events.now ≤ MAX_EVENTS }
     requires fifo_few { IfSome fifo (λ e. length e.now ≤ MAX_EVENTS) }
-    ensures { OnOk result (Tables.Adds table.old table.new
+    ensures { OnOk result (Tables.AddsToTable table.old table.new
         (flows_text events.now (option_map (λ e. e.now) fifo.entry))) }
 {
     header(table)?;
@@ -81,7 +81,7 @@ fn write_flows(table: &mut Table, events: &[Event], fifo: Option<&[Event]>) -> R
 
 /// The header.
 fn header(table: &mut Table) -> Result<(), Memory>
-    ensures { OnOk result (Tables.Adds table.old table.new (Tables.line_of flows_header)) }
+    ensures { OnOk result (Tables.AddsToTable table.old table.new (Tables.line_of flows_header)) }
 {
     table.row(&[
         b"queue",
@@ -112,7 +112,7 @@ fn header(table: &mut Table) -> Result<(), Memory>
 /// The rows of a queue's journal.
 fn queue_rows(table: &mut Table, queue: Queue, events: &[Event]) -> Result<(), Memory>
     requires { length events.now ≤ MAX_EVENTS }
-    ensures { OnOk result (Tables.Adds table.old table.new (flow_lines queue events.now)) }
+    ensures { OnOk result (Tables.AddsToTable table.old table.new (flow_lines queue events.now)) }
 {
     let packets = Packets::of(table.allocator(), events)?;
     known_rows(table, queue, &packets)
@@ -121,7 +121,7 @@ fn queue_rows(table: &mut Table, queue: Queue, events: &[Event]) -> Result<(), M
 /// The rows of the five-tuples of packets, and that of all packets.
 fn known_rows(table: &mut Table, queue: Queue, packets: &Packets) -> Result<(), Memory>
     requires { length packets.now.packets ≤ MAX_EVENTS }
-    ensures { OnOk result (Tables.Adds table.old table.new (known_lines queue packets.now)) }
+    ensures { OnOk result (Tables.AddsToTable table.old table.new (known_lines queue packets.now)) }
 {
     let span = span_of(packets.records());
     let groups = grouped(table.allocator(), packets)?;
@@ -132,7 +132,7 @@ fn known_rows(table: &mut Table, queue: Queue, packets: &Packets) -> Result<(), 
 /// The rows of five-tuples.
 fn group_rows(table: &mut Table, queue: Queue, span: u64, groups: &[Group]) -> Result<(), Memory>
     requires { All (λ g. length g.packets ≤ MAX_EVENTS) groups.now }
-    ensures { OnOk result (Tables.Adds table.old table.new (flat_map (group_line queue span) groups.now)) }
+    ensures { OnOk result (Tables.AddsToTable table.old table.new (flat_map (group_line queue span) groups.now)) }
 {
     for group in groups {
         group_row(table, queue, span, group)?;
@@ -241,7 +241,7 @@ impl SummaryDigits {
 /// The row of a five-tuple.
 fn group_row(table: &mut Table, queue: Queue, span: u64, group: &Group) -> Result<(), Memory>
     requires { length group.now.packets ≤ MAX_EVENTS }
-    ensures { OnOk result (Tables.Adds table.old table.new (group_line queue span group.now)) }
+    ensures { OnOk result (Tables.AddsToTable table.old table.new (group_line queue span group.now)) }
 {
     let summary = summarize(table.allocator(), span, group.packets())?;
     let digits = SummaryDigits::of(&summary);
@@ -287,7 +287,7 @@ fn all_row(
     packets: &[PacketRecord],
 ) -> Result<(), Memory>
     requires { length packets.now ≤ MAX_EVENTS }
-    ensures { OnOk result (Tables.Adds table.old table.new (all_line queue span packets.now)) }
+    ensures { OnOk result (Tables.AddsToTable table.old table.new (all_line queue span packets.now)) }
 {
     let summary = summarize(table.allocator(), span, packets)?;
     let digits = SummaryDigits::of(&summary);

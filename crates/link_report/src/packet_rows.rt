@@ -46,7 +46,7 @@ fn write_known_packets(
     packets: &Packets,
     fifo: Option<&Packets>,
 ) -> Result<(), Memory>
-    ensures { OnOk result (Tables.Adds table.old table.new
+    ensures { OnOk result (Tables.AddsToTable table.old table.new
         (known_packets_text packets.now (option_map (λ p. p.now) fifo.entry))) }
 {
     header(table)?;
@@ -59,7 +59,7 @@ fn write_known_packets(
 
 /// Writes the table where nothing is written yet.
 fn write_packets(table: &mut Table, events: &[Event], fifo: Option<&[Event]>) -> Result<(), Memory>
-    ensures { OnOk result (Tables.Adds table.old table.new
+    ensures { OnOk result (Tables.AddsToTable table.old table.new
         (packets_text events.now (option_map (λ e. e.now) fifo.entry))) }
 {
     header(table)?;
@@ -72,7 +72,7 @@ fn write_packets(table: &mut Table, events: &[Event], fifo: Option<&[Event]>) ->
 
 /// The header.
 fn header(table: &mut Table) -> Result<(), Memory>
-    ensures { OnOk result (Tables.Adds table.old table.new (Tables.line_of packets_header)) }
+    ensures { OnOk result (Tables.AddsToTable table.old table.new (Tables.line_of packets_header)) }
 {
     table.row(&[
         b"queue",
@@ -93,7 +93,7 @@ fn header(table: &mut Table) -> Result<(), Memory>
 
 /// The rows of a queue's journal.
 fn queue_rows(table: &mut Table, queue: Queue, events: &[Event]) -> Result<(), Memory>
-    ensures { OnOk result (Tables.Adds table.old table.new (packet_lines queue events.now)) }
+    ensures { OnOk result (Tables.AddsToTable table.old table.new (packet_lines queue events.now)) }
 {
     let packets = Packets::of(table.allocator(), events)?;
     rows(table, queue, packets.records())
@@ -101,7 +101,7 @@ fn queue_rows(table: &mut Table, queue: Queue, events: &[Event]) -> Result<(), M
 
 /// The rows of packets.
 fn rows(table: &mut Table, queue: Queue, packets: &[PacketRecord]) -> Result<(), Memory>
-    ensures { OnOk result (Tables.Adds table.old table.new (flat_map (packet_line queue) packets.now)) }
+    ensures { OnOk result (Tables.AddsToTable table.old table.new (flat_map (packet_line queue) packets.now)) }
 {
     for packet in packets {
         row(table, queue, packet)?;
@@ -111,7 +111,7 @@ fn rows(table: &mut Table, queue: Queue, packets: &[PacketRecord]) -> Result<(),
 
 /// The row of a packet.
 fn row(table: &mut Table, queue: Queue, packet: &PacketRecord) -> Result<(), Memory>
-    ensures { OnOk result (Tables.Adds table.old table.new (packet_line queue packet.now)) }
+    ensures { OnOk result (Tables.AddsToTable table.old table.new (packet_line queue packet.now)) }
 {
     let id = Digits::of(packet.id);
     let tuple = Digits::of(packet.tuple);

@@ -5,7 +5,7 @@ ghost use Rattle.indexmap.specs.IndexSet.{spare};
 ghost use Rattle.packet_core.specs.Packets.{same_tuple};
 ghost use Rattle.journal_core.specs.TupleRows.{with_new};
 ghost use Rattle.link_report.specs.Packets as Spec;
-ghost use Rattle.link_report.specs.Packets.{delay_sent, is_arrival, is_codel_drop, is_marked, is_overflow_drop, is_sent, known_of, last_moment, sent_len, with_event, with_fate};
+ghost use Rattle.link_report.specs.Packets.{delay_sent, is_arrival, is_codel_drop, is_marked, is_overflow_drop, is_sent, known_of, last_moment, sent_len, known_with_event, with_fate};
 
 use indexmap::IndexSet;
 use journal_core::{Cause, Event, LatestPlaces, Mark, Memory, PACKETS_FOR_PLACES};
@@ -226,7 +226,7 @@ impl Packets {
     /// Adds what an event says. An arrival alone takes memory.
     pub(crate) fn add(&mut self, event: &Event) -> Result<(), Memory>
         requires { self.old.sent < u64.MAX }
-        ensures known { OnOk result (self.new ≡ with_event self.old event.now) }
+        ensures known { OnOk result (self.new ≡ known_with_event self.old event.now) }
         ensures others { is_arrival event.now ≡ false → IsOk result }
     {
         match *event {

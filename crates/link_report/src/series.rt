@@ -5,7 +5,7 @@ ghost use Rattle.std.specs.Prelude.{◌≡◌, ◌<◌, ◌∷◌, ◌++◌, [],
 ghost use Rattle.link_report.specs.Series.{bin_after, bin_at};
 ghost use Rattle.link_report.specs.Tables as Tables;
 ghost use Rattle.link_report.specs.SeriesTables as Spec;
-ghost use Rattle.link_report.specs.SeriesTables.{AreRows, IsAt, IsIn, Walk, lines_at, of_number, series_header, series_line, series_lines, series_text, still_waiting};
+ghost use Rattle.link_report.specs.SeriesTables.{AreRows, HasRowsBefore, IsIn, Walk, lines_at, of_number, series_header, series_line, series_lines, series_text, still_waiting};
 
 use crate::packets::{PacketRecord, Packets};
 use crate::table::{Queue, Table};
@@ -66,7 +66,7 @@ impl Happenings {
 
     /// A packet of that length arrived.
     fn arrive(&mut self, len: u64)
-        ensures { self.new ≡ Spec.with_arrival self.old len }
+        ensures { self.new ≡ Spec.with_one_arrived self.old len }
     {
         self.packets = self.packets.saturating_add(1);
         self.bytes = self.bytes.saturating_add(len);
@@ -76,7 +76,7 @@ impl Happenings {
 
     /// A packet of that length waits no more.
     fn leave(&mut self, len: u64)
-        ensures { self.new ≡ Spec.without self.old len }
+        ensures { self.new ≡ Spec.with_one_gone self.old len }
     {
         self.waiting = self.waiting.saturating_sub(1);
         self.waiting_bytes = self.waiting_bytes.saturating_sub(len);
@@ -223,7 +223,7 @@ fn write_series(
     events: &[Event],
     fifo: Option<&[Event]>,
 ) -> Result<(), Memory>
-    ensures { OnOk result (Tables.Adds table.old table.new
+    ensures { OnOk result (Tables.AddsToTable table.old table.new
         (series_text every events.now (option_map (λ e. e.now) fifo.entry))) }
 {
     header(table)?;
@@ -236,7 +236,7 @@ fn write_series(
 
 /// The header.
 fn header(table: &mut Table) -> Result<(), Memory>
-    ensures { OnOk result (Tables.Adds table.old table.new (Tables.line_of series_header)) }
+    ensures { OnOk result (Tables.AddsToTable table.old table.new (Tables.line_of series_header)) }
 {
     table.row(&[
         b"queue",
@@ -263,7 +263,7 @@ fn queue_rows(
     every: u64,
     events: &[Event],
 ) -> Result<(), Memory>
-    ensures { OnOk result (Tables.Adds table.old table.new (series_lines queue every events.now)) }
+    ensures { OnOk result (Tables.AddsToTable table.old table.new (series_lines queue every events.now)) }
 {
     let alloc = table.allocator();
     let packets = Packets::with_seed(alloc, seed, events)?;
@@ -298,8 +298,8 @@ impl Series {
     ) -> Result<(), Memory>
         ensures every { self.new.every ≡ self.old.every }
         ensures bin { OnOk result (self.new.bin ≡ bin_after self.old.every self.old.bin event.now) }
-        ensures walk { OnOk result ((before : List ℕ) (walk : Walk) → IsAt before self.old table.old walk
-            → IsAt before self.new table.new (Spec.with_event packets.now walk event.now)) }
+        ensures walk { OnOk result ((before : List ℕ) (walk : Walk) → HasRowsBefore before self.old table.old walk
+            → HasRowsBefore before self.new table.new (Spec.walk_with_event packets.now walk event.now)) }
     {
         let (id, moment) = match *event {
             Event::Accepted { id, moment, .. }
@@ -318,8 +318,8 @@ impl Series {
     fn go_on(&mut self, table: &mut Table, bin: u64) -> Result<(), Memory>
         ensures every { self.new.every ≡ self.old.every }
         ensures bin { OnOk result (self.new.bin ≡ bin) }
-        ensures walk { OnOk result ((before : List ℕ) (walk : Walk) → IsAt before self.old table.old walk
-            → IsAt before self.new table.new (Spec.on_to bin walk)) }
+        ensures walk { OnOk result ((before : List ℕ) (walk : Walk) → HasRowsBefore before self.old table.old walk
+            → HasRowsBefore before self.new table.new (Spec.on_to bin walk)) }
     {
         for _turn in self.bin..bin {
             if self.rows.is_empty() {
@@ -354,8 +354,8 @@ impl Series {
     fn write(&mut self, table: &mut Table) -> Result<(), Memory>
         ensures every { self.new.every ≡ self.old.every }
         ensures bin { self.new.bin ≡ self.old.bin }
-        ensures walk { OnOk result ((before : List ℕ) (walk : Walk) → IsAt before self.old table.old walk
-            → IsAt before self.new table.new (Spec.ended walk)) }
+        ensures walk { OnOk result ((before : List ℕ) (walk : Walk) → HasRowsBefore before self.old table.old walk
+            → HasRowsBefore before self.new table.new (Spec.ended walk)) }
     {
         self.rows.sort()?;
         let from = self.bin.saturating_mul(self.every);
@@ -394,7 +394,7 @@ fn write_rows(
     happenings: &mut Vec<Happenings>,
 ) -> Result<Vec<usize>, Memory>
     ensures text { OnOk result (AreRows happenings.old.items numbers.now
-        → Tables.Adds table.old table.new (lines_at queue from happenings.old.items numbers.now)) }
+        → Tables.AddsToTable table.old table.new (lines_at queue from happenings.old.items numbers.now)) }
     ensures happenings { OnOk result (AreRows happenings.old.items numbers.now
         → happenings.new.items ≡ map still_waiting happenings.old.items) }
     ensures rows { IfOk result (λ rows. AreRows happenings.old.items numbers.now
@@ -419,7 +419,7 @@ fn write_row(
     number: usize,
 ) -> Result<bool, Memory>
     ensures text { OnOk result (number < length happenings.old.items
-        → Tables.Adds table.old table.new (series_line queue from number (of_number happenings.old.items number))) }
+        → Tables.AddsToTable table.old table.new (series_line queue from number (of_number happenings.old.items number))) }
     ensures happenings { OnOk result (number < length happenings.old.items → happenings.new.items
         ≡ slice_set happenings.old.items number (still_waiting (of_number happenings.old.items number))) }
     ensures waits { IfOk result (λ waits. number < length happenings.old.items
@@ -450,7 +450,7 @@ fn row(
     tuple: u64,
     happenings: &Happenings,
 ) -> Result<(), Memory>
-    ensures { OnOk result (Tables.Adds table.old table.new (series_line queue from tuple happenings.now)) }
+    ensures { OnOk result (Tables.AddsToTable table.old table.new (series_line queue from tuple happenings.now)) }
 {
     let mean = happenings.delay_mean();
     let from = Digits::of(from);

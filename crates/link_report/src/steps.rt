@@ -3,7 +3,7 @@
 ghost use Rattle.std.specs.Prelude.{◌≡◌, IfOk, OnOk};
 ghost use Rattle.std.specs.List.{flat_map};
 ghost use Rattle.link_report.specs.Tables as Tables;
-ghost use Rattle.link_report.specs.StepTables.{any_ipv6, is_ipv6, packet_fields, step_line, steps_text};
+ghost use Rattle.link_report.specs.StepTables.{any_ipv6, is_ipv6_step, packet_fields, step_line, steps_text};
 
 use crate::table::Table;
 use journal_core::{Memory, Step};
@@ -23,7 +23,7 @@ pub fn steps_text(alloc: Global, steps: &[Step]) -> Result<Vec<u8>, Memory>
 
 /// Writes the trace.
 fn write_steps(table: &mut Table, steps: &[Step]) -> Result<(), Memory>
-    ensures { OnOk result (Tables.Adds table.old table.new (steps_text steps.now)) }
+    ensures { OnOk result (Tables.AddsToTable table.old table.new (steps_text steps.now)) }
 {
     if any_ipv6(steps) {
         table.row(&[b"version", b"2"])?;
@@ -35,12 +35,12 @@ fn write_steps(table: &mut Table, steps: &[Step]) -> Result<(), Memory>
 fn any_ipv6(steps: &[Step]) -> bool
     ensures { result ≡ any_ipv6 steps.now }
 {
-    steps.iter().any(is_ipv6)
+    steps.iter().any(is_ipv6_step)
 }
 
 /// Whether a step's packet has an address of IPv6.
-fn is_ipv6(step: &Step) -> bool
-    ensures { result ≡ is_ipv6 step.now }
+fn is_ipv6_step(step: &Step) -> bool
+    ensures { result ≡ is_ipv6_step step.now }
 {
     match step {
         Step::Enqueue { packet, .. } => {
@@ -53,7 +53,7 @@ fn is_ipv6(step: &Step) -> bool
 
 /// The rows of steps.
 fn rows(table: &mut Table, steps: &[Step]) -> Result<(), Memory>
-    ensures { OnOk result (Tables.Adds table.old table.new (flat_map step_line steps.now)) }
+    ensures { OnOk result (Tables.AddsToTable table.old table.new (flat_map step_line steps.now)) }
 {
     for step in steps {
         row(table, step)?;
@@ -63,7 +63,7 @@ fn rows(table: &mut Table, steps: &[Step]) -> Result<(), Memory>
 
 /// The row of a step.
 fn row(table: &mut Table, step: &Step) -> Result<(), Memory>
-    ensures { OnOk result (Tables.Adds table.old table.new (step_line step.now)) }
+    ensures { OnOk result (Tables.AddsToTable table.old table.new (step_line step.now)) }
 {
     match step {
         Step::Enqueue { moment, packet, .. } => enqueue_row(table, *moment, packet),
@@ -80,7 +80,7 @@ fn row(table: &mut Table, step: &Step) -> Result<(), Memory>
 
 /// The row of a packet that comes in.
 fn enqueue_row(table: &mut Table, moment: u64, packet: &Packet) -> Result<(), Memory>
-    ensures { OnOk result (Tables.Adds table.old table.new (Tables.line_of (packet_fields moment packet.now))) }
+    ensures { OnOk result (Tables.AddsToTable table.old table.new (Tables.line_of (packet_fields moment packet.now))) }
 {
     let tuple = packet.tuple();
     let moment = Digits::of(moment);

@@ -40,7 +40,7 @@ pub(crate) struct Table {
 impl Table {
     /// No row yet.
     pub(crate) fn new(alloc: Global) -> Table
-        ensures { Tables.HasText result [] }
+        ensures { Tables.HasTableText result [] }
     {
         Table {
             alloc,
@@ -56,7 +56,7 @@ impl Table {
     /// The text of all rows.
     pub(crate) fn into_text(self) -> Result<Vec<u8>, Memory>
         ensures { IfOk result (λ text. (written : List ℕ)
-            → Tables.HasText self written → text.items ≡ written) }
+            → Tables.HasTableText self written → text.items ≡ written) }
     {
         let Table { alloc: _, rows } = self;
         rows.into_text()
@@ -65,7 +65,7 @@ impl Table {
     /// One row. It fails for want of memory alone.
     pub(crate) fn row(&mut self, fields: &[&[u8]]) -> Result<(), Memory>
         requires { Tables.IsFilled (map (λ f. f.now) fields.now) }
-        ensures { OnOk result (Tables.Adds self.old self.new (Tables.line_of (map (λ f. f.now) fields.now))) }
+        ensures { OnOk result (Tables.AddsToTable self.old self.new (Tables.line_of (map (λ f. f.now) fields.now))) }
     {
         self.rows.row(fields)
     }

@@ -8,12 +8,12 @@ use Rattle.journal_core.specs.declared.step.MomentFault.TheVariants.{Backwards, 
 use Rattle.journal_core.specs.declared.step.Refusal.TheVariants.{Moment}
 use Rattle.journal_core.specs.declared.step.Step.TheVariants.{Dequeue}
 use Rattle.queue_disc_core.specs.QueueDiscs.{DiscState}
-use Rattle.maltcove_c.specs.Calls.{AreSent, Idles, RefusesDequeue, Sends, SendsAll}
+use Rattle.maltcove_c.specs.Calls.{AreSent, Idles, RefusesDequeue, AnswersSent, SendsAll}
 use Rattle.maltcove_c.specs.declared.records.MaltcoveSent.{MaltcoveSent}
 use Rattle.maltcove_c.proofs.Readings.{rest_stays}
 
-sent_more : (moment : ℕ) (old : DiscState) (outs : List MaltcoveSent) (mid : DiscState) (out : MaltcoveSent) (new : DiscState) → AreSent old moment outs mid → Sends mid moment out new → AreSent old moment (outs ++ out ∷ []) new
-sent_more moment old [] mid out new same one = (new, subst (λ (s : DiscState). Sends s moment out new) same one, refl)
+sent_more : (moment : ℕ) (old : DiscState) (outs : List MaltcoveSent) (mid : DiscState) (out : MaltcoveSent) (new : DiscState) → AreSent old moment outs mid → AnswersSent mid moment out new → AreSent old moment (outs ++ out ∷ []) new
+sent_more moment old [] mid out new same one = (new, subst (λ (s : DiscState). AnswersSent s moment out new) same one, refl)
 sent_more moment old (o ∷ outs) mid out new sends one = (sends.0, sends.1, sent_more moment sends.0 outs mid out new sends.2 one)
 
 some_none : {X : Type 0} (x : X) → Some x ≡ None → ⊥
@@ -32,7 +32,7 @@ not_before moment = grind arith
 fits_again : (moment last : ℕ) → option_map Moment (moment_fault_of moment last) ≡ None → option_map Moment (moment_fault_of moment moment) ≡ None
 fits_again moment last fits = once_more (nat_le (2 ^ 60) moment) (nat_lt moment moment) last moment (not_before moment) fits
 
-pub sent_fits : (mid : DiscState) (moment : ℕ) (out : MaltcoveSent) (new : DiscState) → Sends mid moment out new → refusal_of new.sched.standing.state (Dequeue moment) ≡ None
+pub sent_fits : (mid : DiscState) (moment : ℕ) (out : MaltcoveSent) (new : DiscState) → AnswersSent mid moment out new → refusal_of new.sched.standing.state (Dequeue moment) ≡ None
 sent_fits mid moment out new one =
     let gives = one.dequeued.serves.gives in
     ap (λ last. option_map Moment (moment_fault_of moment last)) gives.serves.last ∙ fits_again moment mid.sched.standing.state.last gives.fits
@@ -47,7 +47,7 @@ pub sends_none : (initial : DiscState) (moment : ℕ) (first : List MaltcoveSent
 sends_none initial moment first = record { sends = refl; rest = refl; fits = λ some. absurd (omega arith) }
 
 pub sends_on : (initial : DiscState) (moment : ℕ) (first : List MaltcoveSent) (place : ℕ) (out : List MaltcoveSent) (now new : DiscState) (told : MaltcoveSent)
-    → Sending initial moment first place out now → Sends now moment told new → place < length out → Sending initial moment first (place + 1) (set out place told) new
+    → Sending initial moment first place out now → AnswersSent now moment told new → place < length out → Sending initial moment first (place + 1) (set out place told) new
 sends_on initial moment first place out now new told s one within =
     let more = take_more_set out place told within in
     record {

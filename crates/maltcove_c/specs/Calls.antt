@@ -14,7 +14,7 @@ use Rattle.journal_core.specs.declared.step.Refusal.TheVariants as refusal
 use Rattle.journal_core.specs.declared.step.Sent.{Sent}
 use Rattle.journal_core.specs.declared.step.Step.TheVariants.{Close, Dequeue, Enqueue}
 use Rattle.queue_disc_core.specs.Faults.{IsFault}
-use Rattle.queue_disc_core.specs.QueueDiscs.{AreFlushed, AreRead, FindsNone, IsDequeued, IsEnqueued, MayCome, DiscState, new_disc}
+use Rattle.queue_disc_core.specs.QueueDiscs.{AreFlushed, AreRead, FindsNone, IsDiscDequeued, IsEnqueued, MayCome, DiscState, new_disc}
 use Rattle.queue_disc_core.specs.declared.answers.Dequeued.{Dequeued}
 use Rattle.queue_disc_core.specs.declared.answers.Dropped.{Dropped}
 use Rattle.queue_disc_core.specs.declared.answers.EnqueueFault.{EnqueueFault}
@@ -46,7 +46,7 @@ IfBehind P (option.Some a) = P a
 IfBehind P option.None = Unit {0}
 
 -- A packet that may come is accepted, and C reads what is said of it.
-pub record Admits (old : DiscState) (moment : ℕ) (packet : PacketParts) (out : MaltcoveAdmitted) (new : DiscState)
+pub record AnswersAdmitted (old : DiscState) (moment : ℕ) (packet : PacketParts) (out : MaltcoveAdmitted) (new : DiscState)
     : Type 0 where
   pub said : Enqueued
   pub may_come : MayCome old moment
@@ -72,24 +72,24 @@ RefusesInFlow old moment flow len ecn tag answer =
     × RefusesEnqueue old moment packet answer)
 
 -- A dequeue is made that sends a packet, and C reads what is said of it.
-pub record Sends (old : DiscState) (moment : ℕ) (out : MaltcoveSent) (new : DiscState) : Type 0 where
+pub record AnswersSent (old : DiscState) (moment : ℕ) (out : MaltcoveSent) (new : DiscState) : Type 0 where
   pub said : Dequeued
   pub sent : Sent
-  pub dequeued : IsDequeued old moment said new
+  pub dequeued : IsDiscDequeued old moment said new
   pub is_sent : said.sent ≡ Some sent
   pub told : out ≡ sent_told sent said.drops
 
 -- A dequeue is made that sends none.
 pub record Idles (old : DiscState) (moment : ℕ) (out : MaltcoveSent) (new : DiscState) : Type 0 where
   pub said : Dequeued
-  pub dequeued : IsDequeued old moment said new
+  pub dequeued : IsDiscDequeued old moment said new
   pub none_sent : said.sent ≡ None
   pub told : out ≡ idle_told said.drops
 
 -- Packets are sent at that moment, one after another, and C reads of each in its place.
 abbrev pub AreSent : DiscState → ℕ → List MaltcoveSent → DiscState → Type 0
 AreSent old moment [] new = new ≡ old
-AreSent old moment (out ∷ outs) new = (mid : DiscState) × Sends old moment out mid × AreSent mid moment outs new
+AreSent old moment (out ∷ outs) new = (mid : DiscState) × AnswersSent old moment out mid × AreSent mid moment outs new
 
 -- So many are, and then none waits, of which C reads in the next place.
 pub record SendsAll (old : DiscState) (moment : ℕ) (outs : List MaltcoveSent) (given : ℕ) (new : DiscState) : Type 0 where

@@ -34,8 +34,8 @@ use Rattle.maltcove_c.specs.declared.records.MaltcoveTotals.{MaltcoveTotals}
 use Rattle.maltcove_c.specs.declared.records.TheConstants.{MISSING_VALUE, NO_FAULT, NOT_A_NUMBER, OUT_OF_RANGE, UNKNOWN_WORD}
 
 -- the ECN field that two bits are (RFC 3168, section 5)
-abbrev pub ecn_in : ℕ → Option Ecn
-ecn_in bits =
+abbrev pub ecn_of_bits : ℕ → Option Ecn
+ecn_of_bits bits =
     if bits == 0 then Some NotEct
     else if bits == 1 then Some Ect1
     else if bits == 2 then Some Ect0
@@ -50,20 +50,20 @@ ecn_bits Ect0 = 2
 ecn_bits Ce = 3
 
 -- the address of that version of IP in sixteen bytes
-abbrev pub address_in : ℕ → List ℕ → Option Ip
-address_in version bytes =
+abbrev pub address_of_bytes : ℕ → List ℕ → Option Ip
+address_of_bytes version bytes =
     if version == 4 then Some (V4 (take 4 bytes)) else if version == 6 then Some (V6 bytes) else None
 
 -- C's record says that packet: each field is the packet's, and has a value that a packet can have.
 pub record Says (p : MaltcovePacket) (packet : PacketParts) : Type 0 where
   pub proto : packet.tuple.proto ≡ p.proto
-  pub src : address_in p.version p.src ≡ Some packet.tuple.src
-  pub dst : address_in p.version p.dst ≡ Some packet.tuple.dst
+  pub src : address_of_bytes p.version p.src ≡ Some packet.tuple.src
+  pub dst : address_of_bytes p.version p.dst ≡ Some packet.tuple.dst
   pub sport : packet.tuple.sport ≡ p.sport
   pub dport : packet.tuple.dport ≡ p.dport
   pub len : packet.len ≡ p.len
   pub fits : IsLengthInRange p.len
-  pub ecn : ecn_in p.ecn ≡ Some packet.ecn
+  pub ecn : ecn_of_bits p.ecn ≡ Some packet.ecn
   pub tag : packet.tag ≡ p.tag
 
 -- That packet goes to the flow of that number, by its destination port, and has that length, field and tag.
@@ -71,7 +71,7 @@ pub record SaysInFlow (flow len bits tag : ℕ) (packet : PacketParts) : Type 0 
   pub flow_is : packet.tuple.dport ≡ flow
   pub len_is : packet.len ≡ len
   pub fits : IsLengthInRange len
-  pub ecn : ecn_in bits ≡ Some packet.ecn
+  pub ecn : ecn_of_bits bits ≡ Some packet.ecn
   pub tag_is : packet.tag ≡ tag
 
 -- what C reads of a packet that was accepted

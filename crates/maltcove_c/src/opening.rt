@@ -3,7 +3,7 @@
 ghost use Rattle.std.specs.Prelude.{◌≡◌, ◌≢◌, ◌↔◌, Err, IfErr, IfOk, IfSome, IsErr, IsOk, IsSome, None, Ok, map};
 ghost use Rattle.std.specs.Str.{IsUtf8};
 ghost use Rattle.packet_core.specs.Words.{params_of_words};
-ghost use Rattle.queue_disc_core.specs.QueueDiscs.{IsClosed};
+ghost use Rattle.queue_disc_core.specs.QueueDiscs.{IsDiscClosed};
 ghost use Rattle.maltcove_c.specs.Calls.{Behind, IfBehind, Opens, OpensWith, RefusesClose, RefusesOpen, RefusesSeed, why_code, why_told};
 ghost use Rattle.maltcove_c.specs.Records.{nothing_told};
 ghost use Rattle.maltcove_c.specs.Texts.{AreWords, AreWrong, IsWhy, SaysParams};
@@ -173,7 +173,7 @@ pub extern "C" fn maltcove_raw_free(alloc: Global, m: &mut Maltcove)
 
 /// Closes a scheduler.
 fn end(disc: &mut QueueDisc, moment: u64) -> i32
-    ensures made { result ≡ OK → IsClosed disc.old moment disc.new }
+    ensures made { result ≡ OK → IsDiscClosed disc.old moment disc.new }
     ensures refused { result ≢ OK → RefusesClose disc.old moment result }
     ensures unchanged { result ≢ OK → disc.new ≡ disc.old }
     ensures open { result ≢ NOT_OPEN }
@@ -188,7 +188,7 @@ fn end(disc: &mut QueueDisc, moment: u64) -> i32
 #[unsafe(no_mangle)]
 pub extern "C" fn maltcove_raw_close(alloc: Global, m: &mut Maltcove, moment: u64) -> i32
     ensures none { (result ≡ NOT_OPEN) ↔ (m.old.handle.value ≡ None) }
-    ensures made { result ≡ OK → Behind (λ a b. IsClosed a moment b) m.old.handle.value m.new.handle.value }
+    ensures made { result ≡ OK → Behind (λ a b. IsDiscClosed a moment b) m.old.handle.value m.new.handle.value }
     ensures refused { result ≢ OK → IfBehind (λ a. RefusesClose a moment result) m.old.handle.value }
     ensures unchanged { result ≢ OK → m.new.handle.value ≡ m.old.handle.value }
 {

@@ -3,7 +3,7 @@
 ghost use Rattle.std.specs.Prelude.{◌≡◌, ◌≢◌, ◌⊎◌, ◌↔◌, ◌+◌, ◌<◌, ◌%◌, None, drop, length};
 ghost use Rattle.packet_core.specs.Packets.{PacketParts};
 ghost use Rattle.packet_core.specs.declared.params.Classify.TheVariants.{Dport, Hash};
-ghost use Rattle.maltcove_c.specs.Calls.{Admits, AreSent, Behind, IfBehind, Idles, RefusesDequeue, RefusesEnqueue, RefusesInFlow, Sends, SendsAll};
+ghost use Rattle.maltcove_c.specs.Calls.{AnswersAdmitted, AreSent, Behind, IfBehind, Idles, RefusesDequeue, RefusesEnqueue, RefusesInFlow, AnswersSent, SendsAll};
 ghost use Rattle.maltcove_c.specs.Records.{Says, SaysInFlow};
 ghost use Rattle.maltcove_c.specs.declared.status.TheConstants.{BAD_PACKET, HASHED, IDLE, NOT_OPEN, OK};
 
@@ -19,7 +19,7 @@ use std::alloc::Global;
 
 /// A packet comes.
 fn accept(disc: &mut QueueDisc, moment: u64, packet: Packet, out: &mut MaltcoveAdmitted) -> i32
-    ensures made { result ≡ OK → Admits disc.old moment packet out.new disc.new }
+    ensures made { result ≡ OK → AnswersAdmitted disc.old moment packet out.new disc.new }
     ensures refused { result ≢ OK → RefusesEnqueue disc.old moment packet result }
     ensures unchanged { result ≢ OK → (disc.new ≡ disc.old) × (out.new ≡ out.old) }
     ensures open { result ≢ NOT_OPEN }
@@ -41,7 +41,7 @@ fn accept_said(
     out: &mut MaltcoveAdmitted,
 ) -> i32
     ensures made { result ≡ OK
-        → (packet : PacketParts) × Says said.now packet × Admits disc.old moment packet out.new disc.new }
+        → (packet : PacketParts) × Says said.now packet × AnswersAdmitted disc.old moment packet out.new disc.new }
     ensures refused { result ≢ OK
         → ((result ≡ BAD_PACKET) × ((packet : PacketParts) → ¬ Says said.now packet))
         ⊎ ((packet : PacketParts) × Says said.now packet × RefusesEnqueue disc.old moment packet result) }
@@ -65,7 +65,7 @@ pub extern "C" fn maltcove_raw_enqueue(
 ) -> i32
     ensures none { (result ≡ NOT_OPEN) ↔ (m.old.handle.value ≡ None) }
     ensures made { result ≡ OK → Behind
-        (λ a b. (p : PacketParts) × Says packet.now p × Admits a moment p out.new b)
+        (λ a b. (p : PacketParts) × Says packet.now p × AnswersAdmitted a moment p out.new b)
         m.old.handle.value m.new.handle.value }
     ensures refused { result ≢ OK → IfBehind
         (λ a. ((result ≡ BAD_PACKET) × ((p : PacketParts) → ¬ Says packet.now p))
@@ -114,7 +114,7 @@ fn accept_in_flow(
 ) -> i32
     ensures made { result ≡ OK
         → (packet : PacketParts) × SaysInFlow (flow % disc.old.sched.params.flows) len ecn tag packet
-        × Admits disc.old moment packet out.new disc.new }
+        × AnswersAdmitted disc.old moment packet out.new disc.new }
     ensures hashed { (result ≡ HASHED) ↔ (disc.old.sched.params.classify ≡ Hash) }
     ensures refused { result ≢ OK → result ≢ HASHED → RefusesInFlow disc.old moment flow len ecn tag result }
     ensures unchanged { result ≢ OK → (disc.new ≡ disc.old) × (out.new ≡ out.old) }
@@ -144,7 +144,7 @@ pub extern "C" fn maltcove_raw_enqueue_flow(
     ensures none { (result ≡ NOT_OPEN) ↔ (m.old.handle.value ≡ None) }
     ensures made { result ≡ OK → Behind
         (λ a b. (p : PacketParts) × SaysInFlow (flow % a.sched.params.flows) len ecn tag p
-        × Admits a moment p out.new b)
+        × AnswersAdmitted a moment p out.new b)
         m.old.handle.value m.new.handle.value }
     ensures hashed { IfBehind (λ a. (result ≡ HASHED) ↔ (a.sched.params.classify ≡ Hash)) m.old.handle.value }
     ensures refused { result ≢ OK → result ≢ HASHED
@@ -161,7 +161,7 @@ pub extern "C" fn maltcove_raw_enqueue_flow(
 
 /// The next packet goes, if one waits.
 fn give(disc: &mut QueueDisc, moment: u64, out: &mut MaltcoveSent) -> i32
-    ensures sent { result ≡ OK → Sends disc.old moment out.new disc.new }
+    ensures sent { result ≡ OK → AnswersSent disc.old moment out.new disc.new }
     ensures idle { result ≡ IDLE → Idles disc.old moment out.new disc.new }
     ensures refused { result ≢ OK → result ≢ IDLE → RefusesDequeue disc.old moment result }
     ensures unchanged { result ≢ OK → result ≢ IDLE → (disc.new ≡ disc.old) × (out.new ≡ out.old) }
@@ -192,7 +192,7 @@ pub extern "C" fn maltcove_raw_dequeue(
 ) -> i32
     ensures none { (result ≡ NOT_OPEN) ↔ (m.old.handle.value ≡ None) }
     ensures sent { result ≡ OK
-        → Behind (λ a b. Sends a moment out.new b) m.old.handle.value m.new.handle.value }
+        → Behind (λ a b. AnswersSent a moment out.new b) m.old.handle.value m.new.handle.value }
     ensures idle { result ≡ IDLE
         → Behind (λ a b. Idles a moment out.new b) m.old.handle.value m.new.handle.value }
     ensures refused { result ≢ OK → result ≢ IDLE

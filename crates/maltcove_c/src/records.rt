@@ -2,7 +2,7 @@
 
 ghost use Rattle.std.specs.Prelude.{◌≡◌, IfSome, IsNone};
 ghost use Rattle.packet_core.specs.Packets.{PacketParts};
-ghost use Rattle.maltcove_c.specs.Records.{Says, SaysInFlow, address_in, admitted_told, cause_code, dropped_told, ecn_bits, ecn_in, fault_told, flow_told, flushed_told, idle_told, mark_code, nothing_told, params_told, sent_told, totals_told};
+ghost use Rattle.maltcove_c.specs.Records.{Says, SaysInFlow, address_of_bytes, admitted_told, cause_code, dropped_told, ecn_bits, ecn_of_bits, fault_told, flow_told, flushed_told, idle_told, mark_code, nothing_told, params_told, sent_told, totals_told};
 
 use packet_core::{Classify, Ecn, EcnUse, FiveTuple, Ip, Packet, ParamFault, Params};
 use queue_disc_core::{Dropped, Enqueued, Handle, QueueDiscTotals};
@@ -185,7 +185,7 @@ pub(crate) const NOT_TEXT: i32 = 5;
 
 /// The ECN field of two bits.
 pub(crate) fn ecn_of(bits: u8) -> Option<Ecn>
-    ensures { result ≡ ecn_in bits }
+    ensures { result ≡ ecn_of_bits bits }
 {
     match bits {
         0 => Some(Ecn::NotEct),
@@ -210,7 +210,7 @@ pub(crate) fn bits_of(ecn: Ecn) -> u8
 
 /// The address in these bytes, of that version of IP.
 fn address_of(version: u8, bytes: &[u8; 16]) -> Option<Ip>
-    ensures { result ≡ address_in version bytes.now }
+    ensures { result ≡ address_of_bytes version bytes.now }
 {
     match version {
         4 => Some(Ip::V4([bytes[0], bytes[1], bytes[2], bytes[3]])),

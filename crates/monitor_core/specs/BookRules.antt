@@ -4,8 +4,8 @@ use Rattle.logbook.specs.Pages.{Cell, Step, View, Book, Named}
 use Rattle.monitor_core.specs.declared.book.Batch.{Batch}
 
 -- The first word is the number of entries. A book has two words, of which this one leaves the second at 0.
-abbrev pub IsCounted : List Cell → List Batch → Type 0
-IsCounted cells log = cells ≡ (length log, true) ∷ (0, true) ∷ []
+abbrev pub HasEntryCount : List Cell → List Batch → Type 0
+HasEntryCount cells log = cells ≡ (length log, true) ∷ (0, true) ∷ []
 
 -- the book's first word
 abbrev pub head_of : Book → Named

@@ -30,9 +30,9 @@ pub struct Counted;
 impl Rule<Batch, u64> for Counted {
     ghost use Rattle.std.specs.Prelude.{[]};
     ghost use base.Fml.{ftrue};
-    ghost use Rattle.monitor_core.specs.BookRules.{IsCounted};
+    ghost use Rattle.monitor_core.specs.BookRules.{HasEntryCount};
 
-    ghost holds = { λ cells log. IsCounted cells log };
+    ghost holds = { λ cells log. HasEntryCount cells log };
 
     ghost first = { [] };
 

@@ -17,7 +17,7 @@ use Rattle.monitor_core.specs.declared.publisher.PublishFault.{PublishFault}
 use Rattle.monitor_core.proofs.PrefixLemmas.{prefix_behind, prefix_same}
 use Rattle.sched_core.specs.Engines.{Running}
 use Rattle.sched_core.specs.Schedulers.{ComparesFew, IsAdvanced, IsServed, discipline_of}
-use Rattle.port_core.specs.Devices.{AreNewLanes, BeginsJournal, Fed, KeepsLanes, Pumps, Takes, rings_of}
+use Rattle.port_core.specs.Devices.{AreNewLanes, BeginsJournal, Fed, KeepsLanes, Pumps, TakesFromLane, rings_of}
 use Rattle.port_core.specs.Lanes.{GivesPackets, LaneView, RingId, Sending, accepted}
 use Rattle.port_core.proofs.LaneLemmas.{grows_accepted, stays_closed, stays_served}
 
@@ -111,7 +111,7 @@ keeps_take old new lanes lane now p l e there k more made = record {
 -- and so the device takes it
 pub takes_packet : (h : Fed) (old new : Running) (lanes : List LaneView) (lane now : ℕ) (p : PacketParts) (l e : LaneView) → h ≡ record { engine = old; lanes = lanes } → lane < length lanes
     → e ≡ slice_index_or lanes lane e → GivesPackets e (p ∷ []) l → IsAdvanced old.sched (Enqueue now lane p) answer.Accepted new.sched → new.steps ≡ old.steps ++ Enqueue now lane p ∷ []
-    → ComparesFew old.sched new.sched → Takes h lane now (record { engine = new; lanes = slice_set lanes lane l })
+    → ComparesFew old.sched new.sched → TakesFromLane h lane now (record { engine = new; lanes = slice_set lanes lane l })
 takes_packet h old new lanes lane now p l e is there stands gives made steps few = rw is (record {
   packet = p;
   made = made;

@@ -9,7 +9,7 @@ use Rattle.journal_core.specs.declared.step.Step.{Step}
 use Rattle.journal_core.specs.declared.step.Step.TheVariants.{Enqueue}
 use Rattle.monitor_core.proofs.PrefixLemmas.{prefix_behind}
 use Rattle.sched_core.specs.Schedulers.{discipline_of}
-use Rattle.port_core.specs.Devices.{Fed, MayAccept, Pumps, Takes, pump_refusal_of}
+use Rattle.port_core.specs.Devices.{Fed, MayAccept, Pumps, TakesFromLane, pump_refusal_of}
 use Rattle.port_core.specs.Lanes.{GivesPackets, LaneView, accepted}
 use Rattle.port_core.proofs.LaneLemmas.{grows_accepted}
 
@@ -58,7 +58,7 @@ pumps_none h lane now = record {
   no_comparison = λ none. refl;
 }
 
-pub pumps_more : (old mid new : Fed) (lane now k : ℕ) → Pumps old lane now k mid → Takes mid lane now new → Pumps old lane now (k + 1) new
+pub pumps_more : (old mid new : Fed) (lane now k : ℕ) → Pumps old lane now k mid → TakesFromLane mid lane now new → Pumps old lane now (k + 1) new
 pumps_more old mid new lane now k p t = record {
   packets = p.packets ++ t.packet ∷ [];
   count = omega (arith, length-append p.packets (t.packet ∷ []), p.count);
@@ -82,7 +82,7 @@ pumps_more old mid new lane now k p t = record {
 }
 
 -- one packet fewer may be accepted behind one
-pub accepts_fewer : (old new : Fed) (lane now before n : ℕ) → before ≡ n + 1 → MayAccept old.engine.sched.standing.state now before → Takes old lane now new → MayAccept new.engine.sched.standing.state now n
+pub accepts_fewer : (old new : Fed) (lane now before n : ℕ) → before ≡ n + 1 → MayAccept old.engine.sched.standing.state now before → TakesFromLane old lane now new → MayAccept new.engine.sched.standing.state now n
 accepts_fewer old new lane now before n one m t =
     let admits = t.made.advances.makes.1 in
     record {

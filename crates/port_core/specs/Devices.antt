@@ -14,7 +14,7 @@ use Rattle.sched_core.specs.Schedulers.{ComparesFew, IsAdvanced, Scheduler}
 use Rattle.port_core.specs.Lanes.{GivesPackets, LaneView, RingId, Sending, accepted}
 
 -- a device: its engine, its ends of the lanes, in the order of their numbers, and what it published
-pub record Holding : Type 0 where
+pub record DeviceState : Type 0 where
   pub engine : Running
   pub lanes : List LaneView
   pub published : Published
@@ -24,7 +24,7 @@ pub record Fed : Type 0 where
   pub engine : Running
   pub lanes : List LaneView
 
-abbrev pub fed_of : Holding → Fed
+abbrev pub fed_of : DeviceState → Fed
 fed_of h = record { engine = h.engine; lanes = h.lanes }
 
 -- the rings, in the order of the lanes
@@ -56,7 +56,7 @@ pub record MayAccept {Q : Type 0} (s : State Q) (now packets : ℕ) : Type 0 whe
   pub ids : s.next_id + packets ≤ 2 ^ 40
 
 -- The next packet of a lane is accepted at the moment.
-pub record Takes (old : Fed) (lane now : ℕ) (new : Fed) : Type 0 where
+pub record TakesFromLane (old : Fed) (lane now : ℕ) (new : Fed) : Type 0 where
   pub packet : PacketParts
   pub made : IsAdvanced old.engine.sched (Enqueue now lane packet) answer.Accepted new.engine.sched
   pub steps : new.engine.steps ≡ old.engine.steps ++ Enqueue now lane packet ∷ []

@@ -35,9 +35,9 @@ pub struct Device<
 
 impl<J: BookName, X: Screen<Shown<J>> + Drop, K: Recorder, S: StepRecorder> Model
     for Device<J, X, K, S> {
-    ghost use Rattle.port_core.specs.Devices.{BeginsJournal, Holding};
+    ghost use Rattle.port_core.specs.Devices.{BeginsJournal, DeviceState};
 
-    ghost Value = { Holding };
+    ghost Value = { DeviceState };
 
     ghost view = { λ d. record { engine = d.fed.engine; lanes = d.fed.lanes; published = d.publisher } };
 

@@ -34,7 +34,7 @@ impl<K: Recorder, S: StepRecorder> LaneEngine<K, S> {
     ghost use Rattle.journal_core.specs.declared.outcome.Answer.TheVariants as answer;
     ghost use Rattle.journal_core.specs.declared.step.Step.TheVariants.{Close, Dequeue};
     ghost use Rattle.sched_core.specs.Schedulers.{ComparesFew, IsAdvanced, IsServed};
-    ghost use Rattle.port_core.specs.Devices.{KeepsLanes, MayAccept, Pumps, Takes, TakesAllLeft, pump_refusal_of, rings_of};
+    ghost use Rattle.port_core.specs.Devices.{KeepsLanes, MayAccept, Pumps, TakesFromLane, TakesAllLeft, pump_refusal_of, rings_of};
     ghost use Rattle.port_core.specs.Lanes.{LaneView, accepted};
 
     /// An engine without steps, and new lanes.
@@ -71,7 +71,7 @@ impl<K: Recorder, S: StepRecorder> LaneEngine<K, S> {
         self.lanes.len() as u32
     }
 
-    /// Takes memory for so many steps of any kind, at most 2^40, as `Engine::reserve` does.
+    /// TakesFromLane memory for so many steps of any kind, at most 2^40, as `Engine::reserve` does.
     pub(crate) fn reserve(&mut self, steps: u64) -> Result<(), Memory>
         requires { steps ≤ MAX_ACCEPTED }
         ensures ok { OnOk result (self.new.engine.room ≡ max self.old.engine.room steps) }
@@ -138,7 +138,7 @@ impl<K: Recorder, S: StepRecorder> LaneEngine<K, S> {
         self.lanes[lane as usize].settle(end)
     }
 
-    /// Takes packets of a lane, at most `burst`, and accepts each at `now`, in microseconds; it answers how many. It
+    /// TakesFromLane packets of a lane, at most `burst`, and accepts each at `now`, in microseconds; it answers how many. It
     /// refuses a moment of 2^60 or more or before the last one, then any pump after the close, then one where fewer
     /// than `burst` packets more may be accepted, and last where a growth is refused; then it takes nothing. All memory
     /// is taken before the first packet.
@@ -188,13 +188,13 @@ impl<K: Recorder, S: StepRecorder> LaneEngine<K, S> {
         pumped
     }
 
-    /// Takes the next packet of a lane, where there is one, and accepts it.
+    /// TakesFromLane the next packet of a lane, where there is one, and accepts it.
     #[tactic(auto, using(crate::proofs::DeviceLemmas::rings_look, crate::proofs::PumpLemmas::enqueue_fits))]
     fn admit(&mut self, lane: u32, now: u64) -> bool
         requires lane { lane < length self.old.lanes }
         requires fits { MayAccept self.old.engine.sched.standing.state now 1 }
         requires room { 0 < self.old.engine.room }
-        ensures admitted { MatchBool result (Takes self.old lane now self.new) (self.new ≡ self.old) }
+        ensures admitted { MatchBool result (TakesFromLane self.old lane now self.new) (self.new ≡ self.old) }
         ensures number { length self.new.lanes ≡ length self.old.lanes }
         ensures empty { result ≡ false → (d : LaneView) → (slice_index_or self.old.lanes lane d).known ≡ [] }
         ensures room { result ≡ true → self.new.engine.room ≡ self.old.engine.room - 1 }

@@ -15,7 +15,7 @@ use Rattle.trace_core.specs.declared.trace_run.RunFault.TheVariants as run_fault
 use Rattle.command_core.specs.CommandLine.{AsksForHelp, AsksForLanes, AsksForLocked, AsksForTrace, IsMonitorCount, IsSenderCount, monitors_text, parameter_words, seed_text, senders_text}
 use Rattle.program_core.specs.Faults.{IsLanesFault, IsLockedFault, run_fault_told}
 use Rattle.run_core.specs.Journals.{AreLanesJournal, AreLockedJournal, Journals}
-use Rattle.program_core.specs.Runs.{AnswersSenders, AnswersWatched, BeginsJournal, IsJournalOf, IsSendersRunFor}
+use Rattle.program_core.specs.Runs.{AnswersSenders, AnswersWatched, StartsJournal, IsJournalOf, IsSendersRunFor}
 use Rattle.program_core.specs.Watched.{TellsSeenOf}
 use Rattle.command_core.specs.Seeds.{seed_given}
 
@@ -39,7 +39,7 @@ senders_run Are seed_words words n input Wrote seed params steps events rows see
 
 -- a fault of the journal's writing, told as one of the run
 pub locked_fault : (seed_words : Option (List ℕ)) (words : List (List ℕ)) (n : ℕ) (input old new : Option (List ℕ)) (fault : RunFault)
-    → (fault ≡ run_fault.Write → BeginsJournal AreLockedJournal seed_words words n input old new) → (fault ≢ run_fault.Write → fault ≡ run_fault.Memory)
+    → (fault ≡ run_fault.Write → StartsJournal AreLockedJournal seed_words words n input old new) → (fault ≢ run_fault.Write → fault ≡ run_fault.Memory)
     → (fault ≢ run_fault.Write → Keeps old new) → IsLockedFault seed_words words n input old new (run_fault_told fault)
 locked_fault seed_words words n input old new run_fault.Write front memory kept = front refl
 locked_fault seed_words words n input old new run_fault.Memory front memory kept = kept (λ is. search (rules, is))
@@ -49,7 +49,7 @@ locked_fault seed_words words n input old new (run_fault.Trace why) front memory
 
 -- the same of a run through lanes
 pub lanes_fault : (seed_words : Option (List ℕ)) (words : List (List ℕ)) (n : ℕ) (input old new : Option (List ℕ)) (fault : RunFault)
-    → (fault ≡ run_fault.Write → BeginsJournal AreLanesJournal seed_words words n input old new) → (fault ≢ run_fault.Write → fault ≡ run_fault.Memory)
+    → (fault ≡ run_fault.Write → StartsJournal AreLanesJournal seed_words words n input old new) → (fault ≢ run_fault.Write → fault ≡ run_fault.Memory)
     → (fault ≢ run_fault.Write → Keeps old new) → IsLanesFault seed_words words n input old new (run_fault_told fault)
 lanes_fault seed_words words n input old new run_fault.Write front memory kept = front refl
 lanes_fault seed_words words n input old new run_fault.Memory front memory kept = kept (λ is. search (rules, is))

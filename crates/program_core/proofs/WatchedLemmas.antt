@@ -9,7 +9,7 @@ use Rattle.journal_core.specs.declared.event.Cause.TheVariants.{Codel, Overflow}
 use Rattle.journal_core.specs.declared.totals.Totals.{Totals}
 use Rattle.monitor_core.specs.declared.monitor.Seen.{Seen}
 use Rattle.run_core.specs.Seeing.{IsSeen, IsSeenOf}
-use Rattle.program_core.specs.Watched.{AreFronts, TellsLines, TellsSeen, dropped_of, seen_line}
+use Rattle.program_core.specs.Watched.{AreFronts, TellsLines, TellsSeen, seen_drops_of, seen_line}
 
 -- an event drops by one cause at most
 drops_few : (events : List Event) → count_by is_codel_drop events + count_by is_overflow_drop events ≤ length events
@@ -20,7 +20,7 @@ drops_few (Dropped id moment Codel ∷ events) = let few = drops_few events in g
 drops_few (Dropped id moment Overflow ∷ events) = let few = drops_few events in grind (arith, common_steps, few)
 drops_few (Closed moment ∷ events) = let few = drops_few events in omega (arith, few)
 
-pub seen_drops_few : (seen : Seen) → IsSeen seen → dropped_of seen ≤ seen.events
+pub seen_drops_few : (seen : Seen) → IsSeen seen → seen_drops_of seen ≤ seen.events
 seen_drops_few seen is =
     let few = drops_few is.events in
     let codel = ap (λ (t : Totals). t.dropped_codel) is.totals in

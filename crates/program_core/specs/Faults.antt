@@ -9,7 +9,7 @@ use Rattle.trace_core.specs.declared.trace_run.RunFault.{RunFault}
 use Rattle.trace_core.specs.declared.trace_run.RunFault.TheVariants as run_fault
 use Rattle.command_core.specs.CommandLine.{AsksForLanes, AsksForLocked, AsksForRun, IsMistake, parameter_words, seed_text}
 use Rattle.run_core.specs.Journals.{AreLanesJournal, AreLockedJournal}
-use Rattle.program_core.specs.Runs.{Begins, BeginsJournal, BeginsReport}
+use Rattle.program_core.specs.Runs.{Begins, StartsJournal, BeginsReport}
 use Rattle.command_core.specs.Seeds.{seed_given}
 use Rattle.run_core.specs.declared.senders_fault.SendersFault.{SendersFault}
 use Rattle.run_core.specs.declared.senders_fault.SendersFault.TheVariants as senders_fault
@@ -72,7 +72,7 @@ IsRunFault seed words input old new (program_fault.Lane lane) = ⊥
 abbrev pub IsLockedFault : Option (List ℕ) → List (List ℕ) → ℕ → Option (List ℕ) → Option (List ℕ) → Option (List ℕ)
     → ProgramFault → Type 0
 IsLockedFault seed words senders input old new program_fault.Write =
-    BeginsJournal AreLockedJournal seed words senders input old new
+    StartsJournal AreLockedJournal seed words senders input old new
 IsLockedFault seed words senders input old new program_fault.Settle = Keeps old new
 IsLockedFault seed words senders input old new fault = IsRunFault seed words input old new fault
 
@@ -81,7 +81,7 @@ IsLockedFault seed words senders input old new fault = IsRunFault seed words inp
 abbrev pub IsLanesFault : Option (List ℕ) → List (List ℕ) → ℕ → Option (List ℕ) → Option (List ℕ) → Option (List ℕ)
     → ProgramFault → Type 0
 IsLanesFault seed words senders input old new program_fault.Write =
-    BeginsJournal AreLanesJournal seed words senders input old new
+    StartsJournal AreLanesJournal seed words senders input old new
 IsLanesFault seed words senders input old new (program_fault.Lane lane) = (lane < senders) × Keeps old new
 IsLanesFault seed words senders input old new fault = IsRunFault seed words input old new fault
 

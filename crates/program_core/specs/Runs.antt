@@ -51,9 +51,9 @@ pub record IsSendersRunFor (Are : Journals) (seed_text : Option (List ℕ))
   pub journal : IfSome input (λ bytes. (text : List ℕ) × IsJournalOf Are params seed senders bytes text × Wrote text)
 
 -- The text of the seed and the parameter words are good, and a front of a journal was written behind what was there.
-abbrev pub BeginsJournal : Journals → Option (List ℕ) → List (List ℕ) → ℕ → Option (List ℕ) → Option (List ℕ)
+abbrev pub StartsJournal : Journals → Option (List ℕ) → List (List ℕ) → ℕ → Option (List ℕ) → Option (List ℕ)
     → Option (List ℕ) → Type 0
-BeginsJournal Are seed_text parameter_words senders input old new =
+StartsJournal Are seed_text parameter_words senders input old new =
     IsSendersRunFor Are seed_text parameter_words senders input
     (λ text. (count : ℕ) × Appends old new (take count text))
 
@@ -88,7 +88,7 @@ AnswersWatched words input old new told_old told_new =
 abbrev pub BeginsSenders : Journals → List (List ℕ) → Option (List ℕ) → Option (List ℕ) → Option (List ℕ) → Type 0
 BeginsSenders Are words input old new =
     (senders : ℕ) × IsSenderCount (senders_text words) senders
-    × BeginsJournal Are (seed_text words) (parameter_words words) senders input old new
+    × StartsJournal Are (seed_text words) (parameter_words words) senders input old new
 
 -- The words ask for help, and a text was written behind what was there.
 abbrev pub AnswersHelp : List (List ℕ) → Option (List ℕ) → Option (List ℕ) → Type 0

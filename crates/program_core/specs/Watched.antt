@@ -10,15 +10,15 @@ use Rattle.trace_core.specs.Report.{journal_text}
 use Rattle.trace_core.specs.declared.journal_report.SenderRow.{SenderRow}
 
 -- how many packets were dropped
-abbrev pub dropped_of : Seen → ℕ
-dropped_of seen = seen.totals.dropped_codel + seen.totals.dropped_overflow
+abbrev pub seen_drops_of : Seen → ℕ
+seen_drops_of seen = seen.totals.dropped_codel + seen.totals.dropped_overflow
 
 -- the line of a monitor: its fields with a space between each two, and a line feed
 abbrev pub seen_line : ℕ → Seen → List ℕ
 seen_line monitor seen =
     join_with_byte 32
     (codes "monitor" ∷ decimal monitor ∷ decimal seen.events ∷ decimal seen.totals.accepted ∷ decimal seen.totals.sent
-    ∷ decimal (dropped_of seen) ∷ decimal seen.totals.queued ∷ []) ++ 10 ∷ []
+    ∷ decimal (seen_drops_of seen) ∷ decimal seen.totals.queued ∷ []) ++ 10 ∷ []
 
 -- The text is a front of each monitor's line, one after the other; the monitors are numbered from that number on. A
 -- front is the whole line, unless memory or a write was refused.

@@ -28,7 +28,7 @@ use Rattle.queue_disc_core.specs.Calls.{AreCalled, Call, IsCalled, answered, giv
 use Rattle.queue_disc_core.specs.Calls.Call.{enqueued, dequeued, read, flushed, closed}
 use Rattle.queue_disc_core.specs.Laws.{IsLawful}
 use Rattle.queue_disc_core.specs.QueueDiscKept.{AreBalanced}
-use Rattle.queue_disc_core.specs.QueueDiscs.{AreFlushed, AreRead, FindsNone, IsAccepted, IsClosed, IsDequeued, IsDue, IsEnqueued, DiscState, drop_handle, events_of, handle_of, lost_of, new_disc, renewed, renumbered, sent_handle, sent_handles, unread_packets, unrenewed, waiting_packets}
+use Rattle.queue_disc_core.specs.QueueDiscs.{AreFlushed, AreRead, FindsNone, IsDiscAccepted, IsDiscClosed, IsDiscDequeued, IsDue, IsEnqueued, DiscState, drop_handle, events_of, handle_of, lost_of, new_disc, renewed, renumbered, sent_handle, sent_handles, unread_packets, unrenewed, waiting_packets}
 use Rattle.queue_disc_core.proofs.Balanced.{gone_sum, sum_push}
 use Rattle.queue_disc_core.proofs.Multisets.{Tells, same_sums}
 use Rattle.queue_disc_core.proofs.Renewals.{none_queued, renewed_balanced}
@@ -73,7 +73,7 @@ joins old mid new handed handed' given given' a b = record {
   gone = λ f. omega (arith, a.gone f, b.gone f, sum_by-append f given given');
 }
 
-accepts : (old new : DiscState) (moment : ℕ) (packet : PacketParts) (said : Enqueued) → IsSteady old → IsAccepted old moment packet said new → Step' old (record { tag = packet.tag; id = said.id } ∷ []) [] new
+accepts : (old new : DiscState) (moment : ℕ) (packet : PacketParts) (said : Enqueued) → IsSteady old → IsDiscAccepted old moment packet said new → Step' old (record { tag = packet.tag; id = said.id } ∷ []) [] new
 accepts old new moment packet said steady a =
     let handle : Handle = record { tag = packet.tag; id = said.id } in
     let run = advanced_on steady.run a.advances in
@@ -115,7 +115,7 @@ notes old moment steady = record {
 enqueues : (old new : DiscState) (moment : ℕ) (packet : PacketParts) (said : Enqueued) → IsSteady old → IsEnqueued old moment packet said new → Step' old (record { tag = packet.tag; id = said.id } ∷ []) [] new
 enqueues old new moment packet said steady e =
     elim e.renewal [
-      | inl same ↦ accepts old new moment packet said steady (subst (λ (s : DiscState). IsAccepted s moment packet said new) same.1 e.accepts)
+      | inl same ↦ accepts old new moment packet said steady (subst (λ (s : DiscState). IsDiscAccepted s moment packet said new) same.1 e.accepts)
       | inr due ↦
           elim due.1 [
             | inl anew ↦ after (renewed old) (renews old steady due.0) anew
@@ -126,9 +126,9 @@ enqueues old new moment packet said steady e =
     after : (ready : DiscState) → Step' old [] [] ready → e.ready ≡ ready → Step' old (record { tag = packet.tag; id = said.id } ∷ []) [] new
     after ready first same =
         joins old ready new [] (record { tag = packet.tag; id = said.id } ∷ []) [] [] first
-        (accepts ready new moment packet said first.steady (subst (λ (s : DiscState). IsAccepted s moment packet said new) same e.accepts))
+        (accepts ready new moment packet said first.steady (subst (λ (s : DiscState). IsDiscAccepted s moment packet said new) same e.accepts))
 
-closes : (old new : DiscState) (moment : ℕ) → IsSteady old → IsClosed old moment new → Step' old [] [] new
+closes : (old new : DiscState) (moment : ℕ) → IsSteady old → IsDiscClosed old moment new → Step' old [] [] new
 closes old new moment steady a =
     let before = steady_lawful old steady in
     let run = advanced_on steady.run a.advances in
@@ -174,7 +174,7 @@ answers : (before : ℕ) (sent said : Option Sent) → said ≡ option_map (renu
 answers before None said told = rw told refl
 answers before (Some s) said told = rw told refl
 
-dequeues : (old new : DiscState) (moment : ℕ) (said : Dequeued) → IsSteady old → IsDequeued old moment said new → Step' old [] (answered said.sent) new
+dequeues : (old new : DiscState) (moment : ℕ) (said : Dequeued) → IsSteady old → IsDiscDequeued old moment said new → Step' old [] (answered said.sent) new
 dequeues old new moment said steady d =
     subst (λ (l : List Handle). Step' old [] l new) (sym (answers old.past.accepted d.sent said.sent d.told))
     (serves old new moment d.sent steady d.serves d.packet (omega (arith, d.unread, d.drops)) (ap (λ (s : DiscState). s.past.accepted) d.rest) (ap (λ (s : DiscState). s.packets.accepted) d.rest)

@@ -26,10 +26,10 @@ use Rattle.queue_disc_core.specs.declared.answers.Handle.{Handle}
 use Rattle.queue_disc_core.specs.declared.totals.FlushedCounts.{FlushedCounts}
 use Rattle.queue_disc_core.specs.declared.totals.QueueDiscTotals.{QueueDiscTotals}
 use Rattle.queue_disc_core.specs.Laws.{IsLawful}
-use Rattle.queue_disc_core.specs.PacketLists.{Packets, no_packets}
+use Rattle.queue_disc_core.specs.PacketLists.{Packets, no_packets_yet}
 use Rattle.queue_disc_core.specs.QueueDiscKept.{AreBalanced, IsSoundDisc}
-use Rattle.queue_disc_core.specs.QueueDiscTotals.{HasGrown, IsWithin, capped, more_flushed, no_totals, nothing_flushed, totals_by}
-use Rattle.queue_disc_core.specs.QueueDiscs.{AreGivenBack, FlushesOne, IsAccepted, IsDue, IsEnqueued, KeepsSent, DiscState, events_of, flushed_by, handle_of, lost_of, new_disc, open_scheduler, renewed, sent_handle, sent_handles, totals_of, unread_packets, unrenewed, waiting_packets}
+use Rattle.queue_disc_core.specs.QueueDiscTotals.{HasGrown, IsFlushedWithin, capped, more_flushed, no_totals, nothing_flushed, totals_by}
+use Rattle.queue_disc_core.specs.QueueDiscs.{AreGivenBack, FlushesOne, IsDiscAccepted, IsDue, IsEnqueued, KeepsSent, DiscState, events_of, flushed_by, handle_of, lost_of, new_disc, open_scheduler, renewed, sent_handle, sent_handles, totals_of, unread_packets, unrenewed, waiting_packets}
 use Rattle.queue_disc_core.proofs.CallLaws.{tells_handles, same_handle}
 use Rattle.queue_disc_core.proofs.Handles.{named_is}
 use Rattle.queue_disc_core.proofs.Multisets.{same_sums}
@@ -50,7 +50,7 @@ new_sound p seed n = record {
 }
 
 -- A queue disc that is opened.
-pub opened : (sched : Scheduler) (flushed_counts : FlushedCounts) (past : QueueDiscTotals) (packets : Packets) (n : ℕ) (p : ParamFields) (seed : Seed) → sched ≡ open_scheduler p seed → flushed_counts ≡ nothing_flushed → past ≡ no_totals → packets ≡ no_packets
+pub opened : (sched : Scheduler) (flushed_counts : FlushedCounts) (past : QueueDiscTotals) (packets : Packets) (n : ℕ) (p : ParamFields) (seed : Seed) → sched ≡ open_scheduler p seed → flushed_counts ≡ nothing_flushed → past ≡ no_totals → packets ≡ no_packets_yet
     → IsSoundDisc (record { sched = sched; unread = 0; flushed_counts = flushed_counts; past = past; renew_after = n; packets = packets })
 opened sched flushed_counts past packets n p seed a b c d =
     subst IsSoundDisc (λ i. record { sched = sym a i; unread = 0; flushed_counts = sym b i; past = sym c i; renew_after = n; packets = sym d i }) (new_sound p seed n)
@@ -112,7 +112,7 @@ counts_one : (before : ℕ) (sent : Option Sent) → flushed_by (option_map (sen
 counts_one before None = refl
 counts_one before (Some x) = refl
 
-kept_flushed : (past : QueueDiscTotals) (old new : Totals) (flushed_counts : FlushedCounts) (n : ℕ) → IsWithin flushed_counts old → HasGrown old new → new.accepted ≡ old.accepted → new.sent ≡ old.sent + n
+kept_flushed : (past : QueueDiscTotals) (old new : Totals) (flushed_counts : FlushedCounts) (n : ℕ) → IsFlushedWithin flushed_counts old → HasGrown old new → new.accepted ≡ old.accepted → new.sent ≡ old.sent + n
     → KeepsSent (totals_by past old flushed_counts) n (totals_by past new (more_flushed flushed_counts old new))
 kept_flushed past old new flushed_counts n w g accepted sent = record {
   accepted = omega (arith, accepted);
@@ -141,15 +141,15 @@ kept_sent old new sent before s serves flushed_counts past =
 pub made_plain : (old : DiscState) (moment : ℕ) (packet : PacketParts) (new : DiscState) (r : Result Enqueued Refusal)
     → (IsDue old → moment < 2 ^ 60 → old.sched.standing.state.last ≤ moment → ⊥)
     → IfOk r (λ said. refusal_of old.sched.standing.state (Enqueue moment 0 packet) ≡ None)
-    → IfOk r (λ said. IsAccepted old moment packet said new) → IfOk r (λ said. IsEnqueued old moment packet said new)
+    → IfOk r (λ said. IsDiscAccepted old moment packet said new) → IfOk r (λ said. IsEnqueued old moment packet said new)
 made_plain old moment packet new (Ok said) never fits made =
     let may = may_come old moment packet fits in
     record { ready = old; renewal = inl ((λ due. never due may.soon may.later), refl); accepts = made }
 made_plain old moment packet new (Err e) never fits made = tt
 
 -- What is noted of a renewal that wasn't made leaves an acceptance as it is.
-accepted_unrenewed : (old : DiscState) (moment : ℕ) (packet : PacketParts) (said : Enqueued) (new : DiscState) → IsAccepted old moment packet said new
-    → IsAccepted (unrenewed old moment) moment packet said (unrenewed new moment)
+accepted_unrenewed : (old : DiscState) (moment : ℕ) (packet : PacketParts) (said : Enqueued) (new : DiscState) → IsDiscAccepted old moment packet said new
+    → IsDiscAccepted (unrenewed old moment) moment packet said (unrenewed new moment)
 accepted_unrenewed old moment packet said new a = record {
   advances = a.advances;
   id = a.id;
@@ -168,17 +168,17 @@ ready_by old mid false made refused = inl (refused refl)
 
 -- Where a renewal was due it was made, or the moment is noted.
 pub noted : (old mid after new : DiscState) (moment : ℕ) (packet : PacketParts) (said : Enqueued) (renewal : Bool) → (renewal ≡ true → mid ≡ renewed old) → (renewal ≡ false → mid ≡ old)
-    → (renewal ≡ true → new ≡ after) → (renewal ≡ false → new ≡ unrenewed after moment) → IsDue old → IsAccepted mid moment packet said after
+    → (renewal ≡ true → new ≡ after) → (renewal ≡ false → new ≡ unrenewed after moment) → IsDue old → IsDiscAccepted mid moment packet said after
     → IsEnqueued old moment packet said new
 noted old mid after new moment packet said true made refused same late due accepts = record {
   ready = mid;
   renewal = inr (due, inl (made refl));
-  accepts = subst (λ (s : DiscState). IsAccepted mid moment packet said s) (sym (same refl)) accepts;
+  accepts = subst (λ (s : DiscState). IsDiscAccepted mid moment packet said s) (sym (same refl)) accepts;
 }
 noted old mid after new moment packet said false made refused same late due accepts = record {
   ready = unrenewed mid moment;
   renewal = inr (due, inr (ap (λ (s : DiscState). unrenewed s moment) (refused refl)));
-  accepts = subst (λ (s : DiscState). IsAccepted (unrenewed mid moment) moment packet said s) (sym (late refl)) (accepted_unrenewed mid moment packet said after accepts);
+  accepts = subst (λ (s : DiscState). IsDiscAccepted (unrenewed mid moment) moment packet said s) (sym (late refl)) (accepted_unrenewed mid moment packet said after accepts);
 }
 
 pub ready_read : (old mid : DiscState) → IsDue old → (mid ≡ old) ⊎ (mid ≡ renewed old) → mid.unread ≡ 0

@@ -13,7 +13,7 @@ use Rattle.journal_core.specs.declared.event.Event.TheVariants.{Accepted, Sent, 
 use Rattle.journal_core.proofs.EventLemmas.{filter_map_push, filter_map_same}
 use Rattle.queue_disc_core.specs.declared.answers.Dropped.{Dropped as Drop}
 use Rattle.queue_disc_core.specs.declared.answers.Handle.{Handle}
-use Rattle.queue_disc_core.specs.Drops.{AreRecent, IsDropAt, cause_of, causes_of, loss_of, packet_of, settled_drops}
+use Rattle.queue_disc_core.specs.Drops.{AreRecent, IsDropAt, cause_of, causes_of, loss_of, drop_handle_of, settled_drops}
 use Rattle.queue_disc_core.proofs.SettledDrops.{settled_accept, settled_stays}
 
 module _ (drops : List Drop) (told : List Event) (lost : List Waiting) (r : AreRecent drops told lost) where
@@ -38,14 +38,14 @@ module _ (drops : List Drop) (told : List Event) (lost : List Waiting) (r : AreR
   pub recent_accepted : (lane id moment flow : ℕ) (packet : PacketParts) → AreRecent [] (told ++ Accepted lane id moment flow packet ∷ []) lost
   recent_accepted lane id moment flow packet =
       let e : Event = Accepted lane id moment flow packet in
-      let handles = map packet_of drops in
+      let handles = map drop_handle_of drops in
       let causes = map (λ (d : Drop). d.cause) drops in
       record {
         past_losses = r.past_losses ++ handles;
         past_causes = r.past_causes ++ causes;
         losses_are = r.losses_are ∙ sym (append-nil (r.past_losses ++ handles));
         causes_are = filter_map_same cause_of told e refl ∙ r.causes_are ∙ sym (append-nil (r.past_causes ++ causes));
-        as_many = length-append r.past_losses handles ∙ (λ i. r.as_many i + (length-map drops packet_of ∙ sym (length-map drops (λ (d : Drop). d.cause))) i) ∙ sym (length-append r.past_causes causes);
+        as_many = length-append r.past_losses handles ∙ (λ i. r.as_many i + (length-map drops drop_handle_of ∙ sym (length-map drops (λ (d : Drop). d.cause))) i) ∙ sym (length-append r.past_causes causes);
         settled = ap length (sym r.causes_are) ∙ sym (settled_accept lane id moment flow packet [] told refl);
       }
 
@@ -55,7 +55,7 @@ module _ (drops : List Drop) (told : List Event) (lost : List Waiting) (r : AreR
       record {
         past_losses = r.past_losses;
         past_causes = r.past_causes;
-        losses_are = map-append loss_of lost (w ∷ []) ∙ ap (λ l. l ++ loss_of w ∷ []) r.losses_are ∙ append_assoc r.past_losses (map packet_of drops) (loss_of w ∷ []) ∙ ap (λ l. r.past_losses ++ l) (sym (map-append packet_of drops (d ∷ [])));
+        losses_are = map-append loss_of lost (w ∷ []) ∙ ap (λ l. l ++ loss_of w ∷ []) r.losses_are ∙ append_assoc r.past_losses (map drop_handle_of drops) (loss_of w ∷ []) ∙ ap (λ l. r.past_losses ++ l) (sym (map-append drop_handle_of drops (d ∷ [])));
         causes_are = filter_map_push cause_of told (Dropped w.id moment cause) cause refl ∙ ap (λ l. l ++ cause ∷ []) r.causes_are ∙ append_assoc r.past_causes (map (λ (d : Drop). d.cause) drops) (cause ∷ []) ∙ ap (λ l. r.past_causes ++ l) (sym (map-append (λ (d : Drop). d.cause) drops (d ∷ [])));
         as_many = r.as_many;
         settled = r.settled ∙ sym (settled_stays told (Dropped w.id moment cause ∷ []) refl);
@@ -64,7 +64,7 @@ module _ (drops : List Drop) (told : List Event) (lost : List Waiting) (r : AreR
   -- Those packets alone that were lost before the last acceptance are forgotten.
   pub losses_kept : length lost ≡ length drops + settled_drops told
   losses_kept =
-      let size : length lost ≡ length r.past_losses + length drops = sym (length-map lost loss_of) ∙ ap length r.losses_are ∙ length-append r.past_losses (map packet_of drops) ∙ ap (λ n. length r.past_losses + n) (length-map drops packet_of) in
+      let size : length lost ≡ length r.past_losses + length drops = sym (length-map lost loss_of) ∙ ap length r.losses_are ∙ length-append r.past_losses (map drop_handle_of drops) ∙ ap (λ n. length r.past_losses + n) (length-map drops drop_handle_of) in
       omega (arith, r.as_many, r.settled)
 
 -- What stands at a place from the end of a list stands there in a longer one that ends with it.
@@ -94,11 +94,11 @@ module _ (drops : List Drop) (told : List Event) (lost : List Waiting) (r : AreR
   recent_drop d n some n_is at =
       let few = reach in
       let there : slice_get drops (length drops - back) ≡ Some d = slice_get-get_or drops (length drops - back) d (omega arith) ∙ ap Some (ap (λ k. get_or drops (k - back) d) (sym n_is) ∙ sym at) in
-      let known : slice_get (map loss_of lost) (length (map loss_of lost) - back) ≡ Some (packet_of d) =
-      at_end (map loss_of lost) r.past_losses (map packet_of drops) back (packet_of d) r.losses_are (rw (length-map drops packet_of) few) (mapped_there packet_of drops back d there) in
+      let known : slice_get (map loss_of lost) (length (map loss_of lost) - back) ≡ Some (drop_handle_of d) =
+      at_end (map loss_of lost) r.past_losses (map drop_handle_of drops) back (drop_handle_of d) r.losses_are (rw (length-map drops drop_handle_of) few) (mapped_there drop_handle_of drops back d there) in
       let place : length (map loss_of lost) - back ≡ length lost - back = ap (λ n. n - back) (length-map lost loss_of) in
       record {
-        packet = known_by (slice_get lost (length lost - back)) (packet_of d) (sym (slice_get-map loss_of lost (length lost - back)) ∙ ap (slice_get (map loss_of lost)) (sym place) ∙ known);
+        packet = known_by (slice_get lost (length lost - back)) (drop_handle_of d) (sym (slice_get-map loss_of lost (length lost - back)) ∙ ap (slice_get (map loss_of lost)) (sym place) ∙ known);
         cause = ap (λ n. slice_get (causes_of told) (n - back)) as_many
             ∙ at_end (causes_of told) r.past_causes (map (λ (d : Drop). d.cause) drops) back d.cause r.causes_are (rw (length-map drops (λ (d : Drop). d.cause)) few) (mapped_there (λ (d : Drop). d.cause) drops back d there);
       }

@@ -21,8 +21,8 @@ use Rattle.queue_disc_core.specs.declared.totals.QueueDiscTotals.{QueueDiscTotal
 use Rattle.queue_disc_core.specs.Drops.{causes_of}
 use Rattle.queue_disc_core.specs.Laws.{IsLawful}
 use Rattle.queue_disc_core.specs.QueueDiscKept.{AreBalanced, IsSoundDisc}
-use Rattle.queue_disc_core.specs.QueueDiscTotals.{HasGrown, IsWithin, more_flushed}
-use Rattle.queue_disc_core.specs.QueueDiscs.{IsAccepted, IsClosed, IsDequeued, IsFlushed, IsIdle, IsRead, DiscState, drop_handle, events_of, handle_of, lost_of, read_of, sent_handle, sent_handles, unread_packets}
+use Rattle.queue_disc_core.specs.QueueDiscTotals.{HasGrown, IsFlushedWithin, more_flushed}
+use Rattle.queue_disc_core.specs.QueueDiscs.{IsDiscAccepted, IsDiscClosed, IsDiscDequeued, IsFlushed, IsIdle, IsRead, DiscState, drop_handle, events_of, handle_of, lost_of, read_of, sent_handle, sent_handles, unread_packets}
 use Rattle.queue_disc_core.proofs.Balanced.{balance_noted, gone_sum, sum_push, weighs}
 use Rattle.queue_disc_core.proofs.DropCounts.{lost_counted}
 use Rattle.queue_disc_core.proofs.StepDrops.{close_settles, dequeue_settles, enqueue_settles}
@@ -32,7 +32,7 @@ use Rattle.queue_disc_core.proofs.StepMoves.{close_grows, close_loses, close_mov
 pub caused : (s : Scheduler) → IsLawful s → length (lost_packets s.standing.events) ≡ length (causes_of s.standing.events)
 caused s l = lost_counted (discipline_of s).flow_of s.standing.events l.laws
 
-within_more : (flushed_counts : FlushedCounts) (old new : Totals) → IsWithin flushed_counts old → HasGrown old new → IsWithin flushed_counts new
+within_more : (flushed_counts : FlushedCounts) (old new : Totals) → IsFlushedWithin flushed_counts old → HasGrown old new → IsFlushedWithin flushed_counts new
 within_more flushed_counts old new w g = record {
   packets = let a = w.packets in let b = g.sent in omega arith;
   bytes = let a = w.bytes in let b = g.bytes in omega arith;
@@ -40,7 +40,7 @@ within_more flushed_counts old new w g = record {
   threshold_marked = let a = w.threshold_marked in let b = g.threshold_marked in omega arith;
 }
 
-flushed_more : (flushed_counts : FlushedCounts) (old new : Totals) → IsWithin flushed_counts old → HasGrown old new → IsWithin (more_flushed flushed_counts old new) new
+flushed_more : (flushed_counts : FlushedCounts) (old new : Totals) → IsFlushedWithin flushed_counts old → HasGrown old new → IsFlushedWithin (more_flushed flushed_counts old new) new
 flushed_more flushed_counts old new w g = record {
   packets = let a = w.packets in let b = g.sent in omega arith;
   bytes = let a = w.bytes in let b = g.bytes in omega arith;
@@ -48,7 +48,7 @@ flushed_more flushed_counts old new w g = record {
   threshold_marked = let a = w.threshold_marked in let b = g.threshold_marked in omega arith;
 }
 
-pub accept_balanced : (old new : DiscState) (moment : ℕ) (packet : PacketParts) (said : Enqueued) → IsLawful old.sched → IsLawful new.sched → AreBalanced old → IsAccepted old moment packet said new → AreBalanced new
+pub accept_balanced : (old new : DiscState) (moment : ℕ) (packet : PacketParts) (said : Enqueued) → IsLawful old.sched → IsLawful new.sched → AreBalanced old → IsDiscAccepted old moment packet said new → AreBalanced new
 accept_balanced old new moment packet said before after balanced a =
     let handle : Handle = record { tag = packet.tag; id = said.id } in
     let first = arrival old.sched.standing.state moment packet in
@@ -63,7 +63,7 @@ accept_balanced old new moment packet said before after balanced a =
       sent = λ f. omega (arith, ap (gone_sum f) a.rest);
     })
 
-pub accept_sound : (old new : DiscState) (moment : ℕ) (packet : PacketParts) (said : Enqueued) → IsLawful old.sched → IsLawful new.sched → IsSoundDisc old → IsAccepted old moment packet said new → IsSoundDisc new
+pub accept_sound : (old new : DiscState) (moment : ℕ) (packet : PacketParts) (said : Enqueued) → IsLawful old.sched → IsLawful new.sched → IsSoundDisc old → IsDiscAccepted old moment packet said new → IsSoundDisc new
 accept_sound old new moment packet said before after s a =
     let handle : Handle = record { tag = packet.tag; id = said.id } in
     let settles = enqueue_settles (discipline_of old.sched) old.sched.standing new.sched.standing moment 0 packet a.advances.advances in
@@ -82,7 +82,7 @@ accept_sound old new moment packet said before after s a =
       balanced = subst AreBalanced a.rest (accept_balanced old new moment packet said before after s.balanced a);
     })
 
-pub close_balanced : (old new : DiscState) (moment : ℕ) → IsLawful old.sched → IsLawful new.sched → AreBalanced old → IsClosed old moment new → AreBalanced new
+pub close_balanced : (old new : DiscState) (moment : ℕ) → IsLawful old.sched → IsLawful new.sched → AreBalanced old → IsDiscClosed old moment new → AreBalanced new
 close_balanced old new moment before after balanced a =
     let same : length (lost_of new) ≡ length (lost_of old) = ap length (close_loses old.sched new.sched moment before a.advances) in
     balance_noted old new [] [] balanced (record {
@@ -95,7 +95,7 @@ close_balanced old new moment before after balanced a =
       sent = λ f. omega (arith, ap (gone_sum f) a.rest);
     })
 
-pub close_sound : (old new : DiscState) (moment : ℕ) → IsLawful old.sched → IsLawful new.sched → IsSoundDisc old → IsClosed old moment new → IsSoundDisc new
+pub close_sound : (old new : DiscState) (moment : ℕ) → IsLawful old.sched → IsLawful new.sched → IsSoundDisc old → IsDiscClosed old moment new → IsSoundDisc new
 close_sound old new moment before after s a =
     let settles = close_settles (discipline_of old.sched) old.sched.standing new.sched.standing moment a.advances.advances in
     let adds = adds_closed (discipline_of old.sched) old.sched.standing new.sched.standing moment a.advances.advances in
@@ -151,7 +151,7 @@ pub record Served (old : DiscState) (moment : ℕ) (sent : Option Sent) (new : D
   pub drops : new.unread + length (lost_of old) ≡ old.unread + length (lost_of new)
   pub past : new.past ≡ old.past
   pub accepted : new.packets.accepted ≡ old.packets.accepted
-  pub flushed_counts : IsWithin new.flushed_counts (statistics (events_of new))
+  pub flushed_counts : IsFlushedWithin new.flushed_counts (statistics (events_of new))
   pub gone : (f : Handle → ℕ) → gone_sum f new ≡ gone_sum f old + sum_by f (sent_handles old.past.accepted sent)
 
 pub served_sound : (old new : DiscState) (moment : ℕ) (sent : Option Sent) → IsSoundDisc old → Served old moment sent new → IsSoundDisc new
@@ -174,7 +174,7 @@ served_sound old new moment sent s v =
       balanced = served_balanced old new moment sent v.before v.after s.balanced v.serves v.packet (still_read (length (lost_of old)) (length (lost_of new)) old.unread new.unread (omega (arith, lost_old, s.readable)) v.drops) accepted v.accepted v.gone;
     }
 
-pub dequeue_sound : (old new : DiscState) (moment : ℕ) (said : Dequeued) → IsLawful old.sched → IsLawful new.sched → IsSoundDisc old → IsDequeued old moment said new → IsSoundDisc new
+pub dequeue_sound : (old new : DiscState) (moment : ℕ) (said : Dequeued) → IsLawful old.sched → IsLawful new.sched → IsSoundDisc old → IsDiscDequeued old moment said new → IsSoundDisc new
 dequeue_sound old new moment said before after s d =
     subst IsSoundDisc (sym d.rest)
     (served_sound old _ moment d.sent s (record {
@@ -200,7 +200,7 @@ flush_sound old new packet before after s d =
       drops = d.drops;
       past = refl;
       accepted = refl;
-      flushed_counts = subst (λ (a : FlushedCounts). IsWithin a (statistics (events_of new))) (sym d.flushed_counts)
+      flushed_counts = subst (λ (a : FlushedCounts). IsFlushedWithin a (statistics (events_of new))) (sym d.flushed_counts)
           (flushed_more old.flushed_counts (statistics (events_of old)) (statistics (events_of new)) s.flushed_counts (served_grows old.sched new.sched old.sched.standing.state.last (Some d.sent) before d.serves));
       gone = λ f. omega (arith, sum_push f old.packets.flushed packet, sum_by-cons f (sent_handle old.past.accepted d.sent) [], ap f d.handle);
     }))
@@ -216,7 +216,7 @@ idle_sound old new before after s d =
       drops = d.drops;
       past = refl;
       accepted = refl;
-      flushed_counts = subst (λ (a : FlushedCounts). IsWithin a (statistics (events_of new))) (sym d.flushed_counts)
+      flushed_counts = subst (λ (a : FlushedCounts). IsFlushedWithin a (statistics (events_of new))) (sym d.flushed_counts)
           (flushed_more old.flushed_counts (statistics (events_of old)) (statistics (events_of new)) s.flushed_counts (served_grows old.sched new.sched old.sched.standing.state.last None before d.serves));
       gone = λ f. omega arith;
     }))

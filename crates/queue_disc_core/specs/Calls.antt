@@ -7,7 +7,7 @@ use Rattle.queue_disc_core.specs.declared.answers.Dequeued.{Dequeued}
 use Rattle.queue_disc_core.specs.declared.answers.Dropped.{Dropped}
 use Rattle.queue_disc_core.specs.declared.answers.Enqueued.{Enqueued}
 use Rattle.queue_disc_core.specs.declared.answers.Handle.{Handle}
-use Rattle.queue_disc_core.specs.QueueDiscs.{AreFlushed, AreRead, FlushesAll, IsClosed, IsDequeued, IsEnqueued, DiscState, drop_handle}
+use Rattle.queue_disc_core.specs.QueueDiscs.{AreFlushed, AreRead, FlushesAll, IsDiscClosed, IsDiscDequeued, IsEnqueued, DiscState, drop_handle}
 
 -- A call that changed a queue disc, with its arguments and its answer: an enqueue that was accepted, a dequeue, the drops
 -- that were read, the packets that were flushed, and the close. One that is refused changes nothing.
@@ -21,10 +21,10 @@ pub data Call : Type 0 where
 -- what the call does
 abbrev pub IsCalled : DiscState → Call → DiscState → Type 0
 IsCalled old (enqueued moment packet said) new = IsEnqueued old moment packet said new
-IsCalled old (dequeued moment said) new = IsDequeued old moment said new
+IsCalled old (dequeued moment said) new = IsDiscDequeued old moment said new
 IsCalled old (read drops) new = AreRead old drops new
 IsCalled old (flushed packets) new = AreFlushed old packets new ⊎ FlushesAll old packets new
-IsCalled old (closed moment) new = IsClosed old moment new
+IsCalled old (closed moment) new = IsDiscClosed old moment new
 
 -- Those calls were made, one after another.
 abbrev pub AreCalled : DiscState → List Call → DiscState → Type 0

@@ -42,20 +42,20 @@ abbrev pub loss_of : Waiting → Handle
 loss_of w = record { tag = w.packet.tag; id = w.id }
 
 -- what a drop's packet is known by
-abbrev pub packet_of : Drop → Handle
-packet_of d = record { tag = d.tag; id = d.id }
+abbrev pub drop_handle_of : Drop → Handle
+drop_handle_of d = record { tag = d.tag; id = d.id }
 
 -- The drops that are kept are the last ones: those before are forgotten, which are the ones before the last acceptance.
 pub record AreRecent (drops : List Drop) (told : List Event) (lost : List Waiting) : Type 0 where
   pub past_losses : List Handle
   pub past_causes : List Cause
-  pub losses_are : map loss_of lost ≡ past_losses ++ map packet_of drops
+  pub losses_are : map loss_of lost ≡ past_losses ++ map drop_handle_of drops
   pub causes_are : causes_of told ≡ past_causes ++ map (λ (d : Drop). d.cause) drops
   pub as_many : length past_losses ≡ length past_causes
   pub settled : length past_causes ≡ settled_drops told
 
 -- what a recorder was told: the events, the packets sent and the packets lost, and how many events more it can be told
-pub record Tale : Type 0 where
+pub record DropTale : Type 0 where
   pub events : List Event
   pub sent : List Waiting
   pub lost : List Waiting

@@ -11,5 +11,5 @@ pub record Packets : Type 0 where
   pub flushed : List Handle
   pub unrenewed : List ℕ
 
-abbrev pub no_packets : Packets
-no_packets = record { accepted = []; sent = []; read = []; flushed = []; unrenewed = [] }
+abbrev pub no_packets_yet : Packets
+no_packets_yet = record { accepted = []; sent = []; read = []; flushed = []; unrenewed = [] }

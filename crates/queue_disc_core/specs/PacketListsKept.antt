@@ -2,8 +2,8 @@
 use Rattle.queue_disc_core.specs.declared.ghost_packets.GhostPackets.TheInside.{Inside}
 use Rattle.queue_disc_core.specs.PacketLists.{Packets}
 
-abbrev pub packets_of : Inside → Packets
-packets_of l = record {
+abbrev pub packet_lists_of : Inside → Packets
+packet_lists_of l = record {
   accepted = l.accepted.items;
   sent = l.sent.items;
   read = l.read.items;

@@ -4,7 +4,7 @@ use Rattle.journal_core.specs.Statistics.{statistics}
 use Rattle.queue_disc_core.specs.declared.answers.Handle.{Handle}
 use Rattle.queue_disc_core.specs.declared.queue_disc.QueueDisc.TheInside.{Inside}
 use Rattle.queue_disc_core.specs.Drops.{causes_of, settled_drops}
-use Rattle.queue_disc_core.specs.QueueDiscTotals.{IsWithin}
+use Rattle.queue_disc_core.specs.QueueDiscTotals.{IsFlushedWithin}
 use Rattle.queue_disc_core.specs.QueueDiscs.{DiscState, events_of, unread_packets, waiting_packets}
 
 abbrev pub disc_state_of : Inside → DiscState
@@ -29,7 +29,7 @@ AreBalanced s =
 pub record IsSoundDisc (s : DiscState) : Type 0 where
   pub readable : s.unread + settled_drops (events_of s) ≤ length (causes_of (events_of s))
   pub counted : (statistics (events_of s)).accepted ≡ s.sched.standing.state.next_id
-  pub flushed_counts : IsWithin s.flushed_counts (statistics (events_of s))
+  pub flushed_counts : IsFlushedWithin s.flushed_counts (statistics (events_of s))
   pub past : s.past.accepted ≡ s.past.sent + s.past.dropped_codel + s.past.dropped_overflow + s.past.flushed
   pub few : s.past.accepted ≤ 2 ^ 63
   pub ids : length s.packets.accepted ≡ s.past.accepted + s.sched.standing.state.next_id

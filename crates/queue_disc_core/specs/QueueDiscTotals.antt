@@ -59,7 +59,7 @@ more_flushed flushed_counts before after = record {
 }
 
 -- No more was flushed than was counted as sent.
-pub record IsWithin (flushed_counts : FlushedCounts) (now : Totals) : Type 0 where
+pub record IsFlushedWithin (flushed_counts : FlushedCounts) (now : Totals) : Type 0 where
   pub packets : flushed_counts.packets ≤ now.sent
   pub bytes : flushed_counts.bytes ≤ now.sent_bytes
   pub marked : flushed_counts.marked ≤ now.marked

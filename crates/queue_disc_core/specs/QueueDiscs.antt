@@ -21,7 +21,7 @@ use Rattle.queue_disc_core.specs.declared.answers.Handle.{Handle}
 use Rattle.queue_disc_core.specs.declared.totals.FlushedCounts.{FlushedCounts}
 use Rattle.queue_disc_core.specs.declared.totals.QueueDiscTotals.{QueueDiscTotals}
 use Rattle.queue_disc_core.specs.Drops.{causes_of}
-use Rattle.queue_disc_core.specs.PacketLists.{Packets, no_packets}
+use Rattle.queue_disc_core.specs.PacketLists.{Packets, no_packets_yet}
 use Rattle.queue_disc_core.specs.QueueDiscTotals.{more_flushed, no_totals, nothing_flushed, totals_by}
 
 -- A queue disc as its caller sees it: the scheduler that it goes on with; how many of its drops weren't read, which are the
@@ -47,7 +47,7 @@ new_disc p seed renew_after = record {
   flushed_counts = nothing_flushed;
   past = no_totals;
   renew_after = renew_after;
-  packets = no_packets;
+  packets = no_packets_yet;
 }
 
 -- what became of the scheduler's packets
@@ -132,14 +132,14 @@ abbrev pub unrenewed : DiscState → ℕ → DiscState
 unrenewed s moment = record s { packets = record s.packets { unrenewed = s.packets.unrenewed ++ moment ∷ [] } }
 
 -- A queue disc is ready for a packet of that moment. Where a renewal is due it was renewed, or memory for that was refused.
-abbrev pub IsReady : DiscState → ℕ → DiscState → Type 0
-IsReady old moment ready =
+abbrev pub IsDiscReady : DiscState → ℕ → DiscState → Type 0
+IsDiscReady old moment ready =
     ((IsDue old → ⊥) × (ready ≡ old))
     ⊎ (IsDue old × ((ready ≡ renewed old) ⊎ (ready ≡ unrenewed old moment)))
 
 -- A packet is accepted: the scheduler makes the step, and the packets that it drops are there to be read. No other
 -- drop was. It takes one of the enqueues that are reserved at most.
-pub record IsAccepted (old : DiscState) (moment : ℕ) (packet : PacketParts) (said : Enqueued) (new : DiscState)
+pub record IsDiscAccepted (old : DiscState) (moment : ℕ) (packet : PacketParts) (said : Enqueued) (new : DiscState)
     : Type 0 where
   pub advances : IsAdvanced old.sched (Enqueue moment 0 packet) answer.Accepted new.sched
   pub id : said.id ≡ old.past.accepted + old.sched.standing.state.next_id
@@ -158,12 +158,12 @@ pub record IsAccepted (old : DiscState) (moment : ℕ) (packet : PacketParts) (s
 pub record IsEnqueued (old : DiscState) (moment : ℕ) (packet : PacketParts) (said : Enqueued) (new : DiscState)
     : Type 0 where
   pub ready : DiscState
-  pub renewal : IsReady old moment ready
-  pub accepts : IsAccepted ready moment packet said new
+  pub renewal : IsDiscReady old moment ready
+  pub accepts : IsDiscAccepted ready moment packet said new
 
 -- A dequeue is made: the scheduler makes the step, and the packets that it drops are there to be read, after those that
 -- were. The answer has the packet that the scheduler gives, under its id over all renewals.
-pub record IsDequeued (old : DiscState) (moment : ℕ) (said : Dequeued) (new : DiscState) : Type 0 where
+pub record IsDiscDequeued (old : DiscState) (moment : ℕ) (said : Dequeued) (new : DiscState) : Type 0 where
   pub sent : Option Sent
   pub serves : IsServed old.sched moment sent new.sched
   pub packet : IfSome sent (IsOfAccepted (events_of old))
@@ -254,6 +254,6 @@ flushed_by None = 0
 flushed_by (Some packet) = 1
 
 -- The close is made.
-pub record IsClosed (old : DiscState) (moment : ℕ) (new : DiscState) : Type 0 where
+pub record IsDiscClosed (old : DiscState) (moment : ℕ) (new : DiscState) : Type 0 where
   pub advances : IsAdvanced old.sched (Close moment) answer.Closed new.sched
   pub rest : new ≡ record old { sched = new.sched }

@@ -21,12 +21,12 @@ pub(crate) struct Drops {
 }
 
 impl Model for Drops {
-    ghost use Rattle.queue_disc_core.specs.DropsKept.{AreKept, tale_of};
-    ghost use Rattle.queue_disc_core.specs.Drops.{Tale};
+    ghost use Rattle.queue_disc_core.specs.DropsKept.{AreKept, drop_tale_of};
+    ghost use Rattle.queue_disc_core.specs.Drops.{DropTale};
 
-    ghost Value = { Tale };
+    ghost Value = { DropTale };
 
-    ghost view = { tale_of };
+    ghost view = { drop_tale_of };
 
     ghost invariant = { AreKept };
 }

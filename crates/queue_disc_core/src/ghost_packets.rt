@@ -19,19 +19,19 @@ pub(crate) struct GhostPackets {
 
 impl Model for GhostPackets {
     ghost use Rattle.queue_disc_core.specs.PacketLists.{Packets};
-    ghost use Rattle.queue_disc_core.specs.PacketListsKept.{packets_of};
+    ghost use Rattle.queue_disc_core.specs.PacketListsKept.{packet_lists_of};
 
     ghost Value = { Packets };
 
-    ghost view = { packets_of };
+    ghost view = { packet_lists_of };
 }
 
 impl GhostPackets {
-    ghost use Rattle.queue_disc_core.specs.PacketLists.{no_packets};
+    ghost use Rattle.queue_disc_core.specs.PacketLists.{no_packets_yet};
 
     /// No packet yet.
     pub(crate) fn new() -> GhostPackets
-        ensures { result ≡ no_packets }
+        ensures { result ≡ no_packets_yet }
     {
         GhostPackets {
             accepted: GhostList::new(),

@@ -190,7 +190,7 @@ fn take_out(sent: Option<Sent>, before: u64, packets: &mut GhostPackets) -> Opti
 
 impl QueueDisc {
     ghost use Rattle.queue_disc_core.specs.Faults.{IsFault};
-    ghost use Rattle.queue_disc_core.specs.QueueDiscs.{AreFlushed, AreGivenBack, AreRead, FlushesAll, FlushesOne, IsAccepted, IsClosed, IsDequeued, IsDue, IsEnqueued, IsFlushed, IsRead, KeepsSent, MayCome, flushed_by, lost_of, new_disc, queued_in, renewed, totals_of};
+    ghost use Rattle.queue_disc_core.specs.QueueDiscs.{AreFlushed, AreGivenBack, AreRead, FlushesAll, FlushesOne, IsDiscAccepted, IsDiscClosed, IsDiscDequeued, IsDue, IsEnqueued, IsFlushed, IsRead, KeepsSent, MayCome, flushed_by, lost_of, new_disc, queued_in, renewed, totals_of};
 
     /// A scheduler before its first step. It takes the memory for `limit` packets and one more here.
     pub fn open(alloc: Global, params: Params, seed: Seed) -> Result<QueueDisc, Memory>
@@ -325,7 +325,7 @@ impl QueueDisc {
     #[inline(always)]
     fn accept(&mut self, moment: u64, packet: Packet) -> Result<Enqueued, Refusal>
         requires { self.old.unread ≡ 0 }
-        ensures made { IfOk result (λ said. IsAccepted self.old moment packet said self.new) }
+        ensures made { IfOk result (λ said. IsDiscAccepted self.old moment packet said self.new) }
         ensures id { IfOk result (λ said. said.id ≡ length self.old.packets.accepted) }
         ensures fits { IfOk result (λ said.
             refusal_of self.old.sched.standing.state (Enqueue moment 0 packet) ≡ None) }
@@ -360,7 +360,7 @@ impl QueueDisc {
     /// last one.
     #[inline(always)]
     pub fn dequeue(&mut self, moment: u64) -> Result<Dequeued, MomentFault>
-        ensures made { IfOk result (λ said. IsDequeued self.old moment said self.new) }
+        ensures made { IfOk result (λ said. IsDiscDequeued self.old moment said self.new) }
         ensures refused { IfErr result (λ fault.
             refusal_of self.old.sched.standing.state (Dequeue moment) ≡ Some (refusal.Moment fault)) }
         ensures unchanged { OnErr result (self.new ≡ self.old) }
@@ -473,7 +473,7 @@ impl QueueDisc {
     /// From here on nothing is accepted; dequeues go on, and drops can be read. The moment is in microseconds. It takes
     /// no memory. It refuses a moment of 2^60 or more or before the last one, then a second close.
     pub fn close(&mut self, moment: u64) -> Result<(), CloseFault>
-        ensures made { OnOk result (IsClosed self.old moment self.new) }
+        ensures made { OnOk result (IsDiscClosed self.old moment self.new) }
         ensures refused { IfErr result
             (λ fault. refusal_of self.old.sched.standing.state (Close moment) ≡ Some (close_refusal fault)) }
         ensures unchanged { OnErr result (self.new ≡ self.old) }

@@ -1,7 +1,7 @@
 //! The statistics of a queue disc, which go on over renewals.
 
 ghost use Rattle.std.specs.Prelude.{◌≡◌, ◌+◌, ◌<◌, ◌^◌};
-ghost use Rattle.queue_disc_core.specs.QueueDiscTotals.{IsWithin, HasGrown, more_flushed, no_totals, nothing_flushed, totals_by};
+ghost use Rattle.queue_disc_core.specs.QueueDiscTotals.{IsFlushedWithin, HasGrown, more_flushed, no_totals, nothing_flushed, totals_by};
 
 use sched_core::Totals;
 
@@ -63,7 +63,7 @@ impl FlushedCounts {
 
     /// All that a scheduler counted as sent from one point to another was flushed, too.
     pub(crate) fn and(&self, before: &Totals, after: &Totals) -> FlushedCounts
-        requires within { IsWithin self.now before.now }
+        requires within { IsFlushedWithin self.now before.now }
         requires grown { HasGrown before.now after.now }
         ensures { result ≡ more_flushed self.now before.now after.now }
     {
@@ -92,7 +92,7 @@ impl QueueDiscTotals {
         requires dropped { self.now.dropped_codel + now.now.dropped_codel < 2 ^ 64 }
         requires overflow { self.now.dropped_overflow + now.now.dropped_overflow < 2 ^ 64 }
         requires flushed { self.now.flushed + flushed_counts.now.packets < 2 ^ 64 }
-        requires within { IsWithin flushed_counts.now now.now }
+        requires within { IsFlushedWithin flushed_counts.now now.now }
         ensures { result ≡ totals_by self.now now.now flushed_counts.now }
     {
         QueueDiscTotals {

@@ -46,8 +46,8 @@ abbrev pub is_length : ℕ → Bool
 is_length len = nat_le 1 len && nat_le len 65535
 
 -- a packet's length
-unfoldable pub length_of : List ℕ → Result ℕ TraceFaultKind
-length_of text = ok_or (numeral_of text) BadNumber >>= λ len. if is_length len then Ok len else Err LengthOutOfRange
+unfoldable pub packet_length_of : List ℕ → Result ℕ TraceFaultKind
+packet_length_of text = ok_or (numeral_of text) BadNumber >>= λ len. if is_length len then Ok len else Err LengthOutOfRange
 
 -- an ECN field
 unfoldable pub ecn_of : List ℕ → Result Ecn TraceFaultKind
@@ -124,7 +124,7 @@ packet_of version fields =
     destination_of version src (field_of fields 4) >>= λ dst.
     number_below (2 ^ 16) (field_of fields 5) >>= λ sport.
     number_below (2 ^ 16) (field_of fields 6) >>= λ dport.
-    length_of (field_of fields 7) >>= λ len.
+    packet_length_of (field_of fields 7) >>= λ len.
     ecn_of (field_of fields 8) >>= λ ecn.
     Ok (record {
       tuple = record { proto = proto; src = src; dst = dst; sport = sport; dport = dport };
@@ -147,8 +147,8 @@ step_of version Close moment fields = Ok (step.Close moment)
 
 -- The step that a row of a trace of this version asks for, or its first fault: a first field that names no kind, then
 -- another number of fields than the kind has, then the first faulty field from the left.
-unfoldable pub row_of : Version → List (List ℕ) → Result Step TraceFaultKind
-row_of version fields =
+unfoldable pub step_of_row : Version → List (List ℕ) → Result Step TraceFaultKind
+step_of_row version fields =
     kind_of (field_of fields 0) >>= λ kind.
     if length fields == fields_of_kind kind
     then (number_below (2 ^ 60) (field_of fields 1) >>= λ moment. step_of version kind moment fields)

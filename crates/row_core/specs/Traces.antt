@@ -20,7 +20,7 @@ use Rattle.row_core.specs.declared.faults.TraceFaultKind.TheVariants.{Memory, Re
 use Rattle.row_core.specs.declared.reader.TraceRows.{TraceRows}
 use Rattle.row_core.specs.declared.row.Version.{Version}
 use Rattle.row_core.specs.declared.row.Version.TheVariants.{One}
-use Rattle.row_core.specs.Rows.{◌>>=◌, field_of, row_of, tells_version, version_of}
+use Rattle.row_core.specs.Rows.{◌>>=◌, field_of, step_of_row, tells_version, version_of}
 
 -- whether a record's only field is empty: it stands for no row, and isn't counted
 abbrev pub is_blank : List (List ℕ) → Bool
@@ -51,16 +51,16 @@ abbrev pub with_version : RowsSoFar → Version → RowsSoFar
 with_version rows version = record { next_row = rows.next_row + 1; version = version; steps = rows.steps }
 
 -- These rows and one more. There are at most 1,000,000, and the first one alone can tell the version.
-abbrev pub with_row : RowsSoFar → List (List ℕ) → Result RowsSoFar TraceFault
-with_row rows fields =
+abbrev pub with_row_more : RowsSoFar → List (List ℕ) → Result RowsSoFar TraceFault
+with_row_more rows fields =
     if nat_lt 1000000 rows.next_row then Err (record { row = rows.next_row; what = TooLarge })
     else if tells_version rows.next_row fields
     then (at_row rows.next_row (version_of fields) >>= λ version. Ok (with_version rows version))
-    else (at_row rows.next_row (row_of rows.version fields) >>= λ step. Ok (with_step rows step))
+    else (at_row rows.next_row (step_of_row rows.version fields) >>= λ step. Ok (with_step rows step))
 
 -- the same of a record, and of rows that were refused, if there was a faulty row before
 abbrev pub with_record : Result RowsSoFar TraceFault → List (List ℕ) → Result RowsSoFar TraceFault
-with_record so_far fields = so_far >>= λ rows. if is_blank fields then Ok rows else with_row rows fields
+with_record so_far fields = so_far >>= λ rows. if is_blank fields then Ok rows else with_row_more rows fields
 
 -- what the rows of records told, or the fault of the first faulty row
 unfoldable pub rows_of_records : List (List (List ℕ)) → Result RowsSoFar TraceFault
@@ -195,7 +195,7 @@ abbrev pub HasFailed : TraceRows → Type 0
 HasFailed rows = has_failed (reader_of rows) ≡ true
 
 -- a row that asks for a step is counted
-abbrev pub IsCounted : TraceRows → Next → TraceRows → Type 0
-IsCounted old (next.Row step) new = next_number new ≡ next_number old + 1
-IsCounted old next.NoStep new = Unit {0}
-IsCounted old next.End new = Unit {0}
+abbrev pub IsRowCounted : TraceRows → Next → TraceRows → Type 0
+IsRowCounted old (next.Row step) new = next_number new ≡ next_number old + 1
+IsRowCounted old next.NoStep new = Unit {0}
+IsRowCounted old next.End new = Unit {0}

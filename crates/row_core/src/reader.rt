@@ -155,7 +155,7 @@ impl<'a> TraceRows<'a> {
 
         // Memory comes only where `csv`'s reader has failed.
         ensures memory { IfErr result (λ fault. fault.what ≡ TraceFaultKind.Memory → Traces.HasFailed self.new) }
-        ensures number { IfOk result (λ next. Traces.IsCounted self.old next self.new) }
+        ensures number { IfOk result (λ next. Traces.IsRowCounted self.old next self.new) }
     {
         match next_record(&mut self.records, &mut self.row) {
             Ok(true) => {}

@@ -5,7 +5,7 @@ ghost use Rattle.std.specs.Char.{digit_value};
 ghost use Rattle.std.specs.Option.{SomeIff, option_or};
 ghost use Rattle.packet_core.specs.Packets.{IsLengthInRange};
 ghost use Rattle.csv.specs.Records.{fields_of};
-ghost use Rattle.row_core.specs.Rows.{address_of, cut_of, destination_of, ecn_of, field_of, fields_of_kind, four_octets_of, kind_of, length_of, number_below, octet_and_rest_of, octet_of, packet_of, row_of, sixteen_octets_of, starts_with_zero, tells_version, version_of};
+ghost use Rattle.row_core.specs.Rows.{address_of, cut_of, destination_of, ecn_of, field_of, fields_of_kind, four_octets_of, kind_of, packet_length_of, number_below, octet_and_rest_of, octet_of, packet_of, step_of_row, sixteen_octets_of, starts_with_zero, tells_version, version_of};
 
 use crate::faults::TraceFaultKind;
 use crate::numbers::read_number;
@@ -76,9 +76,9 @@ pub(crate) fn read_version(row: &ByteRecord) -> Result<Version, TraceFaultKind>
 
 /// The step that a row of a trace of that version asks for. It refuses a first field that names no kind, then another
 /// number of fields than the kind has, then the first faulty field from the left.
-#[tactic(auto, unfolding(crate::specs::Rows::row_of))]
+#[tactic(auto, unfolding(crate::specs::Rows::step_of_row))]
 pub(crate) fn read_row(row: &ByteRecord, version: Version) -> Result<Step, TraceFaultKind>
-    ensures value { result ≡ row_of version (fields_of row.now) }
+    ensures value { result ≡ step_of_row version (fields_of row.now) }
     ensures fault { IfErr result (λ fault. fault ≢ TraceFaultKind.Read) }
     ensures memory { IfErr result (λ fault. fault ≢ TraceFaultKind.Memory) }
 {
@@ -186,9 +186,9 @@ fn read_u16(text: &[u8]) -> Result<u16, TraceFaultKind>
 }
 
 /// A length in bytes. It is refused where it isn't digits, and then where the value is outside 1 to 65,535.
-#[tactic(auto, unfolding(crate::specs::Rows::length_of))]
+#[tactic(auto, unfolding(crate::specs::Rows::packet_length_of))]
 fn read_length(text: &[u8]) -> Result<u32, TraceFaultKind>
-    ensures value { result ≡ length_of text.now }
+    ensures value { result ≡ packet_length_of text.now }
     ensures range { IfOk result (λ len. IsLengthInRange len) }
     ensures fault { IfErr result (λ fault. fault ≢ TraceFaultKind.Read) }
     ensures memory { IfErr result (λ fault. fault ≢ TraceFaultKind.Memory) }

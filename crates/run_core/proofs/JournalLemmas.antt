@@ -16,7 +16,7 @@ use Rattle.port_core.specs.declared.gate.Stop.TheVariants as stop
 use Rattle.trace_core.specs.declared.journal_report.SenderRow.{SenderRow}
 use Rattle.sender_core.proofs.SenderLemmas.{member}
 use Rattle.sender_core.specs.Senders.{AreCalls, IsDone, calls_of}
-use Rattle.run_core.specs.Journals.{IsSenderRow, row_of}
+use Rattle.run_core.specs.Journals.{IsSenderRow, sender_row_of}
 
 -- a list with some members left out is no longer
 subsequence_length : {X : Type 0} {some all : List X} → IsSubsequence some all → length some ≤ length all
@@ -59,7 +59,7 @@ new_seats_at (suc n) i s less = go (i == n) refl (new_seats_at n i s)
 -- the row of one sender
 pub row_of_done : (sender calls : ℕ) (why : Stop) (old new : Seat) (list : List (ℕ × PacketParts)) (events : List Event)
     → old ≡ new_seat sender → IsDone old list calls why new → why ≡ stop.Done → of_lane new.lane events ≡ new.told
-    → IsSenderRow sender list events (row_of calls new)
+    → IsSenderRow sender list events (sender_row_of calls new)
 row_of_done sender calls why old new list events fresh done whole told =
     let packets : List PacketParts = map (λ p. p.1) list in
     let news = done.told.news in
@@ -89,7 +89,7 @@ pub rows_of_done : {D : Type 0} (p : ParamFields) (seed : Seed) (n : ℕ) (steps
     (calls (slice_index_or done i d)) (why (slice_index_or done i d)) (seat (slice_index_or done i d)))
     → All (λ d. why d ≡ stop.Done) done → All (λ s. of_lane s.lane events ≡ s.told) (map seat done ++ rest)
     → (i : ℕ) (r : SenderRow) → i < n
-    → IsSenderRow i (calls_of p seed n i steps) events (slice_index_or (map (λ d. row_of (calls d) (seat d)) done) i r)
+    → IsSenderRow i (calls_of p seed n i steps) events (slice_index_or (map (λ d. sender_row_of (calls d) (seat d)) done) i r)
 rows_of_done {D} p seed n steps lists calls why seat done rest events are number each whole told i r less =
     let within : i < length done = omega (arith, less, number) in
     let listed : i < length lists = omega (arith, less, are.number) in
@@ -104,16 +104,16 @@ rows_of_done {D} p seed n steps lists calls why seat done rest events are number
     subst (λ (x : Seat). of_lane x.lane events ≡ x.told) stands (told i s (omega (arith, within, length-append (map seat done) rest, length-map done seat))) in
     let made = row_of_done i (calls it) (why it) (slice_index_or (new_seats n) i s) s (slice_index_or lists i l).items events
     (new_seats_at n i s less) (each i d s l less) (whole i d within) told_it in
-    let row_is : slice_index_or (map (λ d. row_of (calls d) (seat d)) done) i r ≡ row_of (calls it) s = get_or-map (λ d. row_of (calls d) (seat d)) done i d r within in
+    let row_is : slice_index_or (map (λ d. sender_row_of (calls d) (seat d)) done) i r ≡ sender_row_of (calls it) s = get_or-map (λ d. sender_row_of (calls d) (seat d)) done i d r within in
     rw (row_is, ← list_is) made
 
 -- the acceptances of all rows
 pub accepted_of_rows : {D : Type 0} (calls : D → ℕ) (seat : D → Seat) (done : List D) (device : Seat) → device.told ≡ []
-    → sum_by (λ s. length s.told) (map seat done ++ device ∷ []) ≡ sum_by (λ r. r.accepted) (map (λ d. row_of (calls d) (seat d)) done)
+    → sum_by (λ s. length s.told) (map seat done ++ device ∷ []) ≡ sum_by (λ r. r.accepted) (map (λ d. sender_row_of (calls d) (seat d)) done)
 accepted_of_rows calls seat [] device none = let zero_told : length device.told ≡ 0 = ap length none in omega (arith, zero_told)
 accepted_of_rows calls seat (d ∷ done) device none =
     let told = sum_by-cons (λ (s : Seat). length s.told) (seat d) (map seat done ++ device ∷ []) in
-    let rows = sum_by-cons (λ (r : SenderRow). r.accepted) (row_of (calls d) (seat d)) (map (λ e. row_of (calls e) (seat e)) done) in
+    let rows = sum_by-cons (λ (r : SenderRow). r.accepted) (sender_row_of (calls d) (seat d)) (map (λ e. sender_row_of (calls e) (seat e)) done) in
     told ∙ ap (λ k. length (seat d).told + k) (accepted_of_rows calls seat done device none) ∙ sym rows
 
 -- what is left of a loop over a list, one member later

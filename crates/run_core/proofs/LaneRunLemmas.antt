@@ -17,7 +17,7 @@ use Rattle.fair_core.specs.FqCodel.{fq_codel}
 use Rattle.sched_core.specs.Engines.{Running}
 use Rattle.sched_core.specs.Schedulers.{IsAdvanced, IsServed, discipline_of}
 use Rattle.port_core.proofs.LaneLemmas.{stays_closed, stays_served}
-use Rattle.port_core.specs.Devices.{Holding, KeepsLanes, Pumps, TakesAllLeft, fed_of, rings_of}
+use Rattle.port_core.specs.Devices.{DeviceState, KeepsLanes, Pumps, TakesAllLeft, fed_of, rings_of}
 use Rattle.port_core.specs.Lanes.{LaneView, RingId, Sending, accepted, finished_after}
 use Rattle.port_core.specs.declared.gate.Stop.{Stop}
 use Rattle.port_core.specs.declared.gate.Stop.TheVariants as stop
@@ -41,7 +41,7 @@ on_ok_so (Ok x) A B so a = so a
 on_ok_so (Err e) A B so a = tt
 
 -- a device with the same rings has as many lanes
-pub same_by : (old new : Holding) → rings_of new.lanes ≡ rings_of old.lanes → new.engine.sched.params ≡ old.engine.sched.params → new.engine.sched.seed ≡ old.engine.sched.seed → IsSameDevice old new
+pub same_by : (old new : DeviceState) → rings_of new.lanes ≡ rings_of old.lanes → new.engine.sched.params ≡ old.engine.sched.params → new.engine.sched.seed ≡ old.engine.sched.seed → IsSameDevice old new
 same_by old new rings params seed = record {
   rings = rings;
   number = sym (length-map new.lanes (λ (l : LaneView). l.ring)) ∙ ap length rings ∙ length-map old.lanes (λ (l : LaneView). l.ring);
@@ -49,51 +49,51 @@ same_by old new rings params seed = record {
   seed = seed;
 }
 
-pub same_still : (h : Holding) → IsSameDevice h h
+pub same_still : (h : DeviceState) → IsSameDevice h h
 same_still h = record { rings = refl; number = refl; params = refl; seed = refl }
 
-pub same_more : (old mid new : Holding) → IsSameDevice old mid → IsSameDevice mid new → IsSameDevice old new
+pub same_more : (old mid new : DeviceState) → IsSameDevice old mid → IsSameDevice mid new → IsSameDevice old new
 same_more old mid new a b = record { rings = b.rings ∙ a.rings; number = b.number ∙ a.number; params = b.params ∙ a.params; seed = b.seed ∙ a.seed }
 
-pub same_unchanged : (old new : Holding) → new ≡ old → IsSameDevice old new
+pub same_unchanged : (old new : DeviceState) → new ≡ old → IsSameDevice old new
 same_unchanged old new same = subst (IsSameDevice old) (sym same) (same_still old)
 
-pub pumped_same : (old new : Holding) (lane now : ℕ) (r : Result ℕ Refusal) → IfOk r (λ k. Pumps (fed_of old) lane now k (fed_of new)) → rings_of new.lanes ≡ rings_of old.lanes → OnErr r (new ≡ old) → IsSameDevice old new
+pub pumped_same : (old new : DeviceState) (lane now : ℕ) (r : Result ℕ Refusal) → IfOk r (λ k. Pumps (fed_of old) lane now k (fed_of new)) → rings_of new.lanes ≡ rings_of old.lanes → OnErr r (new ≡ old) → IsSameDevice old new
 pumped_same old new lane now (Ok k) pumps rings same = same_by old new rings pumps.params pumps.seed
 pumped_same old new lane now (Err why) pumps rings same = same_unchanged old new same
 
-pub served_same : (old new : Holding) (now : ℕ) (r : Result (Option Sent) Refusal) → IfOk r (λ sent. IsServed old.engine.sched now sent new.engine.sched) → new.lanes ≡ old.lanes → OnErr r (new ≡ old) → IsSameDevice old new
+pub served_same : (old new : DeviceState) (now : ℕ) (r : Result (Option Sent) Refusal) → IfOk r (λ sent. IsServed old.engine.sched now sent new.engine.sched) → new.lanes ≡ old.lanes → OnErr r (new ≡ old) → IsSameDevice old new
 served_same old new now (Ok sent) made lanes same = same_by old new (ap rings_of lanes) made.params made.seed
 served_same old new now (Err why) made lanes same = same_unchanged old new same
 
-pub closed_same : (old new : Holding) (now : ℕ) (r : Result Unit Refusal) → OnOk r (IsAdvanced old.engine.sched (Close now) answer.Closed new.engine.sched) → new.lanes ≡ old.lanes → OnErr r (new ≡ old) → IsSameDevice old new
+pub closed_same : (old new : DeviceState) (now : ℕ) (r : Result Unit Refusal) → OnOk r (IsAdvanced old.engine.sched (Close now) answer.Closed new.engine.sched) → new.lanes ≡ old.lanes → OnErr r (new ≡ old) → IsSameDevice old new
 closed_same old new now (Ok _) made lanes same = same_by old new (ap rings_of lanes) made.params made.seed
 closed_same old new now (Err why) made lanes same = same_unchanged old new same
 
-pub published_same : (old new : Holding) → (new.engine ≡ old.engine) × (new.lanes ≡ old.lanes) → IsSameDevice old new
+pub published_same : (old new : DeviceState) → (new.engine ≡ old.engine) × (new.lanes ≡ old.lanes) → IsSameDevice old new
 published_same old new stays = same_by old new (ap rings_of stays.1) (ap (λ (e : Running). e.sched.params) stays.0) (ap (λ (e : Running). e.sched.seed) stays.0)
 
-pub served_accepts : (old new : Holding) (now : ℕ) (r : Result (Option Sent) Refusal) → IfOk r (λ sent. IsServed old.engine.sched now sent new.engine.sched) → OnErr r (new ≡ old)
+pub served_accepts : (old new : DeviceState) (now : ℕ) (r : Result (Option Sent) Refusal) → IfOk r (λ sent. IsServed old.engine.sched now sent new.engine.sched) → OnErr r (new ≡ old)
     → (lane : ℕ) → accepted lane new.engine.sched.standing.events ≡ accepted lane old.engine.sched.standing.events
 served_accepts old new now (Ok sent) made same lane = stays_served (discipline_of old.engine.sched) old.engine.sched.standing new.engine.sched.standing now sent made.gives lane
-served_accepts old new now (Err why) made same lane = ap (λ (h : Holding). accepted lane h.engine.sched.standing.events) same
+served_accepts old new now (Err why) made same lane = ap (λ (h : DeviceState). accepted lane h.engine.sched.standing.events) same
 
-pub closed_accepts : (old new : Holding) (now : ℕ) (r : Result Unit Refusal) → OnOk r (IsAdvanced old.engine.sched (Close now) answer.Closed new.engine.sched) → OnErr r (new ≡ old)
+pub closed_accepts : (old new : DeviceState) (now : ℕ) (r : Result Unit Refusal) → OnOk r (IsAdvanced old.engine.sched (Close now) answer.Closed new.engine.sched) → OnErr r (new ≡ old)
     → (lane : ℕ) → accepted lane new.engine.sched.standing.events ≡ accepted lane old.engine.sched.standing.events
 closed_accepts old new now (Ok _) made same lane = stays_closed (discipline_of old.engine.sched) old.engine.sched.standing new.engine.sched.standing now made.advances lane
-closed_accepts old new now (Err why) made same lane = ap (λ (h : Holding). accepted lane h.engine.sched.standing.events) same
+closed_accepts old new now (Err why) made same lane = ap (λ (h : DeviceState). accepted lane h.engine.sched.standing.events) same
 
 pub ruleset device_goes_on = (same_still, same_more, pumped_same, served_same, closed_same, published_same, served_accepts, closed_accepts)
 
 -- So many packets were sent by dequeues at that moment since the device was another.
-pub record Emptied (old : Holding) (now n : ℕ) (new : Holding) : Type 0 where
+pub record Emptied (old : DeviceState) (now n : ℕ) (new : DeviceState) : Type 0 where
   pub same : IsSameDevice old new
   pub accepts : (lane : ℕ) → accepted lane new.engine.sched.standing.events ≡ accepted lane old.engine.sched.standing.events
   pub steps : Dequeues now old.engine.steps new.engine.steps
   pub all : (statistics new.engine.sched.standing.events).accepted ≡ (statistics old.engine.sched.standing.events).accepted
   pub sent : (statistics new.engine.sched.standing.events).sent ≡ (statistics old.engine.sched.standing.events).sent + n
 
-pub emptied_none : (h : Holding) (now : ℕ) → Emptied h now 0 h
+pub emptied_none : (h : DeviceState) (now : ℕ) → Emptied h now 0 h
 emptied_none h now = record {
   same = same_still h;
   accepts = λ lane. refl;
@@ -103,7 +103,7 @@ emptied_none h now = record {
 }
 
 -- a dequeue more
-pub emptied_more : (old mid new : Holding) (now n : ℕ) (sent : Option Sent) → Emptied old now n mid → IsServed mid.engine.sched now sent new.engine.sched
+pub emptied_more : (old mid new : DeviceState) (now n : ℕ) (sent : Option Sent) → Emptied old now n mid → IsServed mid.engine.sched now sent new.engine.sched
     → new.engine.steps ≡ mid.engine.steps ++ Dequeue now ∷ [] → new.lanes ≡ mid.lanes → Emptied old now (n + given_count sent) new
 emptied_more old mid new now n sent e made steps lanes =
     let adds = adds_sent (discipline_of mid.engine.sched) mid.engine.sched.standing new.engine.sched.standing now sent made.gives in
@@ -125,7 +125,7 @@ none_given None none = refl
 none_given (Some s) none = absurd (omega (arith, none))
 
 -- a dequeue that sends none
-pub idle_by : (old new : Holding) (now : ℕ) (sent : Option Sent) → IsServed old.engine.sched now sent new.engine.sched → sent ≡ None → IsIdle now new.engine
+pub idle_by : (old new : DeviceState) (now : ℕ) (sent : Option Sent) → IsServed old.engine.sched now sent new.engine.sched → sent ≡ None → IsIdle now new.engine
 idle_by old new now sent made none = record {
   before = old.engine.sched.standing;
   gives =
@@ -135,7 +135,7 @@ idle_by old new now sent made none = record {
 }
 
 -- A settled lane, of which so many packets are left, since the device was another.
-pub record Emptying (old : Holding) (lane now left : ℕ) (new : Holding) : Type 0 where
+pub record Emptying (old : DeviceState) (lane now left : ℕ) (new : DeviceState) : Type 0 where
   pub packets : List PacketParts
   pub steps : new.engine.steps ≡ old.engine.steps ++ map (Enqueue now lane) packets
   pub same : IsSameDevice old new
@@ -145,7 +145,7 @@ pub record Emptying (old : Holding) (lane now left : ℕ) (new : Holding) : Type
       ≡ accepted lane old.engine.sched.standing.events ++ (slice_index_or old.lanes lane d).known
   pub others : (i : ℕ) → i ≢ lane → accepted i new.engine.sched.standing.events ≡ accepted i old.engine.sched.standing.events
 
-pub emptying_none : (h : Holding) (lane now left : ℕ) → ((d : LaneView) → (slice_index_or h.lanes lane d).settled ≡ true) → ((d : LaneView) → left ≡ length (slice_index_or h.lanes lane d).known) → Emptying h lane now left h
+pub emptying_none : (h : DeviceState) (lane now left : ℕ) → ((d : LaneView) → (slice_index_or h.lanes lane d).settled ≡ true) → ((d : LaneView) → left ≡ length (slice_index_or h.lanes lane d).known) → Emptying h lane now left h
 emptying_none h lane now left settled many = record { packets = []; steps = sym (append-nil h.engine.steps); same = same_still h; settled = settled; many = many; taken = λ d. refl; others = λ i apart. refl }
 
 some_lane : (ls : List LaneView) (i : ℕ) → i < length ls → LaneView
@@ -153,7 +153,7 @@ some_lane [] i less = absurd (omega (arith, less))
 some_lane (l ∷ ls) i less = l
 
 -- a pump takes from it, and leaves fewer
-pub emptying_more : (old mid new : Holding) (lane now left k : ℕ) → lane < length mid.lanes → Emptying old lane now left mid → Pumps (fed_of mid) lane now k (fed_of new) → TakesAllLeft mid.lanes lane 64 k → rings_of new.lanes ≡ rings_of mid.lanes
+pub emptying_more : (old mid new : DeviceState) (lane now left k : ℕ) → lane < length mid.lanes → Emptying old lane now left mid → Pumps (fed_of mid) lane now k (fed_of new) → TakesAllLeft mid.lanes lane 64 k → rings_of new.lanes ≡ rings_of mid.lanes
     → (k ≤ left) × (0 < left → 0 < k) × Emptying old lane now (left - k) new
 emptying_more old mid new lane now left k there e p all rings = (
   within,
@@ -199,7 +199,7 @@ drop_ended (x ∷ xs) zero none = omega (arith, none)
 drop_ended (x ∷ xs) (suc n) none = let below = drop_ended xs n none in omega (arith, below)
 
 -- of what was submitted to a lane so many packets were accepted, and the others are left
-pub lane_counts : (h : Holding) (lane left submitted : ℕ) (packets : List PacketParts) → lane < length h.lanes
+pub lane_counts : (h : DeviceState) (lane left submitted : ℕ) (packets : List PacketParts) → lane < length h.lanes
     → ((d : LaneView) → packets ≡ accepted lane h.engine.sched.standing.events ++ (slice_index_or h.lanes lane d).known)
     → ((d : LaneView) → left ≡ length (slice_index_or h.lanes lane d).known) → submitted ≡ length packets
     → submitted ≡ length (accepted lane h.engine.sched.standing.events) + left
@@ -209,7 +209,7 @@ lane_counts h lane left submitted packets there whole known many =
     many ∙ ap length (whole d) ∙ length-append taken (slice_index_or h.lanes lane d).known ∙ ap (λ n. length taken + n) (sym (known d))
 
 -- the row of a lane
-pub lane_row : (h : Holding) (lane left submitted : ℕ) (packets : List PacketParts) → lane < length h.lanes
+pub lane_row : (h : DeviceState) (lane left submitted : ℕ) (packets : List PacketParts) → lane < length h.lanes
     → ((d : LaneView) → packets ≡ accepted lane h.engine.sched.standing.events ++ (slice_index_or h.lanes lane d).known)
     → ((d : LaneView) → left ≡ length (slice_index_or h.lanes lane d).known) → submitted ≡ length packets
     → IsLaneRow lane packets h.engine.sched.standing.events (record { sender = lane; submitted = submitted; accepted = submitted - left; left = left })
@@ -284,7 +284,7 @@ came_to_end sender packets submitted why end room held did = three did.stops
     three s = ⊎_elim (λ is. is) (λ t. ⊎_elim (λ is. absurd (held is)) (λ is. absurd (did.fits room is)) t) s
 
 -- what each sender did, by the lanes that were opened
-pub sent_each : (senders : List Sending) (old new : Holding) (lists : List (Vec PacketParts Global)) (done : List LaneDone) → AreLanesFor senders old.lanes lists → IsSameDevice old new
+pub sent_each : (senders : List Sending) (old new : DeviceState) (lists : List (Vec PacketParts Global)) (done : List LaneDone) → AreLanesFor senders old.lanes lists → IsSameDevice old new
     → ((i : ℕ) (d : LaneDone) → i < length senders → IsHeldUp (λ _. ⊥) (slice_index_or done i d).submitted (slice_index_or done i d).stop)
     → ((i : ℕ) (d : LaneDone) (s : Sending) (l : Vec PacketParts Global) → i < length senders
     → IsLaneDone (slice_index_or senders i s) (slice_index_or lists i l).items (slice_index_or done i d).submitted (slice_index_or done i d).stop (slice_index_or done i d).end)
@@ -320,7 +320,7 @@ lists_number p seed n steps calls lists are listed =
     sym (length-map lists (λ (v : Vec PacketParts Global). v.items)) ∙ ap length listed ∙ length-map calls (λ (v : Vec (ℕ × PacketParts) Global). map (λ call. call.1) v.items) ∙ are.number
 
 -- the rows of the lanes, by what their senders did
-pub lane_rows : (lists : List (Vec PacketParts Global)) (rings : List RingId) (done : List LaneDone) (rows : List SenderRow) (device : Holding)
+pub lane_rows : (lists : List (Vec PacketParts Global)) (rings : List RingId) (done : List LaneDone) (rows : List SenderRow) (device : DeviceState)
     → ((i : ℕ) (d : LaneDone) (l : Vec PacketParts Global) → i < length lists → IsSent rings i (slice_index_or lists i l).items (slice_index_or done i d))
     → length done ≡ length lists → length rows ≡ length done → All (λ d. (d.stop ≡ stop.Done) × (d.end ≢ None)) done
     → ((i : ℕ) (r : SenderRow) (d : LaneDone) → i < length done → IsLaneRow i (submitted_of (slice_index_or done i d).end) device.engine.sched.standing.events (slice_index_or rows i r))

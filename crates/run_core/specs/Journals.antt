@@ -13,7 +13,7 @@ use Rattle.journal_core.specs.declared.step.Step.TheVariants.{Dequeue}
 use Rattle.fair_core.specs.FairQueues.{FairQueues}
 use Rattle.fair_core.specs.FqCodel.{fq_codel}
 use Rattle.sched_core.specs.Engines.{Running}
-use Rattle.port_core.specs.Devices.{Holding, rings_of}
+use Rattle.port_core.specs.Devices.{DeviceState, rings_of}
 use Rattle.port_core.specs.Lanes.{RingId, Sending, accepted}
 use Rattle.port_core.specs.Ports.{Seat, of_lane}
 use Rattle.port_core.specs.Senders.{IsSubsequence, packets_told}
@@ -25,8 +25,8 @@ use Rattle.trace_core.specs.declared.journal_report.SenderRow.{SenderRow}
 use Rattle.run_core.specs.DeviceRuns.{IsDeviceRun, IsIdle, has_close}
 
 -- the row of a sender that made so many calls
-abbrev pub row_of : ℕ → Seat → SenderRow
-row_of calls seat = record {
+abbrev pub sender_row_of : ℕ → Seat → SenderRow
+sender_row_of calls seat = record {
   sender = seat.lane;
   submitted = calls;
   accepted = length seat.told;
@@ -79,16 +79,16 @@ pub record IsSent (rings : List RingId) (lane : ℕ) (packets : List PacketParts
   pub whole : IfSome done.end (λ e. e.submitted ≡ packets)
 
 -- Monitors are shown the whole journal.
-abbrev pub ShowsAll : Holding → Type 0
+abbrev pub ShowsAll : DeviceState → Type 0
 ShowsAll h = h.published.shown ≡ h.engine.sched.standing.events
 
 -- Where the last of so many first rows is a dequeue, monitors are shown the whole journal.
-abbrev pub ShowsRow : List Step → ℕ → Holding → Type 0
+abbrev pub ShowsRow : List Step → ℕ → DeviceState → Type 0
 ShowsRow rows many h =
     (row moment : ℕ) → row + 1 ≡ many → slice_get rows row ≡ Some (Dequeue moment) → ShowsAll h
 
 -- The device is the one that it was: the rings of its lanes stay, and what its engine was made with.
-pub record IsSameDevice (old new : Holding) : Type 0 where
+pub record IsSameDevice (old new : DeviceState) : Type 0 where
   pub rings : rings_of new.lanes ≡ rings_of old.lanes
   pub number : length new.lanes ≡ length old.lanes
   pub params : new.engine.sched.params ≡ old.engine.sched.params
@@ -113,7 +113,7 @@ pub record AreLaneRows (lists : List (Vec PacketParts Global)) (events : List Ev
 
 -- The engine is that of a device at its end, which made a run of these steps and to whose lanes these packets were
 -- submitted, and the rows are theirs.
-pub record IsLanesRunOf (device : Holding) (steps : List Step) (lists : List (Vec PacketParts Global)) (engine : Running)
+pub record IsLanesRunOf (device : DeviceState) (steps : List Step) (lists : List (Vec PacketParts Global)) (engine : Running)
     (told : List SenderRow) : Type 0 where
   pub params : engine.sched.params ≡ device.engine.sched.params
   pub seed : engine.sched.seed ≡ device.engine.sched.seed

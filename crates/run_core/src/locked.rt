@@ -7,7 +7,7 @@ ghost use Rattle.sender_core.specs.Senders.{AreCalls};
 ghost use Rattle.sender_core.specs.declared.interleaving.TheConstants.{MAX_SENDERS};
 ghost use Rattle.port_core.specs.declared.gate.Stop.TheVariants as stop;
 ghost use Rattle.run_core.specs.DeviceRuns.{has_close};
-ghost use Rattle.run_core.specs.Journals.{AreLockedJournal, row_of};
+ghost use Rattle.run_core.specs.Journals.{AreLockedJournal, sender_row_of};
 ghost use Rattle.run_core.specs.SendersFaults.{IsLockedRunFault};
 ghost use Rattle.run_core.specs.declared.senders_fault.SendersFault.TheVariants as senders_fault;
 
@@ -228,7 +228,7 @@ fn rows_of<A: Ledger, S: Ledger>(
     alloc: Global,
     done: Vec<LockedDone<A, S>>,
 ) -> Result<(Vec<SenderRow>, Vec<PortSeat<A, S>>), SendersFault>
-    ensures rows { IfOk result (λ r. r.0.items ≡ map (λ d. row_of d.calls d.seat) done.items) }
+    ensures rows { IfOk result (λ r. r.0.items ≡ map (λ d. sender_row_of d.calls d.seat) done.items) }
     ensures seats { IfOk result (λ r. r.1.items ≡ map (λ d. d.seat) done.items) }
     ensures done { OnOk result (All (λ d. d.stop ≡ stop.Done) done.items) }
     ensures fault { IfErr result (λ fault. fault ≡ senders_fault.Memory) }
@@ -241,15 +241,15 @@ fn rows_of<A: Ledger, S: Ledger>(
         if stop != Stop::Done {
             return Err(SendersFault::Memory);
         }
-        rows.push(row_of(calls, &seat))?;
+        rows.push(sender_row_of(calls, &seat))?;
         seats.push(seat)?;
     }
     Ok((rows, seats))
 }
 
 /// The row of a sender that made so many calls.
-fn row_of<A: Ledger, S: Ledger>(calls: u64, seat: &PortSeat<A, S>) -> SenderRow
-    ensures { result ≡ row_of calls seat.now }
+fn sender_row_of<A: Ledger, S: Ledger>(calls: u64, seat: &PortSeat<A, S>) -> SenderRow
+    ensures { result ≡ sender_row_of calls seat.now }
 {
     let accepted = seat.accepted();
     SenderRow {

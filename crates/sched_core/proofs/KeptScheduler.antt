@@ -36,7 +36,7 @@ use Rattle.journal_core.specs.History.{AreCounts, IsHistory}
 use Rattle.journal_core.specs.JournalLaws.{JournalLaws, WaitWithoutFate}
 use Rattle.journal_core.specs.Losses.{AreGivenBackOnce, departed_packets, lost_packets, with_field}
 use Rattle.sched_core.specs.declared.sched.Sched.TheInside.{Inside}
-use Rattle.sched_core.specs.Kept.{IsBookKept, IsKept, closes_left, scheduler_of}
+use Rattle.sched_core.specs.Kept.{IsBookKept, IsSchedulerKept, closes_left, scheduler_of}
 use Rattle.fair_core.specs.Overflow.{Overflow}
 use Rattle.sched_core.specs.EnqueueRooms.{TakesMemory}
 use Rattle.sched_core.specs.Schedulers.{ComparesFew, IsServed, Scheduler, discipline_of, flows_of}
@@ -465,28 +465,28 @@ module _ (p : ParamFields) (seed : Seed) where
   kept_counted held book last room comparisons closed h = h
 
 -- what a scheduler's invariant says of the scheduler as callers see it
-pub seen_laws : {K : Type 0} (s : Inside K) (v : Scheduler) → scheduler_of s ≡ v → IsKept s → JournalLaws (discipline_of v).flow_of v.standing.events
+pub seen_laws : {K : Type 0} (s : Inside K) (v : Scheduler) → scheduler_of s ≡ v → IsSchedulerKept s → JournalLaws (discipline_of v).flow_of v.standing.events
 seen_laws s v e h = rw (← e) (laws_of_history (fq_codel s.params s.seed).flow_of (queue_of s.fair_queue.queues) s.journal.events s.fair_queue.arrived s.last_moment s.is_closed h.book.history)
 
-pub seen_waits : {K : Type 0} (s : Inside K) (v : Scheduler) → scheduler_of s ≡ v → IsKept s → WaitWithoutFate (queue_of (flows_of v)) v.standing.events
+pub seen_waits : {K : Type 0} (s : Inside K) (v : Scheduler) → scheduler_of s ≡ v → IsSchedulerKept s → WaitWithoutFate (queue_of (flows_of v)) v.standing.events
 seen_waits s v e h = rw (← e) (waits_of_history (fq_codel s.params s.seed).flow_of (queue_of s.fair_queue.queues) s.journal.events s.fair_queue.arrived s.last_moment s.is_closed h.book.history)
 
-pub seen_queued : {K : Type 0} (s : Inside K) (v : Scheduler) → scheduler_of s ≡ v → IsKept s → (statistics v.standing.events).queued ≡ waiting_in (flows_of v).lists
+pub seen_queued : {K : Type 0} (s : Inside K) (v : Scheduler) → scheduler_of s ≡ v → IsSchedulerKept s → (statistics v.standing.events).queued ≡ waiting_in (flows_of v).lists
 seen_queued s v e h = rw (← e) (sym (waits_at s.params s.seed ((scheduler_of s).standing.state) s.journal.events h.book.some h.book.flows h.book.history))
 
-pub seen_number : {K : Type 0} (s : Inside K) (v : Scheduler) → scheduler_of s ≡ v → IsKept s
+pub seen_number : {K : Type 0} (s : Inside K) (v : Scheduler) → scheduler_of s ≡ v → IsSchedulerKept s
     → s.journal.counts.accepted + (s.journal.counts.sent + s.journal.counts.dropped_codel + s.journal.counts.dropped_overflow) + bool_byte s.is_closed ≡ length v.standing.events
 seen_number s v e h = rw (← e) (
     omega (arith, number_of_events s.journal.events h.book.history.closed_for_good, h.book.counts.accepted, h.book.counts.fates, ap (λ b. bool_byte b) h.book.history.close)
     )
 
-pub seen_departures : {K : Type 0} (s : Inside K) (v : Scheduler) → scheduler_of s ≡ v → IsKept s → s.journal.sent ≡ departed_packets v.standing.events
+pub seen_departures : {K : Type 0} (s : Inside K) (v : Scheduler) → scheduler_of s ≡ v → IsSchedulerKept s → s.journal.sent ≡ departed_packets v.standing.events
 seen_departures s v e h = rw (← e) h.book.sent
 
-pub seen_losses : {K : Type 0} (s : Inside K) (v : Scheduler) → scheduler_of s ≡ v → IsKept s → s.journal.lost ≡ lost_packets v.standing.events
+pub seen_losses : {K : Type 0} (s : Inside K) (v : Scheduler) → scheduler_of s ≡ v → IsSchedulerKept s → s.journal.lost ≡ lost_packets v.standing.events
 seen_losses s v e h = rw (← e) h.book.lost
 
-pub seen_once : {K : Type 0} (s : Inside K) (v : Scheduler) → scheduler_of s ≡ v → IsKept s → AreGivenBackOnce (flows_of v).lists.queues s.journal.lost v.standing.events
+pub seen_once : {K : Type 0} (s : Inside K) (v : Scheduler) → scheduler_of s ≡ v → IsSchedulerKept s → AreGivenBackOnce (flows_of v).lists.queues s.journal.lost v.standing.events
 seen_once s v e h =
     rw (← e, h.book.lost)
     (given_back_once (fq_codel s.params s.seed).flow_of s.fair_queue.queues.lists.queues s.journal.events (λ tuple. rw h.book.flows (flow_below s.params.classify s.params.flows s.seed tuple h.book.some)) (seen_laws s (scheduler_of s) refl h) (seen_waits s (scheduler_of s) refl h))

@@ -60,6 +60,6 @@ pub record IsBookKept (p : ParamFields) (seed : Seed) (s : State FairQueues) (pl
   pub credits : AreCreditsKept p.quantum (longest (acceptances book.events)) s.queues
 
 -- what holds of a scheduler's fields
-pub record IsKept {K : Type 0} (s : Inside K) : Type 0 where
+pub record IsSchedulerKept {K : Type 0} (s : Inside K) : Type 0 where
   pub book : IsBookKept s.params s.seed ((scheduler_of s).standing.state) s.fair_queue.room s.journal s.enqueue_room.enqueues
   pub classifier : s.classifier ≡ classifier_by s.params.classify s.params.flows s.seed

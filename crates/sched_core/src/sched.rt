@@ -71,11 +71,11 @@ impl<K: Recorder> Model for Sched<K> {
 
     ghost Value = { Scheduler };
 
-    ghost use Rattle.sched_core.specs.Kept.{scheduler_of, IsKept};
+    ghost use Rattle.sched_core.specs.Kept.{scheduler_of, IsSchedulerKept};
 
     ghost view = { scheduler_of };
 
-    ghost invariant = { IsKept };
+    ghost invariant = { IsSchedulerKept };
 }
 
 impl<K: Recorder> Sched<K> {

@@ -7,26 +7,26 @@ use Rattle.journal_core.specs.declared.event.Event.TheVariants.{Accepted, Sent, 
 use Rattle.journal_core.specs.Notes.{note_of}
 use Rattle.trace_core.specs.declared.report.Rows.{Rows}
 use Rattle.text_core.specs.Texts as texts
-use Rattle.trace_core.specs.Report.{Adds, event_line, note_line}
+use Rattle.trace_core.specs.Report.{AddsToReport, event_line, note_line}
 
 -- what is written to the rows within is written
-pub adds_within : (old new : Rows) (more : List ℕ) → texts.Adds old.rows new.rows more → Adds old new more
-unfolding Adds texts.Adds
+pub adds_within : (old new : Rows) (more : List ℕ) → texts.Adds old.rows new.rows more → AddsToReport old new more
+unfolding AddsToReport texts.Adds
 adds_within old new more adds = adds
 
 -- nothing is written yet
-pub adds_none : (rows : Rows) → Adds rows rows []
-unfolding Adds
+pub adds_none : (rows : Rows) → AddsToReport rows rows []
+unfolding AddsToReport
 adds_none rows text h = rw append-nil h
 
 -- what is written behind what was written
-pub adds_both : (old mid new : Rows) (first more : List ℕ) → Adds old mid first → Adds mid new more → Adds old new (first ++ more)
-unfolding Adds
+pub adds_both : (old mid new : Rows) (first more : List ℕ) → AddsToReport old mid first → AddsToReport mid new more → AddsToReport old new (first ++ more)
+unfolding AddsToReport
 adds_both old mid new first more a b = λ text h. rw (← append_assoc text first more) (b (text ++ first) (a text h))
 
 -- a row more of things that have a row each
 pub adds_line : {X : Type 0} (line : X → List ℕ) (xs : List X) (i : ℕ) (x d : X) (old mid new : Rows) → i < length xs → x ≡ get_or xs i d
-    → Adds old mid (flat_map line (take i xs)) → Adds mid new (line x) → Adds old new (flat_map line (take (i + 1) xs))
+    → AddsToReport old mid (flat_map line (take i xs)) → AddsToReport mid new (line x) → AddsToReport old new (flat_map line (take (i + 1) xs))
 adds_line line xs i x d old mid new within is a b =
     let more = take_more xs i d within in
     rw (more, ← is, ← flat_map_more line [] (take i xs) x) (adds_both old mid new _ _ a b)

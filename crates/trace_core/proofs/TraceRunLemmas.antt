@@ -27,7 +27,7 @@ use Rattle.journal_core.specs.Steps.{Admits, Makes, Steps, drop_event, sent_even
 use Rattle.journal_core.proofs.LossLemmas.{drops_accept_none}
 use Rattle.journal_core.proofs.RunLemmas.{journal_push, runs_push}
 use Rattle.trace_core.proofs.ReportLemmas.{adds_both, adds_none, noted_lines}
-use Rattle.trace_core.specs.Report.{Adds, RunsStep, RunsSteps, answer_lines, made_lines, note_line}
+use Rattle.trace_core.specs.Report.{AddsToReport, RunsStep, RunsSteps, answer_lines, made_lines, note_line}
 use Rattle.trace_core.specs.declared.report.Rows.{Rows}
 
 -- no step is made yet
@@ -49,7 +49,7 @@ own_notes old new made own joined = behind (map note_of old) (map note_of made) 
 -- and what they tell is what the step's events tell
 pub step_told : {E : Type 0} (r : Result (Unit {0}) E) (step : Step) (said : Answer) (old new : Scheduler) (before after : Rows) (own : List Note)
     → (takes : Takes (discipline_of old) old.standing step said new.standing) → new.params ≡ old.params → new.seed ≡ old.seed → own ≡ map note_of takes.made
-    → OnOk r (Adds before after (flat_map note_line own ++ answer_lines said)) → OnOk r (RunsStep step old new before after)
+    → OnOk r (AddsToReport before after (flat_map note_line own ++ answer_lines said)) → OnOk r (RunsStep step old new before after)
 step_told r step said old new before after own takes params seed same told =
     let lines = ap (flat_map note_line) same ∙ noted_lines takes.made in
     on_ok_weaker r (λ t. record { made = record { answer = said; events = takes.made }; steps = takes.steps; journal = takes.journal; params = params; seed = seed; told = rw lines at t }) told

@@ -136,12 +136,12 @@ pub record IsReportOf (p : ParamFields) (seed : Seed) (bytes text : List ℕ) : 
   pub told : text ≡ report_of made
 
 -- The rows that were written are this text, and the next row starts at its end.
-abbrev pub HasText : Rows → List ℕ → Type 0
-HasText rows text = texts.HasText rows.rows text
+abbrev pub HasReportText : Rows → List ℕ → Type 0
+HasReportText rows text = texts.HasText rows.rows text
 
 -- These bytes are written after the rows so far, whatever those are.
-unfoldable pub Adds : Rows → Rows → List ℕ → Type 0
-Adds old new more = (text : List ℕ) → HasText old text → HasText new (text ++ more)
+unfoldable pub AddsToReport : Rows → Rows → List ℕ → Type 0
+AddsToReport old new more = (text : List ℕ) → HasReportText old text → HasReportText new (text ++ more)
 
 -- A step is made, and the rows of what it gave are written.
 pub record RunsStep (step : Step) (old new : Scheduler) (before after : Rows) : Type 0 where
@@ -150,7 +150,7 @@ pub record RunsStep (step : Step) (old new : Scheduler) (before after : Rows) : 
   pub journal : new.standing.events ≡ old.standing.events ++ made.events
   pub params : new.params ≡ old.params
   pub seed : new.seed ≡ old.seed
-  pub told : Adds before after (made_lines made)
+  pub told : AddsToReport before after (made_lines made)
 
 -- These steps are made in turn, and the rows of what they gave are written.
 pub record RunsSteps (steps : List Step) (old new : Scheduler) (before after : Rows) : Type 0 where
@@ -159,7 +159,7 @@ pub record RunsSteps (steps : List Step) (old new : Scheduler) (before after : R
   pub journal : new.standing.events ≡ old.standing.events ++ journal_of made
   pub params : new.params ≡ old.params
   pub seed : new.seed ≡ old.seed
-  pub told : Adds before after (flat_map made_lines made)
+  pub told : AddsToReport before after (flat_map made_lines made)
 
 -- The same of the steps of a text.
 abbrev pub RunsText : List ℕ → Scheduler → Scheduler → Rows → Rows → Type 0

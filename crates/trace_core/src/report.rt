@@ -22,7 +22,7 @@ pub(crate) struct Rows {
 impl Rows {
     /// No rows yet.
     pub(crate) fn new(alloc: Global) -> Rows
-        ensures { Report.HasText result [] }
+        ensures { Report.HasReportText result [] }
     {
         Rows {
             rows: text_core::Rows::new(alloc),
@@ -33,7 +33,7 @@ impl Rows {
     /// row for each five-tuple, by the tally of all packets that were accepted. It fails for want of memory alone.
     pub(crate) fn finish(mut self, sched: &Sched<Noted>, tally: Tally) -> Result<Vec<u8>, Memory>
         requires { HasSeen tally (acceptances sched.now.standing.events) }
-        ensures { IfOk result (λ text. (written : List ℕ) → Report.HasText self written → text.items
+        ensures { IfOk result (λ text. (written : List ℕ) → Report.HasReportText self written → text.items
             ≡ (written ++ Report.line_of (Report.totals_row (statistics sched.now.standing.events)))
             ++ flat_map Report.tuple_line (tuple_rows sched.now.standing.events)) }
     {
@@ -44,7 +44,7 @@ impl Rows {
     /// The row of a scheduler's totals, and a row for each of its five-tuples.
     fn statistics(&mut self, sched: &Sched<Noted>, tally: Tally) -> Result<(), Memory>
         requires { HasSeen tally (acceptances sched.now.standing.events) }
-        ensures { OnOk result ((written : List ℕ) → Report.HasText self.old written → Report.HasText self.new
+        ensures { OnOk result ((written : List ℕ) → Report.HasReportText self.old written → Report.HasReportText self.new
             ((written ++ Report.line_of (Report.totals_row (statistics sched.now.standing.events)))
             ++ flat_map Report.tuple_line (tuple_rows sched.now.standing.events))) }
     {
@@ -60,7 +60,7 @@ impl Rows {
         engine: &Engine,
         senders: &[SenderRow],
     ) -> Result<Vec<u8>, Memory>
-        requires { Report.HasText self [] }
+        requires { Report.HasReportText self [] }
         ensures { IfOk result (λ text. text.items ≡ Report.journal_text engine.now.sched.standing.events senders.now) }
     {
         self.journal_rows(engine, senders)?;
@@ -69,8 +69,8 @@ impl Rows {
 
     /// The rows of an engine's journal, where there are none yet.
     fn journal_rows(&mut self, engine: &Engine, senders: &[SenderRow]) -> Result<(), Memory>
-        requires { Report.HasText self.old [] }
-        ensures { OnOk result (Report.HasText self.new
+        requires { Report.HasReportText self.old [] }
+        ensures { OnOk result (Report.HasReportText self.new
             (Report.journal_text engine.now.sched.standing.events senders.now)) }
     {
         self.events(engine.events())?;
@@ -82,7 +82,7 @@ impl Rows {
     /// The text of all rows.
     fn into_text(self) -> Result<Vec<u8>, Memory>
         ensures { IfOk result (λ text. (written : List ℕ)
-            → Report.HasText self written → text.items ≡ written) }
+            → Report.HasReportText self written → text.items ≡ written) }
     {
         let Rows { rows } = self;
         rows.into_text()
@@ -91,7 +91,7 @@ impl Rows {
     /// One row. A write to a `Vec` fails for want of memory alone.
     fn row(&mut self, fields: &[&[u8]]) -> Result<(), Memory>
         requires { Report.IsFilled (map (λ f. f.now) fields.now) }
-        ensures { OnOk result (Report.Adds self.old self.new (Report.line_of (map (λ f. f.now) fields.now))) }
+        ensures { OnOk result (Report.AddsToReport self.old self.new (Report.line_of (map (λ f. f.now) fields.now))) }
     {
         self.rows.row(fields)
     }
@@ -99,7 +99,7 @@ impl Rows {
     /// The rows of a step with this answer and notes of these events: one for each event, and one where the step made
     /// none.
     pub(crate) fn step(&mut self, answer: Answer, own_notes: &[Note]) -> Result<(), Memory>
-        ensures { OnOk result (Report.Adds self.old self.new
+        ensures { OnOk result (Report.AddsToReport self.old self.new
             (flat_map Report.note_line own_notes.now ++ Report.answer_lines answer)) }
     {
         self.notes(own_notes)?;
@@ -108,7 +108,7 @@ impl Rows {
 
     /// The rows of events, of each of which there is a note.
     fn notes(&mut self, notes: &[Note]) -> Result<(), Memory>
-        ensures { OnOk result (Report.Adds self.old self.new (flat_map Report.note_line notes.now)) }
+        ensures { OnOk result (Report.AddsToReport self.old self.new (flat_map Report.note_line notes.now)) }
     {
         for note in notes {
             self.note(*note)?;
@@ -118,7 +118,7 @@ impl Rows {
 
     /// The rows of events.
     fn events(&mut self, events: &[Event]) -> Result<(), Memory>
-        ensures { OnOk result (Report.Adds self.old self.new (flat_map Report.event_line events.now)) }
+        ensures { OnOk result (Report.AddsToReport self.old self.new (flat_map Report.event_line events.now)) }
     {
         for event in events {
             self.event(event)?;
@@ -129,7 +129,7 @@ impl Rows {
     /// The row of a step that made none, by its answer.
     #[tactic(auto, using(crate::proofs::ReportLemmas::adds_none))]
     fn answer(&mut self, answer: Answer) -> Result<(), Memory>
-        ensures { OnOk result (Report.Adds self.old self.new (Report.answer_lines answer)) }
+        ensures { OnOk result (Report.AddsToReport self.old self.new (Report.answer_lines answer)) }
     {
         match answer {
             Answer::Accepted | Answer::Sent | Answer::Closed => Ok(()),
@@ -141,14 +141,14 @@ impl Rows {
     /// The row of an event.
     #[tactic(auto, using(crate::proofs::ReportLemmas::noted_line))]
     fn event(&mut self, event: &Event) -> Result<(), Memory>
-        ensures { OnOk result (Report.Adds self.old self.new (Report.event_line event.now)) }
+        ensures { OnOk result (Report.AddsToReport self.old self.new (Report.event_line event.now)) }
     {
         self.note(Note::of(event))
     }
 
     /// The row of an event, by its note.
     fn note(&mut self, note: Note) -> Result<(), Memory>
-        ensures { OnOk result (Report.Adds self.old self.new (Report.note_line note)) }
+        ensures { OnOk result (Report.AddsToReport self.old self.new (Report.note_line note)) }
     {
         match note {
             Note::Accepted { flow, id } => {
@@ -171,7 +171,7 @@ impl Rows {
     /// refusals as closed and as backwards, and want of memory ends a run; the others have a row each so
     /// that every refusal has one.
     fn refusal(&mut self, refusal: Refusal) -> Result<(), Memory>
-        ensures { OnOk result (Report.Adds self.old self.new (Report.line_of (Report.refusal_row refusal))) }
+        ensures { OnOk result (Report.AddsToReport self.old self.new (Report.line_of (Report.refusal_row refusal))) }
     {
         match refusal {
             Refusal::Moment(fault) => self.moment_fault(fault),
@@ -183,7 +183,7 @@ impl Rows {
 
     /// The row of a step that is refused for its moment.
     fn moment_fault(&mut self, fault: MomentFault) -> Result<(), Memory>
-        ensures { OnOk result (Report.Adds self.old self.new (Report.line_of (Report.moment_row fault))) }
+        ensures { OnOk result (Report.AddsToReport self.old self.new (Report.line_of (Report.moment_row fault))) }
     {
         match fault {
             MomentFault::Backwards { last } => {
@@ -196,7 +196,7 @@ impl Rows {
 
     /// The row of the totals.
     fn totals(&mut self, totals: &Totals) -> Result<(), Memory>
-        ensures { OnOk result (Report.Adds self.old self.new (Report.line_of (Report.totals_row totals.now))) }
+        ensures { OnOk result (Report.AddsToReport self.old self.new (Report.line_of (Report.totals_row totals.now))) }
     {
         let accepted = Digits::of(totals.accepted);
         let accepted_bytes = Digits::of(totals.accepted_bytes);
@@ -228,7 +228,7 @@ impl Rows {
 
     /// The rows of five-tuples.
     fn tuples(&mut self, tuples: &[TupleRow]) -> Result<(), Memory>
-        ensures { OnOk result (Report.Adds self.old self.new (flat_map Report.tuple_line tuples.now)) }
+        ensures { OnOk result (Report.AddsToReport self.old self.new (flat_map Report.tuple_line tuples.now)) }
     {
         for row in tuples {
             self.tuple(row)?;
@@ -238,7 +238,7 @@ impl Rows {
 
     /// The row of a five-tuple.
     fn tuple(&mut self, row: &TupleRow) -> Result<(), Memory>
-        ensures { OnOk result (Report.Adds self.old self.new (Report.tuple_line row.now)) }
+        ensures { OnOk result (Report.AddsToReport self.old self.new (Report.tuple_line row.now)) }
     {
         let proto = Digits::of(u64::from(row.tuple.proto));
         let src = AddressText::of(row.tuple.src);
@@ -267,7 +267,7 @@ impl Rows {
 
     /// The rows of senders.
     fn senders(&mut self, senders: &[SenderRow]) -> Result<(), Memory>
-        ensures { OnOk result (Report.Adds self.old self.new (flat_map Report.sender_line senders.now)) }
+        ensures { OnOk result (Report.AddsToReport self.old self.new (flat_map Report.sender_line senders.now)) }
     {
         for sender in senders {
             self.sender(sender)?;
@@ -277,7 +277,7 @@ impl Rows {
 
     /// The row of a sender.
     fn sender(&mut self, row: &SenderRow) -> Result<(), Memory>
-        ensures { OnOk result (Report.Adds self.old self.new (Report.sender_line row.now)) }
+        ensures { OnOk result (Report.AddsToReport self.old self.new (Report.sender_line row.now)) }
     {
         let sender = Digits::of(u64::from(row.sender));
         let submitted = Digits::of(row.submitted);

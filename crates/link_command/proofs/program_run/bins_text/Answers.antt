@@ -1,7 +1,7 @@
 use Rattle.std.proofs.Common.{◌≡◌, ◌∙◌, Some, rules, true}
 use Rattle.std.proofs.KnownBytes.{Keeps-trans}
 use Rattle.link_report.specs.SeriesTables.{series_text}
-use Rattle.link_command.specs.RunsSaid.{parts_of}
+use Rattle.link_command.specs.RunsSaid.{run_parts_of}
 use Rattle.link_command.proofs.RunLemmas.{beside_fifo, bins_table, journal_of_engine}
 use Rattle.link_command.proofs.program_run.bins_text.Goals as goal
 
@@ -15,8 +15,8 @@ returns-clause-text g c =
     record {
       steps = c.in_ok-engine.engine.steps;
       events = c.in_ok-engine.engine.sched.standing.events;
-      journal = journal_of_engine (parts_of c.args.run.now) c.args.arrivals.now c.in_ok-engine.engine c.in_ok-engine.ensures;
-      table = bins_table _ _ (parts_of c.args.run.now) c.args.arrivals.now _ _ (Some c.in_ok-fifo.fifo.items) _ c.requires.table (beside_fifo _ (parts_of c.args.run.now) c.args.arrivals.now _ has c.in_ok-fifo.ensures) told;
+      journal = journal_of_engine (run_parts_of c.args.run.now) c.args.arrivals.now c.in_ok-engine.engine c.in_ok-engine.ensures;
+      table = bins_table _ _ (run_parts_of c.args.run.now) c.args.arrivals.now _ _ (Some c.in_ok-fifo.fifo.items) _ c.requires.table (beside_fifo _ (run_parts_of c.args.run.now) c.args.arrivals.now _ has c.in_ok-fifo.ensures) told;
     }
 
 pub returns-clause-quiet : goal.returns-clause-quiet

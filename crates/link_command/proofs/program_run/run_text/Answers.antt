@@ -1,7 +1,7 @@
 use Rattle.std.proofs.Common.{◌≡◌, Err, rules}
 use Rattle.std.proofs.lemmas.Result.{IfErr-weaker, IfOk-weaker}
 use Rattle.link_command.specs.CommandLine.{texts_of}
-use Rattle.link_command.specs.RunsSaid.{parts_of}
+use Rattle.link_command.specs.RunsSaid.{run_parts_of}
 use Rattle.link_command.proofs.RunLemmas.{input_fails, table_fails, words_fail}
 use Rattle.link_command.proofs.program_run.run_text.Goals as goal
 
@@ -13,14 +13,14 @@ returns-in_err-run-clause-fault g c =
 pub returns-in_err-arrivals-clause-fault : goal.returns-in_err-arrivals-clause-fault
 returns-in_err-arrivals-clause-fault g c =
     let err : c.from_residual-in_err-arrivals.result ≡ Err c.in_err-arrivals.field-0.0 = search rules in
-    rw err (input_fails (texts_of c.args.request.now) (g.R.Read.remaining c.args.reader.now) (parts_of c.in_ok-run.run') c.in_err-arrivals.field-0.0 c.in_ok-run.ensures.run c.in_err-arrivals.ensures.fault)
+    rw err (input_fails (texts_of c.args.request.now) (g.R.Read.remaining c.args.reader.now) (run_parts_of c.in_ok-run.run') c.in_err-arrivals.field-0.0 c.in_ok-run.ensures.run c.in_err-arrivals.ensures.fault)
 
 pub returns-clause-text : goal.returns-clause-text
 returns-clause-text g c =
     let made = rw c.deref.ensures.value at c.table_text.ensures.text in
     IfOk-weaker c.table_text.result _ _
     (λ text table. record {
-      run = parts_of c.in_ok-run.run';
+      run = run_parts_of c.in_ok-run.run';
       said = c.in_ok-run.ensures.run;
       arrivals = c.in_ok-arrivals.arrivals.items;
       are = c.in_ok-arrivals.ensures.arrivals;

@@ -2,7 +2,7 @@ use denote.Enum.Bare.{same_false, same_true}
 use Rattle.std.proofs.Common.{◌≡◌, ◌≢◌, rules, sym}
 use Rattle.std.proofs.KnownBytes.{Keeps-trans}
 use Rattle.std.proofs.lemmas.Result.{IfOk-weaker}
-use Rattle.link_command.specs.RunsSaid.{parts_of}
+use Rattle.link_command.specs.RunsSaid.{run_parts_of}
 use Rattle.link_command.specs.contracts.command_line.TableName.{the_type}
 use Rattle.link_command.specs.declared.command_line.TableName.TheVariants.{Steps}
 use Rattle.link_command.proofs.RunLemmas.{few_of_engine, journal_of_engine, journal_table, steps_table}
@@ -23,13 +23,13 @@ returns-clause-text g c =
     (λ text h. record {
       steps = c.in_ok-engine.engine.steps;
       events = c.in_ok-engine.engine.sched.standing.events;
-      journal = journal_of_engine (parts_of c.args.run.now) c.args.arrivals.now c.in_ok-engine.engine c.in_ok-engine.ensures;
+      journal = journal_of_engine (run_parts_of c.args.run.now) c.args.arrivals.now c.in_ok-engine.engine c.in_ok-engine.ensures;
       table = journal_table _ _ _ _ _ _ _ other h;
     }) made
 
 pub compared_text-requires-clause-events_few : goal.compared_text-requires-clause-events_few
 compared_text-requires-clause-events_few g c =
-    rw c.recorder.ensures.told (few_of_engine (parts_of c.args.run.now) c.args.arrivals.now c.in_ok-engine.engine c.few_events.ensures c.in_ok-engine.ensures c.requires.few)
+    rw c.recorder.ensures.told (few_of_engine (run_parts_of c.args.run.now) c.args.arrivals.now c.in_ok-engine.engine c.few_events.ensures c.in_ok-engine.ensures c.requires.few)
 
 pub returns-clause-quiet : goal.returns-clause-quiet
 returns-clause-quiet g c = λ none. Keeps-trans _ _ _ (c.note_stage.ensures none) (c.compared_text.ensures.quiet none)

@@ -1,6 +1,6 @@
 use Rattle.std.proofs.Common.{◌∙◌, ap}
 use Rattle.link_report.specs.StepTables.{steps_text}
-use Rattle.link_command.specs.RunsSaid.{parts_of}
+use Rattle.link_command.specs.RunsSaid.{run_parts_of}
 use Rattle.link_command.proofs.RunLemmas.{journal_of_engine}
 use Rattle.link_command.proofs.program_run.trace_text.Goals as goal
 
@@ -8,6 +8,6 @@ pub returns-clause-text : goal.returns-clause-text
 returns-clause-text g c = record {
   steps = c.in_ok-engine.engine.steps;
   events = c.in_ok-engine.engine.sched.standing.events;
-  journal = journal_of_engine (parts_of c.args.run.now) c.args.arrivals.now c.in_ok-engine.engine c.in_ok-engine.ensures;
+  journal = journal_of_engine (run_parts_of c.args.run.now) c.args.arrivals.now c.in_ok-engine.engine c.in_ok-engine.ensures;
   trace = c.in_ok-steps_text.ensures ∙ ap steps_text c.steps.ensures.value;
 }

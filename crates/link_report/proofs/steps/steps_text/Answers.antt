@@ -1,9 +1,9 @@
 use Rattle.std.proofs.Common.{[]}
 use Rattle.std.proofs.lemmas.Result.{IfOk-weaker}
-use Rattle.link_report.specs.Tables.{Adds}
+use Rattle.link_report.specs.Tables.{AddsToTable}
 use Rattle.link_report.proofs.steps.steps_text.Goals as goal
 
 pub returns : goal.returns
-unfolding Adds
+unfolding AddsToTable
 returns c =
     IfOk-weaker c.into_text.result _ _ (λ text told. told _ (c.in_ok-write_steps.ensures {u = tt} [] c.new-table.ensures)) c.into_text.ensures

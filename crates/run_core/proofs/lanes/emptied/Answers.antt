@@ -1,5 +1,5 @@
 use Rattle.std.proofs.Common.{◌∙◌, ◌-◌, ◌≤◌, ◌<◌, ap, arith, refl, sym}
-use Rattle.port_core.specs.Devices.{Holding}
+use Rattle.port_core.specs.Devices.{DeviceState}
 use Rattle.port_core.specs.Lanes.{accepted}
 use Rattle.run_core.proofs.DeviceRunLemmas.{empties_none, empties_open}
 use Rattle.run_core.proofs.LaneRunLemmas.{Emptying, emptying_more, emptying_none}
@@ -14,7 +14,7 @@ taken g c = emptying_more c.args.device.now c.loop-left.device c.pump.new.device
     (omega (arith, c.requires.lane, c.loop-left.invariant.same.number)) c.loop-left.invariant c.in_ok-left.ensures.pumped c.in_ok-left.ensures.left c.in_ok-left.ensures.rings
 
 pub returns-in_err-left-clause-others : goal.returns-in_err-left-clause-others
-returns-in_err-left-clause-others g c i apart = ap (λ (h : Holding). accepted i h.engine.sched.standing.events) c.in_err-left.ensures.unchanged ∙ c.loop-left.invariant.others i apart
+returns-in_err-left-clause-others g c i apart = ap (λ (h : DeviceState). accepted i h.engine.sched.standing.events) c.in_err-left.ensures.unchanged ∙ c.loop-left.invariant.others i apart
 
 pub overflow_sub-left : goal.overflow_sub-left
 overflow_sub-left g c = (taken g (goal.at.overflow_sub-left g c).In_ok-left).0

@@ -3,7 +3,7 @@ use Rattle.journal_core.proofs.StepTotals.{given_count}
 use Rattle.journal_core.specs.Statistics.{statistics}
 use Rattle.journal_core.specs.declared.totals.Totals.{Totals}
 use Rattle.sched_core.specs.Engines.{Running}
-use Rattle.port_core.specs.Devices.{Holding}
+use Rattle.port_core.specs.Devices.{DeviceState}
 use Rattle.port_core.specs.Lanes.{accepted}
 use Rattle.run_core.proofs.LaneRunLemmas.{Emptied, emptied_more, given_if, idle_by, none_given}
 use Rattle.run_core.proofs.lanes.empty.Goals as goal
@@ -24,7 +24,7 @@ last g c =
 
 pub returns-in_err-dequeue-clause-accepted : goal.returns-in_err-dequeue-clause-accepted
 returns-in_err-dequeue-clause-accepted g c lane =
-    ap (λ (h : Holding). accepted lane h.engine.sched.standing.events) c.in_err-dequeue.ensures.unchanged ∙ c.loop-packet.invariant.accepts lane
+    ap (λ (h : DeviceState). accepted lane h.engine.sched.standing.events) c.in_err-dequeue.ensures.unchanged ∙ c.loop-packet.invariant.accepts lane
 
 pub returns-then-is_none-clause-accepted : goal.returns-then-is_none-clause-accepted
 returns-then-is_none-clause-accepted g c = (more g (goal.at.returns-then-is_none-clause-accepted g c).In_ok-dequeue).accepts
@@ -39,7 +39,7 @@ loop-packet-preserved g c =
 
 pub returns-in_err-dequeue-2-clause-accepted : goal.returns-in_err-dequeue-2-clause-accepted
 returns-in_err-dequeue-2-clause-accepted g c lane =
-    ap (λ (h : Holding). accepted lane h.engine.sched.standing.events) c.in_err-dequeue-2.ensures.unchanged ∙ c.loop-packet.invariant.accepts lane
+    ap (λ (h : DeviceState). accepted lane h.engine.sched.standing.events) c.in_err-dequeue-2.ensures.unchanged ∙ c.loop-packet.invariant.accepts lane
 
 pub returns-clause-accepted : goal.returns-clause-accepted
 returns-clause-accepted g c = (last g (goal.at.returns-clause-accepted g c).In_ok-dequeue-2).accepts

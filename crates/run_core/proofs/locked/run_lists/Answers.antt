@@ -8,7 +8,7 @@ use Rattle.fair_core.specs.FqCodel.{fq_codel}
 use Rattle.port_core.specs.Ports.{Port, Seat, new_seat, new_seats}
 use Rattle.trace_core.specs.declared.journal_report.SenderRow.{SenderRow}
 use Rattle.sender_core.specs.Senders.{calls_of}
-use Rattle.run_core.specs.Journals.{row_of}
+use Rattle.run_core.specs.Journals.{sender_row_of}
 use Rattle.run_core.proofs.JournalLemmas.{accepted_of_rows, new_seats_length, rows_of_done, seats_popped}
 use Rattle.run_core.proofs.locked.run_lists.Goals.{In-Some}
 use Rattle.run_core.proofs.locked.run_lists.Given.{Over}
@@ -65,7 +65,7 @@ returns-in-Ok-clause-journal g c =
       journal = refl;
       closed = c.if-not-is_whole.ensures.closed refl;
       none_waits = c.if-not-is_whole.ensures.none_waits refl;
-      number = ap length rows_are ∙ length-map done (λ d. row_of d.calls d.seat) ∙ number;
+      number = ap length rows_are ∙ length-map done (λ d. sender_row_of d.calls d.seat) ∙ number;
       each = λ i r less. rw rows_are (sender_rows i r less);
       all =
           c.in-Ok.ensures.accepted ∙ ap (sum_by (λ (s : Seat). length s.told)) settled

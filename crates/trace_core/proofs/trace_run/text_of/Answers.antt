@@ -2,11 +2,11 @@ use Rattle.std.proofs.Common.{◌≡◌, Err, length, rules}
 use Rattle.std.proofs.lemmas.Bool.{le-ltb}
 use Rattle.journal_core.specs.Runs.{journal_of}
 use Rattle.row_core.specs.Traces.{reader_of}
-use Rattle.trace_core.specs.Report.{Adds}
+use Rattle.trace_core.specs.Report.{AddsToReport}
 use Rattle.trace_core.proofs.trace_run.text_of.Goals as goal
 
 pub returns-clause-report : goal.returns-clause-report
-unfolding Adds
+unfolding AddsToReport
 returns-clause-report c = λ params seed made.
     let text = c.args.text.now in
     let (steps, read, run) = c.in_ok-run_rows.ensures.run text c.new.ensures in

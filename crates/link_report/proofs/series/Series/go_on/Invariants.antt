@@ -1,5 +1,5 @@
 use Rattle.std.proofs.Common.{◌≡◌, ◌≤◌, ℕ, ◌-◌, List, max}
-use Rattle.link_report.specs.SeriesTables.{IsAt, Walk, later}
+use Rattle.link_report.specs.SeriesTables.{HasRowsBefore, Walk, later}
 use Rattle.link_report.proofs.series.Series.go_on.Given as goal
 
 -- the width of bins stays the same, and the walk is at the start of this bin
@@ -8,5 +8,5 @@ invariant-loop-turn l = record {
   every : l.self.every ≡ l.initial.self.every;
   bin : l.self.bin ≡ l._turn;
   most : l._turn ≤ max l.initial.self.bin l.bin;
-  walk : (before : List ℕ) (walk : Walk) → IsAt before l.initial.self l.initial.table walk → IsAt before l.self l.table (later (l._turn - l.initial.self.bin) walk);
+  walk : (before : List ℕ) (walk : Walk) → HasRowsBefore before l.initial.self l.initial.table walk → HasRowsBefore before l.self l.table (later (l._turn - l.initial.self.bin) walk);
 }

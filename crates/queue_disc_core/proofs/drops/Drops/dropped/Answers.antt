@@ -1,17 +1,17 @@
 use Rattle.std.proofs.Common.{◌≡◌, ◌+◌, ◌-◌, ◌≤◌, length, sym, subst, ◌∙◌, arith}
-use Rattle.queue_disc_core.specs.Drops.{IsDropAt, Tale, causes_of, settled_drops}
-use Rattle.queue_disc_core.specs.DropsKept.{tale_of}
+use Rattle.queue_disc_core.specs.Drops.{IsDropAt, DropTale, causes_of, settled_drops}
+use Rattle.queue_disc_core.specs.DropsKept.{drop_tale_of}
 use Rattle.queue_disc_core.proofs.drops.Drops.dropped.Goals as goal
 use Rattle.queue_disc_core.proofs.RecentDrops.{reach, recent_drop}
 
 pub returns : goal.returns
 returns c =
     let s = c.self.inside in
-    let view : tale_of s ≡ c.args.self.now = c.self.view_is in
+    let view : drop_tale_of s ≡ c.args.self.now = c.self.view_is in
     let back = c.args.back in
     let few : back + settled_drops s.told.items ≤ length (causes_of s.told.items) =
-    subst (λ (t : Tale). back + settled_drops t.events ≤ length (causes_of t.events)) (sym view) c.requires.recent in
+    subst (λ (t : DropTale). back + settled_drops t.events ≤ length (causes_of t.events)) (sym view) c.requires.recent in
     let many : length s.lost.items ≡ length (causes_of s.told.items) =
-    subst (λ (t : Tale). length t.lost ≡ length (causes_of t.events)) (sym view) c.requires.told in
-    subst (λ (t : Tale). IsDropAt t.events t.lost (length t.lost - back) c.index.result.now) view
+    subst (λ (t : DropTale). length t.lost ≡ length (causes_of t.events)) (sym view) c.requires.told in
+    subst (λ (t : DropTale). IsDropAt t.events t.lost (length t.lost - back) c.index.result.now) view
     (recent_drop s.drops.items s.told.items s.lost.items c.self.invariant.recent back few many c.index.result.now c.len.result c.requires.some (c.len.ensures ∙ s.drops.ok.0) c.index.ensures)

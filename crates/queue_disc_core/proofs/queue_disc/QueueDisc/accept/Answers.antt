@@ -4,7 +4,7 @@ use Rattle.journal_core.proofs.RefusalLemmas.{enqueue_open}
 use Rattle.sched_core.specs.Schedulers.{Scheduler, discipline_of}
 use Rattle.queue_disc_core.specs.declared.answers.Enqueued.{Enqueued}
 use Rattle.queue_disc_core.specs.QueueDiscKept.{disc_state_of}
-use Rattle.queue_disc_core.specs.QueueDiscs.{IsAccepted, DiscState}
+use Rattle.queue_disc_core.specs.QueueDiscs.{IsDiscAccepted, DiscState}
 use Rattle.queue_disc_core.proofs.SoundSteps.{accept_sound}
 use Rattle.queue_disc_core.proofs.QueueDiscSteps.{advanced_with_room}
 use Rattle.queue_disc_core.proofs.StepDrops.{enqueue_settles}
@@ -33,7 +33,7 @@ said_of c = record {
   drops = c.recent_drops-self-inside.result;
 }
 
-made_of : (c : goal.After-accept) → c.self.inside.unread ≡ 0 → IsAccepted (disc_state_of c.self.inside) c.args.moment c.args.packet (said_of c) (new_of c)
+made_of : (c : goal.After-accept) → c.self.inside.unread ≡ 0 → IsDiscAccepted (disc_state_of c.self.inside) c.args.moment c.args.packet (said_of c) (new_of c)
 made_of c read =
     let old : Scheduler = c.self.inside.sched in
     let new : Scheduler = c.keep_ahead-self-inside.new.sched in
@@ -68,7 +68,7 @@ invariant_of-self-2 c =
 pub returns-clause-made : goal.returns-clause-made
 returns-clause-made c =
     let read : c.self.inside.unread ≡ 0 = subst (λ (t : DiscState). t.unread ≡ 0) (sym c.self.view_is) c.requires in
-    subst (λ (t : DiscState). IsAccepted t c.args.moment c.args.packet (said_of c) (new_of c)) c.self.view_is (made_of c read)
+    subst (λ (t : DiscState). IsDiscAccepted t c.args.moment c.args.packet (said_of c) (new_of c)) c.self.view_is (made_of c read)
 
 pub returns-clause-id : goal.returns-clause-id
 returns-clause-id c =

@@ -1,6 +1,6 @@
 use Rattle.std.proofs.Common.{arith, refl, subst}
 use Rattle.queue_disc_core.specs.QueueDiscKept.{disc_state_of}
-use Rattle.queue_disc_core.specs.QueueDiscs.{IsClosed, DiscState}
+use Rattle.queue_disc_core.specs.QueueDiscs.{IsDiscClosed, DiscState}
 use Rattle.queue_disc_core.proofs.SoundSteps.{close_sound}
 use Rattle.queue_disc_core.proofs.queue_disc.QueueDisc.close.Goals as goal
 
@@ -15,4 +15,4 @@ invariant_of-self-2 c =
 pub returns-clause-made : goal.returns-clause-made
 returns-clause-made c =
     let new : DiscState = record (disc_state_of c.self.inside) { sched = c.close.new.self } in
-    subst (λ (t : DiscState). IsClosed t c.args.moment new) c.self.view_is (record { advances = c.in_ok-close.ensures.made; rest = refl })
+    subst (λ (t : DiscState). IsDiscClosed t c.args.moment new) c.self.view_is (record { advances = c.in_ok-close.ensures.made; rest = refl })

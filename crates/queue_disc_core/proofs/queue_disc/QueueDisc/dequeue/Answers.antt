@@ -2,7 +2,7 @@ use Rattle.std.proofs.Common.{◌+◌, ◌-◌, arith, refl, subst}
 use Rattle.sched_core.specs.Schedulers.{Scheduler, discipline_of}
 use Rattle.queue_disc_core.specs.declared.answers.Dequeued.{Dequeued}
 use Rattle.queue_disc_core.specs.QueueDiscKept.{disc_state_of}
-use Rattle.queue_disc_core.specs.QueueDiscs.{IsDequeued, DiscState}
+use Rattle.queue_disc_core.specs.QueueDiscs.{IsDiscDequeued, DiscState}
 use Rattle.queue_disc_core.proofs.SoundSteps.{dequeue_sound}
 use Rattle.queue_disc_core.proofs.QueueDiscCalls.{sent_accepted, sent_fits}
 use Rattle.queue_disc_core.proofs.StepDrops.{dequeue_settles}
@@ -33,7 +33,7 @@ new_of c = record {
 abbrev said_of : goal.After-give → Dequeued
 said_of c = record { sent = c.give.result; drops = c.recent_drops.result - c.recent_drops-before.result }
 
-made_of : (c : goal.After-give) → IsDequeued (disc_state_of c.self.inside) c.args.moment (said_of c) (new_of c)
+made_of : (c : goal.After-give) → IsDiscDequeued (disc_state_of c.self.inside) c.args.moment (said_of c) (new_of c)
 made_of c =
     let old : Scheduler = c.self.inside.sched in
     let new : Scheduler = c.dequeue.new.self in
@@ -60,4 +60,4 @@ invariant_of-self-2 c =
     }
 
 pub returns-clause-made : goal.returns-clause-made
-returns-clause-made c = subst (λ (t : DiscState). IsDequeued t c.args.moment (said_of c) (new_of c)) c.self.view_is (made_of c)
+returns-clause-made c = subst (λ (t : DiscState). IsDiscDequeued t c.args.moment (said_of c) (new_of c)) c.self.view_is (made_of c)
