@@ -80,7 +80,7 @@ impl FairQueue {
         })
     }
 
-    /// Takes memory for so many packets more, into whatever flows.
+    /// Takes memory for so many packets more, into whatever flows. It fails only where that much room was missing.
     pub fn reserve(&mut self, arrivals: u64) -> Result<(), Memory>
         requires { arrivals ≤ 2 ^ 40 }
         ensures queues { self.new.queues ≡ self.old.queues }
@@ -88,6 +88,7 @@ impl FairQueue {
         ensures room { self.old.room ≤ self.new.room }
         ensures comparisons { self.new.comparisons ≡ self.old.comparisons }
         ensures ok { OnOk result (arrivals ≤ self.new.room) }
+        ensures missing { OnErr result (self.old.room < arrivals) }
         ensures err { OnErr result (self.new ≡ self.old) }
     {
         self.flows.reserve(arrivals)

@@ -16,8 +16,9 @@ use packet_core::Waiting;
 use std::alloc::Global;
 
 /// What becomes of each packet is told to a recorder, with the packet: that it was accepted, sent or lost; and the
-/// close. It may store all of it, some or nothing. So an embedder frees a packet's buffer where the packet is sent or
-/// lost, by its tag. The lists of what it was told are there for proofs.
+/// close. It may store all of it, some or nothing. So an embedder gets each packet back once, by its tag: here where it
+/// is lost, and where it is sent, after the call, which answers with the packet and its bytes still to be sent. The
+/// lists of what it was told are there for proofs.
 pub trait Recorder: Drop {
     /// The events that it was told, in order.
     ghost told: { Self → List Event };
@@ -140,6 +141,18 @@ impl EventList {
         events
     }
 
+    /// Forgets what it was told, and keeps its memory. So it can serve another scheduler.
+    pub fn clear(&mut self)
+        ensures told { listed_events self.new ≡ [] }
+        ensures sent { listed_sent self.new ≡ [] }
+        ensures lost { listed_losses self.new ≡ [] }
+        ensures room { listed_room self.old ≤ listed_room self.new }
+    {
+        self.events.clear();
+        self.sent = GhostList::new();
+        self.lost = GhostList::new();
+    }
+
     /// Where its memory comes from.
     pub fn allocator(&self) -> Global {
         *self.events.allocator()
@@ -201,6 +214,22 @@ impl StepList {
         ensures { result.now ≡ listed_steps self.now }
     {
         &self.steps
+    }
+
+    /// The steps, in order, once it is told nothing more.
+    pub fn into_steps(self) -> Vec<Step>
+        ensures { result.items ≡ listed_steps self }
+    {
+        let StepList { steps } = self;
+        steps
+    }
+
+    /// Forgets what it was told, and keeps its memory. So it can serve another engine.
+    pub fn clear(&mut self)
+        ensures told { listed_steps self.new ≡ [] }
+        ensures room { listed_step_room self.old ≤ listed_step_room self.new }
+    {
+        self.steps.clear();
     }
 }
 

@@ -73,6 +73,7 @@ pub use Rattle.sched_core.specs.Choosing
 pub use Rattle.sched_core.specs.Engines
 pub use Rattle.sched_core.specs.Shares
 pub use Rattle.sched_core.specs.Starvation
+pub use Rattle.sched_core.specs.Remaining
 -- The scheduler for embedders.
 pub use Rattle.queue_disc_core.specs.Drops
 pub use Rattle.queue_disc_core.specs.QueueDiscTotals as TotalsOfQueueDiscs

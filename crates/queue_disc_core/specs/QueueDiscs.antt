@@ -256,4 +256,5 @@ flushed_by (Some packet) = 1
 -- The close is made.
 pub record IsDiscClosed (old : DiscState) (moment : ℕ) (new : DiscState) : Type 0 where
   pub advances : IsAdvanced old.sched (Close moment) answer.Closed new.sched
+  pub room : new.sched.room ≡ old.sched.room
   pub rest : new ≡ record old { sched = new.sched }

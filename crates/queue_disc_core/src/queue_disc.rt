@@ -68,7 +68,7 @@ impl Model for QueueDisc {
     ghost invariant = { IsKeptDisc };
 }
 
-/// What holds of each scheduler.
+/// What holds of each scheduler. It does nothing when it runs: it is called for its clauses.
 #[inline(always)]
 fn has_laws(sched: &Sched<Drops>)
     ensures laws { IsLawful sched.now }
@@ -470,8 +470,8 @@ impl QueueDisc {
         self.unread
     }
 
-    /// From here on nothing is accepted; dequeues go on, and drops can be read. The moment is in microseconds. It takes
-    /// no memory. It refuses a moment of 2^60 or more or before the last one, then a second close.
+    /// From here on nothing is accepted; dequeues go on, and drops can be read. The moment is in microseconds. It
+    /// takes no memory. It refuses a moment of 2^60 or more or before the last one, then a second close.
     pub fn close(&mut self, moment: u64) -> Result<(), CloseFault>
         ensures made { OnOk result (IsDiscClosed self.old moment self.new) }
         ensures refused { IfErr result
@@ -485,7 +485,8 @@ impl QueueDisc {
     }
 
     /// Each packet that was accepted was given back once, by `dequeue`, as a drop that was read or by `flush`, or its
-    /// drop wasn't read yet, or it waits. This goes over renewals.
+    /// drop wasn't read yet, or it waits. This goes over renewals. It does nothing when it runs: it is called for its
+    /// clauses.
     pub fn packets_come_back(&self)
         ensures { AreGivenBack self.now }
     {

@@ -160,6 +160,7 @@ fn emptied<A: Ledger, S: Ledger, H: Wait>(
     seat: PortSeat<A, S>,
     most: usize,
 ) -> Result<PortSeat<A, S>, Refusal>
+    ensures closed { OnOk result (((at : ℕ) × IsClosedBy 0 at) ⊎ IsRefusedBy Close 0 ClosedAlready) }
     ensures seat { IfOk result (λ r. (r.lane ≡ seat.lane) × (r.told ≡ seat.told)) }
     ensures ends { IfOk result (λ r. IsServedBy 0 None ⊎ (r.sent ≡ seat.sent + (most + 1))) }
     ensures most { IfOk result (λ r. (seat.sent ≤ r.sent) × (r.sent ≤ seat.sent + (most + 1))) }

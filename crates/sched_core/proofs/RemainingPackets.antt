@@ -1,11 +1,12 @@
 -- What is left of queues of which packets are taken out.
-use Rattle.std.proofs.Common.{◌≡◌, ℕ, zero, suc, ◌+◌, ◌<◌, List, [], ◌∷◌, ◌++◌, get_or, length, refl, sym, ap, arith}
-use Rattle.std.specs.Prelude.{set, sum_by}
+use Rattle.std.proofs.Common.{◌≡◌, ℕ, zero, suc, ◌+◌, ◌<◌, List, [], ◌∷◌, ◌++◌, Option, Some, drop, get_or, length, refl, sym, ap, arith}
+use Rattle.std.specs.Prelude.{set, slice_get, sum_by}
 use Rattle.std.specs.List.{flat_map}
 use Rattle.std.specs.List.Sorted.{IsPermutation}
 use Rattle.std.proofs.lemmas.List.Sorted.{IsPermutation-append, IsPermutation-middle, IsPermutation-refl, IsPermutation-sym, IsPermutation-trans}
 use Rattle.std.proofs.lemmas.List.Sums.{sum_by-cons}
 use Rattle.packet_core.specs.declared.packet.Waiting.{Waiting}
+use Rattle.sched_core.specs.Remaining.{GivesHead}
 
 -- The head of a queue is taken out: the others are left.
 pub taken_out : (queues : List (List Waiting)) (flow : ℕ) (w : Waiting) (rest : List Waiting) → flow < length queues → get_or queues flow [] ≡ w ∷ rest
@@ -23,3 +24,13 @@ pub none_left : (queues : List (List Waiting)) → sum_by length queues ≡ 0 �
 none_left [] none = refl
 none_left ([] ∷ queues) none = none_left queues (let sum = sum_by-cons (length {A = Waiting}) [] queues in omega arith)
 none_left ((w ∷ q) ∷ queues) none = absurd (let sum = sum_by-cons (length {A = Waiting}) (w ∷ q) queues in omega arith)
+
+-- The head of a queue is its first packet.
+is_head : (q : List Waiting) (w : Waiting) → slice_get q 0 ≡ Some w → q ≡ w ∷ drop 1 q
+is_head [] w is = absurd cc
+is_head (v ∷ q) w is = cc is
+
+-- So what is taken out is the head of that flow's queue.
+pub head_given : (queues : List (List Waiting)) (flow : ℕ) (w : Waiting) → slice_get (get_or queues flow []) 0 ≡ Some w
+    → GivesHead queues w (set queues flow (drop 1 (get_or queues flow [])))
+head_given queues flow w is = (flow, is_head (get_or queues flow []) w is, refl)

@@ -7,6 +7,7 @@ pub mod Classifiers
 pub mod Choosing
 pub mod EnqueueRooms
 pub mod Kept
+pub mod Remaining
 pub mod Engines
 pub mod Shares
 pub mod Starvation

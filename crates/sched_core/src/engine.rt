@@ -13,8 +13,8 @@ use packet_core::{Packet, Params, Seed};
 use std::alloc::Global;
 use std::marker::Model;
 
-/// A scheduler that keeps the list of its steps. At every moment it is the run of those steps with the parameters
-/// and the seed that it was made with: whoever has the three has the whole of it again. It tells its steps to a recorder,
+/// A scheduler that keeps the list of its steps. At every moment it is the run of those steps with the parameters and
+/// the seed that it was made with: whoever has the three has the whole of it again. It tells its steps to a recorder,
 /// as its journal tells another what becomes of packets; both store all that they are told unless others are chosen.
 #[derive(Debug, Drop)]
 pub struct Engine<K: Recorder = EventList, S: StepRecorder = StepList> {
@@ -179,9 +179,9 @@ impl<K: Recorder, S: StepRecorder> Engine<K, S> {
         self.sched.ids_left()
     }
 
-    /// Makes a step of any kind as the call for its kind does, and answers as a run does: where the step is refused the
-    /// answer says why, and it isn't kept. It fails for want of memory alone, for a step that isn't refused, and not
-    /// where room is reserved. Nothing has changed after either.
+    /// Makes a step of any kind as the call for its kind does, and answers as a run does: where the step is refused
+    /// the answer says why, and it isn't kept. It fails for want of memory alone, for a step that isn't refused, and
+    /// not where room is reserved. Nothing has changed after either.
     pub fn make(&mut self, step: &Step) -> Result<Answer, Memory>
         ensures made { IfOk result (λ said. Takes (discipline_of self.old.sched)
             self.old.sched.standing step.now said self.new.sched.standing) }
@@ -203,7 +203,8 @@ impl<K: Recorder, S: StepRecorder> Engine<K, S> {
         Ok(answer)
     }
 
-    /// At every moment it is the run of its steps, whether they are stored or not.
+    /// At every moment it is the run of its steps, whether they are stored or not. It does nothing when it runs: it is
+    /// called for its clauses.
     pub fn run_of_steps(&self)
         ensures { IsRunOf (discipline_of self.now.sched) self.now.steps self.now.sched.standing }
     {
@@ -240,7 +241,8 @@ impl<K: Recorder, S: StepRecorder> Engine<K, S> {
         (sched.give_up(), steps)
     }
 
-    /// The laws of the journal at every moment, whether its events are stored or not.
+    /// The laws of the journal at every moment, whether its events are stored or not. It does nothing when it runs: it
+    /// is called for its clauses.
     pub fn journal_laws(&self)
         ensures laws { JournalLaws (discipline_of self.now.sched).flow_of self.now.sched.standing.events }
         ensures waiting { WaitWithoutFate (queue_of (flows_of self.now.sched)) self.now.sched.standing.events }

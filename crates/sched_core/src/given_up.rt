@@ -1,8 +1,9 @@
 //! What a scheduler hands back where it is given up.
 
-ghost use Rattle.std.specs.Prelude.{◌≡◌, ◌∷◌, [], IfSome, IsNone};
+ghost use Rattle.std.specs.Prelude.{◌≡◌, ◌∷◌, [], IfSome, IsNone, length, sum_by};
 ghost use Rattle.std.specs.List.{flat_map};
 ghost use Rattle.std.specs.List.Sorted.{IsPermutation};
+ghost use Rattle.sched_core.specs.Remaining.{GivesHead};
 
 use flow_core::Flows;
 use packet_core::Waiting;
@@ -40,13 +41,21 @@ impl Remains {
         Remains { flows }
     }
 
-    /// Gives one of the packets, each once, and none where none is left. It takes no memory, and about as long as a
-    /// dequeue. The packets of a flow come in their order, which no clause says.
-    #[tactic(auto, using(crate::proofs::RemainingPackets::taken_out, crate::proofs::RemainingPackets::none_left))]
+    /// How many are left.
+    pub fn count(&self) -> u64
+        ensures { result ≡ sum_by length self.now }
+    {
+        self.flows.total_len()
+    }
+
+    /// Gives the packet at the head of one of the queues, and none where none is left. So each comes once, and those of
+    /// a flow come in their order. It takes no memory, and about as long as a dequeue.
+    #[tactic(auto, using(crate::proofs::RemainingPackets::taken_out, crate::proofs::RemainingPackets::head_given, crate::proofs::RemainingPackets::none_left))]
     pub fn next(&mut self) -> Option<Waiting>
         ensures none { IsNone result → flat_map (λ q. q) self.old ≡ [] }
         ensures given { IfSome result (λ w.
             IsPermutation (flat_map (λ q. q) self.old) (w ∷ flat_map (λ q. q) self.new)) }
+        ensures head { IfSome result (λ w. GivesHead self.old w self.new) }
         ensures rest { IsNone result → self.new ≡ self.old }
     {
         let flow = self.flows.fattest()?;

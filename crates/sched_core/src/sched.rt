@@ -132,12 +132,12 @@ impl<K: Recorder> Sched<K> {
             .reserve(enqueues, &mut self.fair_queue, &mut self.journal)
     }
 
-    /// Accepts a packet from a lane at a moment, in microseconds, into the queue of its flow, with room for its fate in
-    /// the journal. Where there is no memory for one packet more, it takes some for several at once. While more packets
-    /// wait than `limit`, or more bytes than `memory_limit`, where that is set, the flow that has the most bytes then
-    /// loses a batch from its head (RFC 8290, section 4.1; tc-fq_codel(8)). It refuses a moment of 2^60 or more or
-    /// before the last one, then a packet after the close, then one after 2^40 others, and last where a growth for one
-    /// packet is refused.
+    /// Accepts a packet from a lane at a moment, in microseconds, into the queue of its flow, with room for its fate
+    /// in the journal. Where there is no memory for one packet more, it takes some for several at once. While more
+    /// packets wait than `limit`, or more bytes than `memory_limit`, where that is set, the flow that has the most
+    /// bytes then loses a batch from its head (RFC 8290, section 4.1; tc-fq_codel(8)). It refuses a moment of 2^60 or
+    /// more or before the last one, then a packet after the close, then one after 2^40 others, and last where a growth
+    /// for one packet is refused.
     // Merged into its callers, as all that most packets pass through is: the packet is then written into its slot from
     // where the caller has it.
     #[inline(always)]
@@ -266,9 +266,9 @@ impl<K: Recorder> Sched<K> {
         self.is_closed = true;
     }
 
-    /// Makes a step of any kind as the call for its kind does, and answers as a run does: where the step is refused the
-    /// answer says why. It fails for want of memory alone, and then the step is an enqueue that isn't refused and has
-    /// no room. Nothing has changed after either.
+    /// Makes a step of any kind as the call for its kind does, and answers as a run does: where the step is refused
+    /// the answer says why. It fails for want of memory alone, and then the step is an enqueue that isn't refused and
+    /// has no room. Nothing has changed after either.
     pub fn make(&mut self, step: &Step) -> Result<Answer, Memory>
         ensures made { IfOk result
             (λ said. Takes (discipline_of self.old) self.old.standing step.now said self.new.standing) }
@@ -355,10 +355,10 @@ impl<K: Recorder> Sched<K> {
         self.fair_queue.view(flow)
     }
 
-    /// Who is told what becomes of each packet. It was told of each packet that left as sent, with the ECN field that it
-    /// left with, and of each drop with the packet that is lost, as it was accepted. So an embedder gets each packet
-    /// back once, with its tag, or it waits: the packets that were accepted are, in another order, those that were sent,
-    /// those that the recorder was told of as lost and those in the flows' queues.
+    /// Who is told what becomes of each packet. It was told of each packet that left as sent, with the ECN field that
+    /// it left with, and of each drop with the packet that is lost, as it was accepted. So an embedder gets each
+    /// packet back once, with its tag, or it waits: the packets that were accepted are, in another order, those that
+    /// were sent, those that the recorder was told of as lost and those in the flows' queues.
     #[tactic(auto, using(crate::proofs::KeptScheduler::seen_departures, crate::proofs::KeptScheduler::seen_losses))]
     pub fn recorder(&self) -> &K
         ensures told { K.told result.now ≡ self.now.standing.events }
@@ -369,7 +369,8 @@ impl<K: Recorder> Sched<K> {
         self.journal.recorder()
     }
 
-    /// Gives the scheduler up: its recorder comes back, and the packets that wait. So an embedder gets those back, too.
+    /// Gives the scheduler up: its recorder comes back, and the packets that wait. So an embedder gets those back,
+    /// too.
     pub fn give_up(self) -> GivenUp<K>
         ensures told { K.told result.recorder ≡ self.standing.events }
         ensures sent { K.sent result.recorder ≡ departed_packets self.standing.events }
@@ -395,7 +396,8 @@ impl<K: Recorder> Sched<K> {
         }
     }
 
-    /// The laws of the journal at every moment, whether its events are stored or not.
+    /// The laws of the journal at every moment, whether its events are stored or not. It does nothing when it runs: it
+    /// is called for its clauses.
     #[tactic(auto, using(crate::proofs::KeptScheduler::seen_waits))]
     pub fn journal_laws(&self)
         ensures laws { JournalLaws (discipline_of self.now).flow_of self.now.standing.events }

@@ -8,11 +8,11 @@ pub invariant_of-self-2 : goal.invariant_of-self-2
 invariant_of-self-2 c =
     let new : DiscState = record (disc_state_of c.self.inside) { sched = c.close.new.self } in
     record {
-      sound = close_sound (disc_state_of c.self.inside) new c.args.moment c.has_laws.ensures.laws c.has_laws-2.ensures.laws c.self.invariant.sound (record { advances = c.in_ok-close.ensures.made; rest = refl });
+      sound = close_sound (disc_state_of c.self.inside) new c.args.moment c.has_laws.ensures.laws c.has_laws-2.ensures.laws c.self.invariant.sound (record { advances = c.in_ok-close.ensures.made; room = c.close.ensures.room; rest = refl });
       ahead = omega (arith, c.self.invariant.ahead, c.close.ensures.room);
     }
 
 pub returns-clause-made : goal.returns-clause-made
 returns-clause-made c =
     let new : DiscState = record (disc_state_of c.self.inside) { sched = c.close.new.self } in
-    subst (λ (t : DiscState). IsDiscClosed t c.args.moment new) c.self.view_is (record { advances = c.in_ok-close.ensures.made; rest = refl })
+    subst (λ (t : DiscState). IsDiscClosed t c.args.moment new) c.self.view_is (record { advances = c.in_ok-close.ensures.made; room = c.close.ensures.room; rest = refl })
