@@ -5,7 +5,7 @@ pub mod PacketLists
 pub mod PacketListsKept
 pub mod Laws
 pub mod QueueDiscs
-pub mod Ahead
+pub mod FreeEnqueues
 pub mod Calls
 pub mod QueueDiscKept
 pub mod Faults

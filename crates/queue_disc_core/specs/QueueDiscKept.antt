@@ -35,7 +35,6 @@ pub record IsSoundDisc (s : DiscState) : Type 0 where
   pub ids : length s.packets.accepted ≡ s.past.accepted + s.sched.standing.state.next_id
   pub balanced : AreBalanced s
 
--- The queue disc counts on no more enqueues than the scheduler has reserved.
-pub record IsKeptDisc (s : Inside) : Type 0 where
-  pub sound : IsSoundDisc (disc_state_of s)
-  pub ahead : s.ahead ≤ s.sched.room
+-- what holds of a queue disc's fields
+abbrev pub IsKeptDisc : Inside → Type 0
+IsKeptDisc s = IsSoundDisc (disc_state_of s)

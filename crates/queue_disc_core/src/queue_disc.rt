@@ -10,7 +10,7 @@ ghost use Rattle.journal_core.specs.declared.step.Step.TheVariants.{Close, Deque
 ghost use Rattle.fair_core.specs.Shown.{flow_shown};
 ghost use Rattle.flow_core.specs.FlowLists.{waiting_in};
 ghost use Rattle.sched_core.specs.Schedulers.{IsServed, flows_of};
-ghost use Rattle.queue_disc_core.specs.Ahead.{free_enqueues};
+ghost use Rattle.queue_disc_core.specs.FreeEnqueues.{free_enqueues};
 ghost use Rattle.queue_disc_core.specs.Drops.{causes_of, settled_drops};
 ghost use Rattle.queue_disc_core.specs.Laws.{IsLawful};
 ghost use Rattle.queue_disc_core.specs.QueueDiscs.{open_scheduler, renumbered, sent_handle, sent_handles};
@@ -52,9 +52,6 @@ pub struct QueueDisc {
     past: QueueDiscTotals,
     renew_after: u64,
     packets: GhostPackets,
-    // How many enqueues the scheduler has reserved, as far as is known: it has no fewer. So it is asked for more once
-    // in many enqueues.
-    ahead: u64,
 }
 
 impl Model for QueueDisc {
@@ -108,40 +105,34 @@ fn open_sched(alloc: Global, params: Params, seed: Seed) -> Result<Sched<Drops>,
     Ok(sched)
 }
 
-/// An enqueue was made, before which the scheduler had memory for so many. It says for how many there is memory now.
+/// An enqueue was made. Where no other is reserved, it reserves more. So it asks once in many enqueues.
 #[inline(always)]
-fn keep_ahead(sched: &mut Sched<Drops>, ahead: u64) -> u64
-    requires { ahead ≤ sched.old.room + 1 }
+fn keep_room(sched: &mut Sched<Drops>)
+    ensures some { 0 < sched.old.room → sched.new ≡ sched.old }
     ensures rest { sched.new ≡ record sched.old { room = sched.new.room } }
     ensures room { sched.old.room ≤ sched.new.room }
-    ensures ahead { result ≤ sched.new.room }
-    ensures none { result ≡ 0 → sched.old.room < free_enqueues sched.old }
     ensures most { sched.new.room ≤ max sched.old.room (free_enqueues sched.old) }
 {
-    if ahead > 1 {
-        return ahead - 1;
+    if sched.room() == 0 {
+        take_room(sched);
     }
-    take_ahead(sched)
 }
 
 /// Reserves as many enqueues as packets may come before as many wait as may, but for drops that the recorder has.
-/// There is memory for all of these since the queue disc was opened, so none is taken. It says how many they are.
+/// There is memory for all of these since the queue disc was opened, so none is taken. It says whether they are
+/// reserved.
 // Kept out of an enqueue: few come here.
 #[inline(never)]
-fn take_ahead(sched: &mut Sched<Drops>) -> u64
-    ensures rest { sched.new ≡ record sched.old { room = sched.new.room } }
-    ensures room { sched.old.room ≤ sched.new.room }
-    ensures ahead { result ≤ sched.new.room }
-    ensures none { result ≡ 0 → sched.old.room < free_enqueues sched.old }
-    ensures most { sched.new.room ≤ max sched.old.room (free_enqueues sched.old) }
+fn take_room(sched: &mut Sched<Drops>) -> bool
+    requires { sched.old.room ≡ 0 }
+    ensures taken { result ≡ true → sched.new ≡ record sched.old { room = free_enqueues sched.old } }
+    ensures refused { result ≡ false → sched.new ≡ sched.old }
+    ensures some { result ≡ true → 0 < sched.new.room }
 {
     let most = u64::from(sched.params().limit()) + 1;
     let used = sched.queued().saturating_add(sched.recorder().kept());
     let enqueues = most.saturating_sub(used).max(1);
-    match sched.reserve(enqueues) {
-        Ok(()) => enqueues,
-        Err(_) => 0,
-    }
+    sched.reserve(enqueues).is_ok()
 }
 
 /// What a dequeue answers of the packet that the scheduler gives: it has its id over all renewals.
@@ -208,10 +199,8 @@ impl QueueDisc {
     ) -> Result<QueueDisc, Memory>
         ensures { IfOk result (λ s. s ≡ new_disc params seed renew_after) }
     {
-        let sched = open_sched(alloc, params, seed)?;
         Ok(QueueDisc {
-            ahead: u64::from(params.limit()) + 1,
-            sched,
+            sched: open_sched(alloc, params, seed)?,
             unread: 0,
             flushed_counts: FlushedCounts::none(),
             past: QueueDiscTotals::none(),
@@ -294,7 +283,6 @@ impl QueueDisc {
         };
         self.past = totals;
         self.flushed_counts = FlushedCounts::none();
-        self.ahead = u64::from(params.limit()) + 1;
         self.sched = sched;
         true
     }
@@ -338,7 +326,7 @@ impl QueueDisc {
         has_laws(&self.sched);
         drops_have_causes(&self.sched);
         let admitted = self.sched.enqueue(moment, 0, packet)?;
-        self.ahead = keep_ahead(&mut self.sched, self.ahead);
+        keep_room(&mut self.sched);
         has_laws(&self.sched);
         // The acceptance forgot the drops before it.
         self.unread = recent_drops(&self.sched);

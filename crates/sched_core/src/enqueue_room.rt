@@ -120,6 +120,14 @@ impl EnqueueRoom {
         Ok(())
     }
 
+    /// How many enqueues are reserved.
+    #[inline(always)]
+    pub(crate) fn reserved(&self) -> u64
+        ensures { result ≡ room_of self.now }
+    {
+        self.enqueues.saturating_sub(self.ahead)
+    }
+
     /// So many of the enqueues at least are reserved.
     fn promise(&mut self, enqueues: u64)
         requires { enqueues ≤ self.old.enqueues }

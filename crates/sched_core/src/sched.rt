@@ -132,6 +132,14 @@ impl<K: Recorder> Sched<K> {
             .reserve(enqueues, &mut self.fair_queue, &mut self.journal)
     }
 
+    /// How many enqueues are reserved: the next ones that are accepted, so many, take no memory.
+    #[inline(always)]
+    pub fn room(&self) -> u64
+        ensures { result ≡ self.now.room }
+    {
+        self.enqueue_room.reserved()
+    }
+
     /// Accepts a packet from a lane at a moment, in microseconds, into the queue of its flow, with room for its fate
     /// in the journal. Where there is no memory for one packet more, it takes some for several at once. While more
     /// packets wait than `limit`, or more bytes than `memory_limit`, where that is set, the flow that has the most

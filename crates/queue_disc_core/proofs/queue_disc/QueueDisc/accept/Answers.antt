@@ -14,11 +14,11 @@ pub overflow_add-id : goal.overflow_add-id
 overflow_add-id c =
     let old : Scheduler = c.self.inside.sched in
     let few : old.standing.state.next_id < 2 ^ 40 = (enqueue_open old.standing.state c.args.moment 0 c.args.packet c.in_ok-admitted.ensures.made.advances.fits).1 in
-    omega (arith, few, c.self.invariant.sound.few, ap (λ (a : Admitted). a.id) c.in_ok-admitted.ensures.admitted)
+    omega (arith, few, c.self.invariant.few, ap (λ (a : Admitted). a.id) c.in_ok-admitted.ensures.admitted)
 
 abbrev new_of : goal.After-accept → DiscState
 new_of c = record {
-  sched = c.keep_ahead-self-inside.new.sched;
+  sched = c.keep_room.new.sched;
   unread = c.recent_drops-self-inside.result;
   flushed_counts = c.self.inside.flushed_counts;
   past = c.self.inside.past;
@@ -36,8 +36,8 @@ said_of c = record {
 made_of : (c : goal.After-accept) → c.self.inside.unread ≡ 0 → IsDiscAccepted (disc_state_of c.self.inside) c.args.moment c.args.packet (said_of c) (new_of c)
 made_of c read =
     let old : Scheduler = c.self.inside.sched in
-    let new : Scheduler = c.keep_ahead-self-inside.new.sched in
-    let made = advanced_with_room c.in_ok-admitted.ensures.made c.keep_ahead-self-inside.ensures.rest in
+    let new : Scheduler = c.keep_room.new.sched in
+    let made = advanced_with_room c.in_ok-admitted.ensures.made c.keep_room.ensures.rest in
     let settles = enqueue_settles (discipline_of old) old.standing new.standing c.args.moment 0 c.args.packet made.advances in
     let id = ap (λ (a : Admitted). a.id) c.in_ok-admitted.ensures.admitted in
     record {
@@ -47,7 +47,7 @@ made_of c read =
       read = read;
       unread = refl;
       drops = omega (arith, settles.settled, c.recent_drops-self-inside.ensures.lost, c.drops_have_causes.ensures);
-      room = omega (arith, c.in_ok-admitted.ensures.room, c.keep_ahead-self-inside.ensures.room);
+      room = omega (arith, c.in_ok-admitted.ensures.room, c.keep_room.ensures.room);
       rest = λ i. record (disc_state_of c.self.inside) {
         sched = new;
         unread = c.recent_drops-self-inside.result;
@@ -60,10 +60,7 @@ made_of c read =
 pub invariant_of-self-2 : goal.invariant_of-self-2
 invariant_of-self-2 c =
     let read : c.self.inside.unread ≡ 0 = subst (λ (t : DiscState). t.unread ≡ 0) (sym c.self.view_is) c.requires in
-    record {
-      sound = accept_sound (disc_state_of c.self.inside) (new_of c) c.args.moment c.args.packet (said_of c) c.has_laws.ensures.laws c.has_laws-2.ensures.laws c.self.invariant.sound (made_of c read);
-      ahead = c.keep_ahead-self-inside.ensures.ahead;
-    }
+    accept_sound (disc_state_of c.self.inside) (new_of c) c.args.moment c.args.packet (said_of c) c.has_laws.ensures.laws c.has_laws-2.ensures.laws c.self.invariant (made_of c read)
 
 pub returns-clause-made : goal.returns-clause-made
 returns-clause-made c =
@@ -73,4 +70,4 @@ returns-clause-made c =
 pub returns-clause-id : goal.returns-clause-id
 returns-clause-id c =
     let id = ap (λ (a : Admitted). a.id) c.in_ok-admitted.ensures.admitted in
-    omega (arith, id, c.self.invariant.sound.ids, ap (λ (t : DiscState). length t.packets.accepted) c.self.view_is)
+    omega (arith, id, c.self.invariant.ids, ap (λ (t : DiscState). length t.packets.accepted) c.self.view_is)

@@ -18,7 +18,7 @@ pub give-requires : goal.give-requires
 give-requires c =
     let old : Scheduler = c.self.inside.sched in
     let accepted = sent_accepted old c.dequeue.new.self c.args.moment c.in_ok-sent.sent c.has_laws.ensures.laws c.in_ok-sent.ensures.made in
-    sent_fits c.self.inside.past.accepted old c.in_ok-sent.sent c.has_laws.ensures.laws accepted c.self.invariant.sound.counted c.has_laws.ensures.ids c.self.invariant.sound.few
+    sent_fits c.self.inside.past.accepted old c.in_ok-sent.sent c.has_laws.ensures.laws accepted c.self.invariant.counted c.has_laws.ensures.ids c.self.invariant.few
 
 abbrev new_of : goal.After-give → DiscState
 new_of c = record {
@@ -54,10 +54,7 @@ made_of c =
 
 pub invariant_of-self-2 : goal.invariant_of-self-2
 invariant_of-self-2 c =
-    record {
-      sound = dequeue_sound (disc_state_of c.self.inside) (new_of c) c.args.moment (said_of c) c.has_laws.ensures.laws c.has_laws-2.ensures.laws c.self.invariant.sound (made_of c);
-      ahead = omega (arith, c.self.invariant.ahead, c.in_ok-sent.ensures.made.room);
-    }
+    dequeue_sound (disc_state_of c.self.inside) (new_of c) c.args.moment (said_of c) c.has_laws.ensures.laws c.has_laws-2.ensures.laws c.self.invariant (made_of c)
 
 pub returns-clause-made : goal.returns-clause-made
 returns-clause-made c = subst (λ (t : DiscState). IsDiscDequeued t c.args.moment (said_of c) (new_of c)) c.self.view_is (made_of c)

@@ -27,7 +27,7 @@ pub take_out-requires : goal.take_out-requires
 take_out-requires c =
     let old : Scheduler = c.self.inside.sched in
     let accepted = sent_accepted old c.dequeue_at_last-sent.new.sched old.standing.state.last c.dequeue_at_last-sent.result c.has_laws.ensures.laws c.dequeue_at_last-sent.ensures in
-    sent_fits c.self.inside.past.accepted old c.dequeue_at_last-sent.result c.has_laws.ensures.laws accepted c.self.invariant.sound.counted c.has_laws.ensures.ids c.self.invariant.sound.few
+    sent_fits c.self.inside.past.accepted old c.dequeue_at_last-sent.result c.has_laws.ensures.laws accepted c.self.invariant.counted c.has_laws.ensures.ids c.self.invariant.few
 
 abbrev new_of : goal.After-take_out → DiscState
 new_of c = record {
@@ -55,16 +55,13 @@ one_of c =
     (λ i. record (new_of c) { packets = c.take_out.ensures.packets i }))
 
 pub invariant_of-self : goal.invariant_of-self
-invariant_of-self c = record {
-  sound = one_sound (disc_state_of c.self.inside) (new_of c) c.take_out.result c.has_laws.ensures.laws c.has_laws-2.ensures.laws c.self.invariant.sound (one_of c);
-  ahead = omega (arith, c.self.invariant.ahead, c.dequeue_at_last-sent.ensures.room);
-}
+invariant_of-self c = one_sound (disc_state_of c.self.inside) (new_of c) c.take_out.result c.has_laws.ensures.laws c.has_laws-2.ensures.laws c.self.invariant (one_of c)
 
 pub returns-clause-one : goal.returns-clause-one
 returns-clause-one c = subst (λ (t : DiscState). FlushesOne t c.take_out.result (new_of c)) c.self.view_is (one_of c)
 
 pub returns-clause-totals : goal.returns-clause-totals
 returns-clause-totals c =
-    let kept = kept_sent (disc_state_of c.self.inside) (new_of c) c.dequeue_at_last-sent.result c.has_laws.ensures.laws c.self.invariant.sound c.dequeue_at_last-sent.ensures (flushed_counts_of c) refl in
+    let kept = kept_sent (disc_state_of c.self.inside) (new_of c) c.dequeue_at_last-sent.result c.has_laws.ensures.laws c.self.invariant c.dequeue_at_last-sent.ensures (flushed_counts_of c) refl in
     subst (λ (t : DiscState). KeepsSent (totals_of t) (flushed_by c.take_out.result) (totals_of (new_of c))) c.self.view_is
     (subst (λ (o : Option Handle). KeepsSent (totals_of (disc_state_of c.self.inside)) (flushed_by o) (totals_of (new_of c))) (sym c.take_out.ensures.told) kept)

@@ -1,11 +1,6 @@
-use Rattle.std.proofs.Common.{arith, ap}
-use Rattle.sched_core.specs.Schedulers.{Scheduler}
 use Rattle.queue_disc_core.proofs.queue_disc.QueueDisc.open_with.Goals as goal
 use Rattle.queue_disc_core.proofs.QueueDiscCalls.{opened}
 
 pub invariant_of-result : goal.invariant_of-result
 invariant_of-result c =
-    record {
-      sound = opened c.in_ok-sched.sched c.none.result c.none-2.result c.new.result c.args.renew_after c.args.params c.args.seed c.in_ok-sched.ensures c.none.ensures c.none-2.ensures c.new.ensures;
-      ahead = omega (arith, ap (λ (s : Scheduler). s.room) c.in_ok-sched.ensures, c.limit.ensures.value, c.from.ensures);
-    }
+    opened c.in_ok-open_sched.open_sched c.none.result c.none-2.result c.new.result c.args.renew_after c.args.params c.args.seed c.in_ok-open_sched.ensures c.none.ensures c.none-2.ensures c.new.ensures

@@ -5,4 +5,4 @@ use Rattle.queue_disc_core.proofs.queue_disc.QueueDisc.packets_come_back.Goals a
 use Rattle.queue_disc_core.proofs.QueueDiscCalls.{come_back}
 
 pub returns : goal.returns
-returns c = subst AreGivenBack c.self.view_is (come_back (disc_state_of c.self.inside) c.self.invariant.sound.balanced)
+returns c = subst AreGivenBack c.self.view_is (come_back (disc_state_of c.self.inside) c.self.invariant.balanced)

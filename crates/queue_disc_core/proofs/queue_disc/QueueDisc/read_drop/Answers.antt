@@ -18,7 +18,7 @@ overflow_add-dropped c =
     let drop : IsDropAt events (lost_packets events) n c.dropped-dropped.result =
     subst (λ (es : List Event). IsDropAt es (lost_packets events) n c.dropped-dropped.result) c.recorder.ensures.told
     (subst (λ (ws : List Waiting). IsDropAt c.recorder.result.now.events ws (length ws - s.unread) c.dropped-dropped.result) c.recorder.ensures.lost c.dropped-dropped.ensures) in
-    omega (arith, drop_below events n c.dropped-dropped.result c.has_laws.ensures.laws.laws.ids_in_order drop, c.self.invariant.sound.counted, c.has_laws.ensures.ids, c.self.invariant.sound.few)
+    omega (arith, drop_below events n c.dropped-dropped.result c.has_laws.ensures.laws.laws.ids_in_order drop, c.self.invariant.counted, c.has_laws.ensures.ids, c.self.invariant.few)
 
 abbrev new_of : goal.After-read → DiscState
 new_of c = record (disc_state_of c.self.inside) { unread = c.self.inside.unread - 1; packets = c.read.new.self }
@@ -42,10 +42,7 @@ made_of c =
     }
 
 pub invariant_of-self : goal.invariant_of-self
-invariant_of-self c = record {
-  sound = read_sound (disc_state_of c.self.inside) (new_of c) (said_of c) c.has_laws.ensures.laws c.self.invariant.sound (made_of c);
-  ahead = c.self.invariant.ahead;
-}
+invariant_of-self c = read_sound (disc_state_of c.self.inside) (new_of c) (said_of c) c.has_laws.ensures.laws c.self.invariant (made_of c)
 
 pub returns : goal.returns
 returns c = subst (λ (t : DiscState). IsRead t (said_of c) (new_of c)) c.self.view_is (made_of c)

@@ -1,5 +1,4 @@
-use Rattle.std.proofs.Common.{◌≡◌, ◌+◌, ap, subst, sym, ◌∙◌, arith}
-use Rattle.sched_core.specs.Schedulers.{Scheduler}
+use Rattle.std.proofs.Common.{◌≡◌, ◌+◌, ap, subst, sym, ◌∙◌}
 use Rattle.queue_disc_core.specs.declared.totals.QueueDiscTotals.{QueueDiscTotals}
 use Rattle.queue_disc_core.specs.QueueDiscKept.{IsSoundDisc, disc_state_of}
 use Rattle.queue_disc_core.specs.QueueDiscs.{IsDue, open_scheduler, renewed, totals_of}
@@ -13,11 +12,8 @@ invariant_of-self c =
     let total : c.totals-totals.result ≡ totals_of old = c.totals-totals.ensures.value ∙ ap totals_of (sym c.self.view_is) in
     let balance = subst (λ (t : QueueDiscTotals). t.accepted ≡ t.sent + t.dropped_codel + t.dropped_overflow + t.flushed + t.queued) total c.totals-totals.ensures.balance in
     let sched : c.in-Ok.sched ≡ open_scheduler old.sched.params old.sched.seed = c.in-Ok.ensures ∙ (λ i. open_scheduler (c.params.ensures i) (c.seed.ensures i)) in
-    record {
-      sound = subst IsSoundDisc (λ i. record old { sched = sym sched i; flushed_counts = sym c.none-self-inside.ensures i; past = sym total i })
-          (renewed_sound old due c.self.invariant.sound balance (c.has_laws.ensures.queued ∙ due.idle));
-      ahead = omega (arith, ap (λ (s : Scheduler). s.room) c.in-Ok.ensures, c.limit.ensures.value, c.from.ensures);
-    }
+    subst IsSoundDisc (λ i. record old { sched = sym sched i; flushed_counts = sym c.none-self-inside.ensures i; past = sym total i })
+    (renewed_sound old due c.self.invariant balance (c.has_laws.ensures.queued ∙ due.idle))
 
 pub returns-clause-made : goal.returns-clause-made
 returns-clause-made c =
