@@ -45,7 +45,7 @@ fn awaited_after(awaited: Option<ValueKind>, word: &str) -> Option<ValueKind>
 {
     match awaited {
         Some(_) => None,
-        None => value_kind_of(word),
+        None => kind_of(word),
     }
 }
 
@@ -61,7 +61,7 @@ fn plain_word(alloc: Global, awaited: Option<ValueKind>, word: &str) -> Result<S
 
 /// What the value is that a word has after it, if it has one.
 #[tactic(auto, using(crate::proofs::TextLemmas::differ), unfolding(crate::specs::PlainWords::value_kind_of))]
-fn value_kind_of(word: &str) -> Option<ValueKind>
+fn kind_of(word: &str) -> Option<ValueKind>
     ensures { result ≡ value_kind_of word.now }
 {
     match word {

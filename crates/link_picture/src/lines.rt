@@ -86,7 +86,7 @@ fn place_of_most(counts: &[u64]) -> Option<usize>
 }
 
 /// The line of the five-tuple with that number: its place among those chosen. All others have the one after these.
-pub fn line_number_of(chosen: &[u64], tuple: u64) -> usize
+pub fn line_of(chosen: &[u64], tuple: u64) -> usize
     ensures { result ≡ line_number_of chosen.now tuple }
 {
     for (line, number) in chosen.iter().enumerate() {
@@ -108,7 +108,7 @@ pub fn packets_on(
 {
     let mut own = Vec::new(alloc);
     for packet in packets {
-        if line_number_of(chosen, packet.tuple) == line {
+        if line_of(chosen, packet.tuple) == line {
             own.push(*packet)?;
         }
     }

@@ -88,7 +88,7 @@ pub fn rate_y(scale: &RateScale, rate: u128) -> u64
 }
 
 /// What was sent in a bin, in bits a second, rounded down.
-pub fn bin_rate_of(axis: &Axis, bin: &Bin) -> u128
+pub fn rate_of(axis: &Axis, bin: &Bin) -> u128
     ensures { result ≡ bin_rate_of axis.now.width bin.now }
 {
     u128::from(bin.sent_bytes) * 8_000_000 / u128::from(axis.width)
@@ -156,7 +156,7 @@ pub fn rate_points(
     for (place, bin) in bins.iter().enumerate() {
         points.push(Point {
             x: bin_x(axis.count, place as u64),
-            y: rate_y(scale, bin_rate_of(axis, bin)),
+            y: rate_y(scale, rate_of(axis, bin)),
         })?;
     }
     Ok(points)

@@ -35,11 +35,11 @@ fn write_steps(table: &mut Table, steps: &[Step]) -> Result<(), Memory>
 fn any_ipv6(steps: &[Step]) -> bool
     ensures { result ≡ any_ipv6 steps.now }
 {
-    steps.iter().any(is_ipv6_step)
+    steps.iter().any(is_ipv6)
 }
 
 /// Whether a step's packet has an address of IPv6.
-fn is_ipv6_step(step: &Step) -> bool
+fn is_ipv6(step: &Step) -> bool
     ensures { result ≡ is_ipv6_step step.now }
 {
     match step {

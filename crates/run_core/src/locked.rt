@@ -242,14 +242,14 @@ fn rows_of<A: Ledger, S: Ledger>(
         if stop != Stop::Done {
             return Err(SendersFault::Memory);
         }
-        rows.push(sender_row_of(calls, &seat))?;
+        rows.push(row_of(calls, &seat))?;
         seats.push(seat)?;
     }
     Ok((rows, seats))
 }
 
 /// The row of a sender that made so many calls.
-fn sender_row_of<A: Ledger, S: Ledger>(calls: u64, seat: &PortSeat<A, S>) -> SenderRow
+fn row_of<A: Ledger, S: Ledger>(calls: u64, seat: &PortSeat<A, S>) -> SenderRow
     ensures { result ≡ sender_row_of calls seat.now }
 {
     let accepted = seat.accepted();
