@@ -3,7 +3,8 @@
 //! What a monitor reads tells a proof only what its type says. So whatever is shown carries a `Front`, a beginning of
 //! one log that only grows. Two fronts of one book begin that log, so the shorter one begins the longer.
 
-ghost use Rattle.std.specs.Prelude.{◌≡◌, ◌+◌, ◌≤◌, ◌<◌, ◌^◌, ◌++◌, ◌∷◌, [], drop, length, IsTrue};
+ghost use Rattle.std.specs.Prelude.{◌≡◌, ◌+◌, ◌≤◌, ◌<◌, ◌^◌, ◌++◌, ◌∷◌, ◌⊎◌, [], drop, false, length, IsTrue};
+ghost use Rattle.monitor_core.specs.declared.book.TheConstants.{MAX_BATCHES};
 ghost use mathlib.Core.List.{IsPrefix};
 ghost use Rattle.monitor_core.specs.Batches.{BeginOne, batch, joined};
 ghost use Rattle.monitor_core.specs.BookRules.{head_of};
@@ -191,6 +192,8 @@ impl<J: BookName> Front<J> {
     /// or has entries that this front is without.
     pub(crate) fn add<Q: Journaled>(&mut self, book: &Book<J>, from: u64, journal: &Q) -> bool
         ensures added { IsTrue result → self.new ≡ self.old ++ batch (drop from (Q.events journal.now)) ∷ [] }
+        ensures not_added { result ≡ false
+            → (MAX_BATCHES ≤ length self.old) ⊎ (length self.old < length self.new) }
         ensures prefix { IsPrefix self.old self.new }
     {
         if self.batches >= MAX_BATCHES {

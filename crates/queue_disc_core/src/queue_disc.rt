@@ -268,23 +268,21 @@ impl QueueDisc {
             && moment >= self.sched.last_moment()
     }
 
-    /// Goes on with a scheduler as new, if there is memory for it, and answers whether it does.
-    fn renew(&mut self) -> bool
+    /// Goes on with a scheduler as new, if there is memory for it.
+    fn renew(&mut self) -> Result<(), Memory>
         requires { IsDue self.old }
-        ensures made { result ≡ true → self.new ≡ renewed self.old }
-        ensures refused { result ≡ false → self.new ≡ self.old }
+        ensures made { OnOk result (self.new ≡ renewed self.old) }
+        ensures refused { OnErr result (self.new ≡ self.old) }
     {
         let totals = self.totals();
         has_laws(&self.sched);
         let alloc = self.sched.recorder().allocator();
         let params = *self.sched.params();
-        let Ok(sched) = open_sched(alloc, params, self.sched.seed()) else {
-            return false;
-        };
+        let sched = open_sched(alloc, params, self.sched.seed())?;
         self.past = totals;
         self.flushed_counts = FlushedCounts::none();
         self.sched = sched;
-        true
+        Ok(())
     }
 
     /// The same after a renewal, if there is memory for it.
@@ -305,7 +303,7 @@ impl QueueDisc {
     {
         let renewed = self.renew();
         let said = self.accept(moment, packet)?;
-        self.packets.note_renewal(renewed, moment);
+        self.packets.note_renewal(renewed.is_ok(), moment);
         Ok(said)
     }
 

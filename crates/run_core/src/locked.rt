@@ -83,7 +83,7 @@ fn run_lists<A: Ledger + Send + Sync, S: Ledger + Send + Sync, H: Threads + Wait
         ensures { IfOk result (λ r. (r.lane ≡ seat.lane) × (r.told ≡ seat.told)) }
     { device_part(rt, shared, seat, steps) };
     let (done, part) = start_locked(rt, alloc, &port, seats, lists, &gates, part)?;
-    let seat = emptied(rt, &port, part?, steps.len())?;
+    let seat = emptied(rt, &port, part?, steps)?;
     let (rows, mut seats) = rows_of(alloc, done)?;
     seats.push(seat)?;
     match port.settle(seats) {
@@ -152,23 +152,23 @@ fn close<A: Ledger, S: Ledger, H: Wait>(
     closed_once(port.close(rt, moment))
 }
 
-/// Closes, unless there was a close, and takes packets at the last moment until none waits, or one more than `most` are
-/// taken.
+/// Closes, unless there was a close, and takes packets at the last moment until none waits, or one more than there are
+/// steps are taken.
 fn emptied<A: Ledger, S: Ledger, H: Wait>(
     rt: &H,
     port: &LockedPort<A, S>,
     seat: PortSeat<A, S>,
-    most: usize,
+    steps: &[Step],
 ) -> Result<PortSeat<A, S>, Refusal>
     ensures closed { OnOk result (((at : ℕ) × IsClosedBy 0 at) ⊎ IsRefusedBy Close 0 ClosedAlready) }
     ensures seat { IfOk result (λ r. (r.lane ≡ seat.lane) × (r.told ≡ seat.told)) }
-    ensures ends { IfOk result (λ r. IsServedBy 0 None ⊎ (r.sent ≡ seat.sent + (most + 1))) }
-    ensures most { IfOk result (λ r. (seat.sent ≤ r.sent) × (r.sent ≤ seat.sent + (most + 1))) }
+    ensures ends { IfOk result (λ r. IsServedBy 0 None ⊎ (r.sent ≡ seat.sent + (length steps.now + 1))) }
+    ensures most { IfOk result (λ r. (seat.sent ≤ r.sent) × (r.sent ≤ seat.sent + (length steps.now + 1))) }
 {
     let mut seat = seat;
     // A step at 0 is made at the last moment.
     close(rt, port, 0)?;
-    for _packet in 0..=most {
+    for _packet in 0..=steps.len() {
         if port.dequeue(rt, &mut seat, 0)?.is_none() {
             return Ok(seat);
         }
