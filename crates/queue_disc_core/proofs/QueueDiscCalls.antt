@@ -1,6 +1,6 @@
 -- What the calls of a queue disc say.
 use Rattle.std.proofs.Common.{◌≡◌, ◌≢◌, ℕ, ◌+◌, ◌-◌, ◌<◌, ◌≤◌, ◌^◌, ◌⊎◌, Bool, true, false, List, ◌++◌, length, map, sum_by, Option, Some, None, option_map, Result, Ok, Err, IsSomeAnd, refl, ap, subst, sym, ◌∙◌, inl, inr, arith, append-nil}
-use Rattle.std.specs.Prelude.{IfErr, IfOk, IfSome, OnErr}
+use Rattle.std.specs.Prelude.{IfErr, IfOk, IfSome, OnErr, OnOk, is_ok}
 use Rattle.std.proofs.lemmas.List.Sums.{sum_by-append}
 use Rattle.packet_core.specs.Packets.{PacketParts}
 use Rattle.packet_core.specs.declared.flow.Seed.{Seed}
@@ -167,6 +167,15 @@ ready_by old mid true made refused = inr (made refl)
 ready_by old mid false made refused = inl (refused refl)
 
 -- Where a renewal was due it was made, or the moment is noted.
+-- What is said of a call that answers Ok holds where it answered so, and what is said of one that answers Err too.
+pub on_ok : {A E X : Type 0} (r : Result A E) → is_ok r ≡ true → OnOk r X → X
+on_ok (Ok a) good said = said
+on_ok (Err e) good said = absurd cc
+
+pub on_err : {A E X : Type 0} (r : Result A E) → is_ok r ≡ false → OnErr r X → X
+on_err (Ok a) bad said = absurd cc
+on_err (Err e) bad said = said
+
 pub noted : (old mid after new : DiscState) (moment : ℕ) (packet : PacketParts) (said : Enqueued) (renewal : Bool) → (renewal ≡ true → mid ≡ renewed old) → (renewal ≡ false → mid ≡ old)
     → (renewal ≡ true → new ≡ after) → (renewal ≡ false → new ≡ unrenewed after moment) → IsDue old → IsDiscAccepted mid moment packet said after
     → IsEnqueued old moment packet said new
