@@ -114,7 +114,7 @@ impl EnqueueRoom {
         let events = fair_queue.waiting() + 1 + 2 * enqueues;
         journal.reserve(events as usize)?;
         fair_queue.reserve(enqueues)?;
-        let reserved = self.enqueues.saturating_sub(self.ahead);
+        let reserved = self.reserved();
         self.enqueues = enqueues;
         self.ahead = enqueues - reserved;
         Ok(())
