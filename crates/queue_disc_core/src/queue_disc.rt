@@ -199,8 +199,9 @@ impl QueueDisc {
     ) -> Result<QueueDisc, Memory>
         ensures { IfOk result (λ s. s ≡ new_disc params seed renew_after) }
     {
+        let sched = open_sched(alloc, params, seed)?;
         Ok(QueueDisc {
-            sched: open_sched(alloc, params, seed)?,
+            sched,
             unread: 0,
             flushed_counts: FlushedCounts::none(),
             past: QueueDiscTotals::none(),
