@@ -219,8 +219,8 @@ void maltcove_free(maltcove *m);
  * as drop_batch at once. admitted->drops says how many, and they have to be read before the next enqueue.
  *
  * Answers MALTCOVE_OK, MALTCOVE_NULL, MALTCOVE_NOT_OPEN, MALTCOVE_BAD_PACKET (len, ecn or version), MALTCOVE_UNREAD,
- * MALTCOVE_TOO_LARGE, MALTCOVE_BACKWARDS, MALTCOVE_CLOSED, MALTCOVE_EXHAUSTED or MALTCOVE_MEMORY: the first that
- * applies.
+ * MALTCOVE_TOO_LARGE, MALTCOVE_BACKWARDS, MALTCOVE_CLOSED or MALTCOVE_EXHAUSTED: the first that applies. It never
+ * answers MALTCOVE_MEMORY.
  *
  * The end of ids. A scheduler has ids for 2^40 packets, which are 12.7 days at a million a second. It renews itself:
  * after 2^39 packets, at the first enqueue that finds nothing waiting and all drops read, it goes on with flows and

@@ -235,10 +235,10 @@ static void count_bytes(void)
 		size_t kib;
 	} of[] = {
 		{ "limit 1", 490 },
-		{ "limit 1000", 614 },
-		{ "", 1769 },
-		{ "limit 1000 flows 65536", 31421 },
-		{ "limit 1048576", 131561 },
+		{ "limit 1000", 592 },
+		{ "", 1530 },
+		{ "limit 1000 flows 65536", 31399 },
+		{ "limit 1048576", 106986 },
 	};
 
 	left = -1;

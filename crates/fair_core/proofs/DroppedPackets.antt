@@ -113,6 +113,7 @@ drops_join book moment why ws (v ∷ vs) =
       lost = sym (append_assoc b.lost (v ∷ []) vs) i;
       counts = count_drops why b.counts (v ∷ vs);
       room = room_is i;
+      made_for = b.made_for;
     }
       where
         room_is : b.room - length (v ∷ vs) ≡ (b.room - 1) - length vs

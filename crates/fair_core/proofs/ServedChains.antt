@@ -44,7 +44,7 @@ module _ (p : ParamFields) (now : ℕ) (old : Held) (head : Head) (at : head_of 
           given = refl;
           journal = drops_none book now cause.Codel;
           arrived = ap (λ (n : Held). n.arrived) new_is;
-          room = ap (λ (n : Held). n.room) new_is;
+          capacity = ap (λ (n : Held). n.capacity) new_is;
           few_comparisons = counts_none (length old.queues.lists.queues) old.comparisons new.comparisons (ap (λ (n : Held). n.comparisons) new_is);
         };
       }
@@ -85,7 +85,7 @@ module _ (p : ParamFields) (now : ℕ) (old : Held) (head : Head) (at : head_of 
             given = given;
             journal = rw (empty, zero_drops) at q.journal;
             arrived = ap (λ (n : Held). n.arrived) new_is;
-            room = ap (λ (n : Held). n.room) new_is;
+            capacity = ap (λ (n : Held). n.capacity) new_is;
             few_comparisons = rw (ap (λ (n : Held). n.comparisons) new_is) (rw none_left at q.few_comparisons);
           };
         }
@@ -110,7 +110,7 @@ module _ (p : ParamFields) (now : ℕ) (old : Held) (head : Head) (at : head_of 
                 given = given;
                 journal = q.journal;
                 arrived = ap (λ (n : Held). n.arrived) mid_is;
-                room = ap (λ (n : Held). n.room) mid_is;
+                capacity = ap (λ (n : Held). n.capacity) mid_is;
                 few_comparisons = rw (ap (λ (n : Held). n.comparisons) mid_is, ← found_leaves (queue_of old.queues head.flow) q.drops w is) q.few_comparisons;
               };
             }
@@ -143,7 +143,7 @@ module _ (p : ParamFields) (now : ℕ) (old : Held) (book : Book) where
       given = refl;
       journal = drops_none book now cause.Codel;
       arrived = refl;
-      room = refl;
+      capacity = refl;
       few_comparisons = counts_none (length old.queues.lists.queues) old.comparisons old.comparisons refl;
     };
     queues = refl;
@@ -159,7 +159,7 @@ module _ (p : ParamFields) (now : ℕ) (old : Held) (book : Book) where
     given = then'.given;
     journal = then'.journal ∙ ap (λ (b : Book). with_drops b now cause.Codel (dropped_in service)) (first.journal ∙ sym (drops_none book now cause.Codel));
     arrived = then'.arrived ∙ first.arrived;
-    room = then'.room ∙ first.room;
+    capacity = then'.capacity ∙ first.capacity;
     few_comparisons = counts_behind (length old.queues.lists.queues) (leaving service) old.comparisons mid.comparisons new.comparisons first.few_comparisons (rw (ap length same) at then'.few_comparisons);
   }
 

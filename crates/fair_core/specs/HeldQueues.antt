@@ -21,12 +21,12 @@ use Rattle.fair_core.specs.FqCodel.{fq_codel_policy}
 use Rattle.fair_core.specs.Overflow.{Overflow, batch_of, without_batch}
 use Rattle.fair_core.specs.Turns.{Chain, Service, Turn, TurnMade, service_by, service_in}
 
--- the flows as the scheduler sees them: how many packets came so far, how many more may come without taking memory, and
--- how often two flows' bytes were compared since the last clear
+-- the flows as the scheduler sees them: how many packets came so far, for how many there is memory, and how often two
+-- flows' bytes were compared since the last clear
 pub record Held : Type 0 where
   pub queues : FairQueues
   pub arrived : ℕ
-  pub room : ℕ
+  pub capacity : ℕ
   pub comparisons : ℕ
 
 -- what is held, once the flows are so, with those flow states
@@ -34,7 +34,7 @@ abbrev pub with_holding : Held → Holding → List FlowState → Held
 with_holding old flows flow_states = record {
   queues = record { lists = flows.lists; flow_states = flow_states };
   arrived = old.arrived;
-  room = flows.room;
+  capacity = flows.capacity;
   comparisons = flows.comparisons;
 }
 
@@ -42,13 +42,13 @@ abbrev pub held_of : Inside → Held
 held_of b = record {
   queues = record { lists = b.flows.lists; flow_states = b.flow_states.items };
   arrived = b.arrived;
-  room = b.flows.room;
+  capacity = b.flows.capacity;
   comparisons = b.flows.comparisons;
 }
 
 -- the flows of what is held
 abbrev pub held_flows : Held → Holding
-held_flows h = record { lists = h.queues.lists; room = h.room; comparisons = h.comparisons }
+held_flows h = record { lists = h.queues.lists; capacity = h.capacity; comparisons = h.comparisons }
 
 -- The numbers of a flow state fit: CoDel's count is of packets that came, and so many that wait did not count yet.
 pub record IsFlowStateInRange (flow_state : FlowState) (waiting arrived : ℕ) : Type 0 where
@@ -133,7 +133,7 @@ pub record IsAnswered (now : ℕ) (service : Option Service) (old : Held) (book 
   pub given : answer ≡ option_map shown_service service
   pub journal : book' ≡ with_drops book now cause.Codel (dropped_in service)
   pub arrived : new.arrived ≡ old.arrived
-  pub room : new.room ≡ old.room
+  pub capacity : new.capacity ≡ old.capacity
   pub few_comparisons : CountsFew (length old.queues.lists.queues) (leaving service) old.comparisons new.comparisons
 
 -- A turn is made, with that answer.

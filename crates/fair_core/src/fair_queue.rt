@@ -1,6 +1,6 @@
 //! The packets that wait in flows that take turns, and what arrives, is served and overflows.
 
-ghost use Rattle.std.specs.Prelude.{◌≡◌, ℕ, ◌+◌, ◌^◌, ◌<◌, ◌≤◌, ◌↔◌, IfOk, IfSome, IsTrue, OnErr, OnOk, Some, length, min, pos, ◌<ℤ◌, ◌≤ℤ◌};
+ghost use Rattle.std.specs.Prelude.{◌≡◌, ℕ, ◌+◌, ◌^◌, ◌<◌, ◌≤◌, ◌↔◌, IfOk, IfSome, IsTrue, OnErr, OnOk, Some, length, max, min, pos, ◌<ℤ◌, ◌≤ℤ◌};
 ghost use Rattle.codel_core.specs.Schedule.{IsStateInRange};
 ghost use Rattle.flow_core.specs.FlowLists.{queue_at, waiting_in};
 ghost use Rattle.flow_core.specs.Winners.{CountsFew};
@@ -67,7 +67,8 @@ impl FairQueue {
     pub fn try_new(alloc: Global, flows: u32) -> Result<FairQueue, Memory>
         requires least { 1 ≤ flows }
         requires most { flows ≤ 65536 }
-        ensures { IfOk result (λ b. (b.queues ≡ no_queues flows) × (b.arrived ≡ 0) × (b.comparisons ≡ 0)) }
+        ensures { IfOk result (λ b.
+            (b.queues ≡ no_queues flows) × (b.arrived ≡ 0) × (b.capacity ≡ 0) × (b.comparisons ≡ 0)) }
     {
         let flow_state = FlowState {
             credits: 0,
@@ -80,15 +81,16 @@ impl FairQueue {
         })
     }
 
-    /// Takes memory for so many packets more, into whatever flows. It fails only where that much room was missing.
+    /// Takes memory for so many packets more than wait, into whatever flows. It fails only where there is less.
     pub fn reserve(&mut self, arrivals: u64) -> Result<(), Memory>
         requires { arrivals ≤ 2 ^ 40 }
         ensures queues { self.new.queues ≡ self.old.queues }
         ensures arrived { self.new.arrived ≡ self.old.arrived }
-        ensures room { self.old.room ≤ self.new.room }
+        ensures capacity { self.old.capacity ≤ self.new.capacity }
         ensures comparisons { self.new.comparisons ≡ self.old.comparisons }
-        ensures ok { OnOk result (arrivals ≤ self.new.room) }
-        ensures missing { OnErr result (self.old.room < arrivals) }
+        ensures ok { OnOk result (self.new.capacity
+            ≡ max self.old.capacity (waiting_in self.old.queues.lists + arrivals)) }
+        ensures missing { OnErr result (self.old.capacity < waiting_in self.old.queues.lists + arrivals) }
         ensures err { OnErr result (self.new ≡ self.old) }
     {
         self.flows.reserve(arrivals)
@@ -176,11 +178,11 @@ impl FairQueue {
     #[inline(always)]
     pub fn arrive(&mut self, flow: u32, waiting: Waiting, params: &Params)
         requires flow { flow < length self.old.queues.lists.queues }
-        requires room { 0 < self.old.room }
+        requires capacity { waiting_in self.old.queues.lists < self.old.capacity }
         requires few { self.old.arrived < 2 ^ 40 }
         ensures queues { self.new.queues ≡ with_arrival_listed params.now self.old.queues flow waiting }
         ensures arrived { self.new.arrived ≡ self.old.arrived + 1 }
-        ensures room { self.new.room + 1 ≡ self.old.room }
+        ensures capacity { self.new.capacity ≡ self.old.capacity }
         ensures few_comparisons { CountsFew (length self.old.queues.lists.queues) 1
             self.old.comparisons self.new.comparisons }
         ensures compares { 2 ≤ length self.old.queues.lists.queues
@@ -252,7 +254,7 @@ impl FairQueue {
         requires room { waiting_in self.old.queues.lists ≤ journal.old.room }
         ensures chain { MakesChain params.now now self.old journal.old result.turns result.served self.new journal.new }
         ensures arrived { self.new.arrived ≡ self.old.arrived }
-        ensures room { self.new.room ≡ self.old.room }
+        ensures capacity { self.new.capacity ≡ self.old.capacity }
         ensures sound { AreSound self.old.queues }
         ensures quantum { 0 < params.now.quantum }
     {

@@ -6,7 +6,7 @@ use Rattle.std.proofs.lemmas.Bool.{cases_eq, cases_lt}
 use Rattle.std.proofs.lemmas.List.{ext_get_or, get_or_default, get_or-set_other, get_or-set_same, length-map, length-set, map-append, set-get_or}
 use Rattle.std.proofs.lemmas.List.Sums.{sum_by-set}
 use Rattle.packet_core.specs.declared.packet.Waiting.{Waiting}
-use Rattle.slab.specs.Slab.{ContainsKey, HasRoomFor, Slab, Updates, get, slab_len, with_value}
+use Rattle.slab.specs.Slab.{ContainsKey, Slab, Updates, get, slab_len, with_value}
 use Rattle.slab.proofs.SlabLemmas.{ContainsKey-within, Updates-with_value}
 use Rattle.flow_core.specs.declared.limits.TheConstants.{MAX_WAITING}
 use Rattle.flow_core.specs.declared.linked_queues.Chain.{Chain}
@@ -34,7 +34,7 @@ pub record AreSeenAs (f : Inside) (queues : List (List Waiting)) : Type 0 where
   pub kept : AreChained f
   pub seen : (queues_of f).queues ≡ queues
 
--- A packet comes into a slot that no flow has, in room that was taken ahead. These slots are free afterwards.
+-- A packet comes into a slot that no flow has, in memory that was taken ahead. These slots are free afterwards.
 pub record Arrives (f : Inside) (kept : AreChained f) (new : Slab Link) (free : FreeSlots) (added : Placed) : Type 0 where
   pub absent : (flow : ℕ) → HasKey (kept.each flow).placed added.key → ⊥
   pub updates : Updates f.slots new added.key (Some (record { waiting = added.waiting; next = 0 }))
@@ -43,14 +43,15 @@ pub record Arrives (f : Inside) (kept : AreChained f) (new : Slab Link) (free : 
   pub unused : (flow key : ℕ) → HasKey (kept.each flow).placed key → HasKey freed.left key → ⊥
   pub counted : slab_len new + f.free.len ≡ slab_len f.slots + free.len + 1
   pub few : slab_len new ≤ MAX_WAITING
-  pub room : HasRoomFor new (f.room - 1 - free.len)
+  pub held : slab_len new ≤ new.capacity
+  pub fits : new.capacity ≡ f.slots.capacity
 
 module _ (f : Inside) (kept : AreChained f) (new : Slab Link) (free : FreeSlots) (added : Placed) where
   abbrev link_added : Link
   link_added = record { waiting = added.waiting; next = 0 }
 
   -- into a slot that was empty
-  arrives_new : f.free.len ≡ 0 → IsInserted f.slots new f.free free link_added added.key → sum_by length (queues_of f).queues < MAX_WAITING → 0 < f.room → Arrives f kept new free added
+  arrives_new : f.free.len ≡ 0 → IsInserted f.slots new f.free free link_added added.key → sum_by length (queues_of f).queues < MAX_WAITING → sum_by length (queues_of f).queues < f.capacity → Arrives f kept new free added
   arrives_new empty is size room =
       let len = ap (λ (s : FreeSlots). s.len) is.none in
       record {
@@ -61,12 +62,13 @@ module _ (f : Inside) (kept : AreChained f) (new : Slab Link) (free : FreeSlots)
         unused = λ flow key has none. none;
         counted = omega (arith, is.counted, len);
         few = omega (arith, is.counted, kept.counted, empty, size);
-        room = omega (arith, is.counted, is.capacity, kept.room, len, empty, room);
+        held = omega (arith, is.counted, is.capacity, kept.counted, kept.fits, empty, room);
+        fits = is.capacity;
       }
 
   -- into the first one of the free slots
-  arrives_again : 0 < f.free.len → IsReused f.slots new f.free free link_added added.key → 0 < f.room → Arrives f kept new free added
-  arrives_again some is room =
+  arrives_again : 0 < f.free.len → IsReused f.slots new f.free free link_added added.key → Arrives f kept new free added
+  arrives_again some is =
       let was = first_free f.slots f.free kept.freed.left kept.freed.first kept.freed.len kept.freed.linked kept.freed.once some in
       let there = has_slot f.slots kept.freed.left f.free.first kept.freed.linked was.has in
       let updates : Updates f.slots new added.key (Some link_added) = rw (is.was_first, is.written) (Updates-with_value f.slots f.free.first link_added there) in
@@ -89,14 +91,15 @@ module _ (f : Inside) (kept : AreChained f) (new : Slab Link) (free : FreeSlots)
         unused = λ flow key has there. kept.unused flow key has (was.among key there);
         counted = omega (arith, same, len, some);
         few = omega (arith, same, kept.few);
-        room = omega (arith, same, capacity, kept.room, len, some, room);
+        held = omega (arith, same, capacity, kept.held);
+        fits = capacity;
       }
 
   pub arrives : (f.free.len ≡ 0 → IsInserted f.slots new f.free free link_added added.key) → (0 < f.free.len → IsReused f.slots new f.free free link_added added.key)
-      → sum_by length (queues_of f).queues < MAX_WAITING → 0 < f.room → Arrives f kept new free added
+      → sum_by length (queues_of f).queues < MAX_WAITING → sum_by length (queues_of f).queues < f.capacity → Arrives f kept new free added
   arrives inserted reused size room =
       elim (cases_lt 0 f.free.len) [
-        | inl some ↦ arrives_again some (reused some) room
+        | inl some ↦ arrives_again some (reused some)
         | inr none ↦ let empty : f.free.len ≡ 0 = omega arith in arrives_new empty (inserted empty) size room
       ]
 
@@ -140,7 +143,7 @@ module _ (f : Inside) (kept : AreChained f) (flow : ℕ) (within : flow < length
       subst (λ (c : Chain). HasEnds held c) (get_or_default f.chains.items flow no_packets read has_chain ∙ sym found) (kept.each flow).is
 
   -- ends that are written as they were change nothing
-  pub ends_written : (read : Chain) → read ≡ get_or f.chains.items flow read → AreChained (record { slots = f.slots; chains = with_item f.chains flow read; free = f.free; room = f.room })
+  pub ends_written : (read : Chain) → read ≡ get_or f.chains.items flow read → AreChained (record { slots = f.slots; chains = with_item f.chains flow read; free = f.free; capacity = f.capacity })
   ends_written read found =
       let same : set f.chains.items flow read ≡ f.chains.items = ap (λ (c : Chain). set f.chains.items flow c) found ∙ set-get_or f.chains.items flow read in
       record {
@@ -151,7 +154,8 @@ module _ (f : Inside) (kept : AreChained f) (flow : ℕ) (within : flow < length
         counted = rw same kept.counted;
         flows = kept.flows;
         few = kept.few;
-        room = kept.room;
+        held = kept.held;
+        fits = kept.fits;
       }
 
   module _ (new : Slab Link) (free : FreeSlots) (ps : List Placed) (ends : Chain) (are : Replaces f kept flow new free ps) (is : HasEnds ps ends) where
@@ -184,8 +188,8 @@ module _ (f : Inside) (kept : AreChained f) (flow : ℕ) (within : flow < length
         ∙ sym (get_or-set_other (queues_of f).queues flow other (waitings ps) [] ne ∙ chain_seen f.slots f.chains.items other (kept.each other))
 
     -- the flow's queue is another one
-    queue_set : (room : ℕ) → slab_len new ≤ MAX_WAITING → HasRoomFor new (room - free.len) → AreSeenAs (record { slots = new; chains = with_item f.chains flow ends; free = free; room = room }) (set (queues_of f).queues flow (waitings ps))
-    queue_set room few fits =
+    queue_set : slab_len new ≤ MAX_WAITING → slab_len new ≤ new.capacity → new.capacity ≡ f.slots.capacity → AreSeenAs (record { slots = new; chains = with_item f.chains flow ends; free = free; capacity = f.capacity }) (set (queues_of f).queues flow (waitings ps))
+    queue_set few held_in fits =
         let seen = ext_get_or [] (map (packets_of new) (set f.chains.items flow ends)) (set (queues_of f).queues flow (waitings ps))
         (simp (length-map, length-set)) (λ other _. seen_by other (cases_eq other flow)) in
         record {
@@ -198,14 +202,15 @@ module _ (f : Inside) (kept : AreChained f) (flow : ℕ) (within : flow < length
                 rw seen (omega (arith, count, kept.counted, are.counted, length_seen, length-map ps (λ (p : Placed). p.waiting)));
             flows = kept.flows;
             few = few;
-            room = fits;
+            held = held_in;
+            fits = rw fits kept.fits;
           };
           seen = seen;
         }
 
   -- a packet comes to the end of the flow's queue
   pushed : (mid new : Slab Link) (free : FreeSlots) (added : Placed) (ends : Chain) → Arrives f kept mid free added → slab_len new ≡ slab_len mid → new.capacity ≡ mid.capacity → Extends f.slots new held added → HasEnds (held ++ added ∷ []) ends
-      → AreSeenAs (record { slots = new; chains = with_item f.chains flow ends; free = free; room = f.room - 1 }) (set (queues_of f).queues flow (queue_seen ++ added.waiting ∷ []))
+      → AreSeenAs (record { slots = new; chains = with_item f.chains flow ends; free = free; capacity = f.capacity }) (set (queues_of f).queues flow (queue_seen ++ added.waiting ∷ []))
   pushed mid new free added ends arrives same fits extends is =
       let differs : (key : ℕ) → HasKey arrives.freed.left key → key ≢ added.key = λ key has (same : key ≡ added.key). arrives.apart (subst (λ (k : ℕ). HasKey arrives.freed.left k) same has) in
       let are : Replaces f kept flow new free (held ++ added ∷ []) = record {
@@ -235,7 +240,7 @@ module _ (f : Inside) (kept : AreChained f) (flow : ℕ) (within : flow < length
       } in
       let queue : queue_seen ++ added.waiting ∷ [] ≡ waitings (held ++ added ∷ []) =
       ap (λ (ws : List Waiting). ws ++ added.waiting ∷ []) at_seen ∙ sym (map-append (λ (p : Placed). p.waiting) held (added ∷ [])) in
-      rw queue (queue_set new free (held ++ added ∷ []) ends are is (f.room - 1) (omega (arith, same, arrives.few)) (omega (arith, same, fits, arrives.room)))
+      rw queue (queue_set new free (held ++ added ∷ []) ends are is (omega (arith, same, arrives.few)) (omega (arith, same, fits, arrives.held)) (fits ∙ arrives.fits))
 
   -- it comes behind the last one
   pub pushed_behind : (mid : Slab Link) (free : FreeSlots) (added : Placed) (chain : Chain) (link : Link) → Arrives f kept mid free added → HasEnds held chain → chain.len ≢ 0 → get mid chain.last ≡ Some link
@@ -244,7 +249,7 @@ module _ (f : Inside) (kept : AreChained f) (flow : ℕ) (within : flow < length
         slots = with_value mid chain.last (record { waiting = link.waiting; next = added.key });
         chains = with_item f.chains flow (record { first = chain.first; last = added.key; len = chain.len + 1 });
         free = free;
-        room = f.room - 1;
+        capacity = f.capacity;
       })
       (set (queues_of f).queues flow (queue_seen ++ added.waiting ∷ []))
   pushed_behind mid free added chain link arrives ends some found =
@@ -256,7 +261,7 @@ module _ (f : Inside) (kept : AreChained f) (flow : ℕ) (within : flow < length
 
   -- it comes to an empty flow
   pub pushed_first : (mid : Slab Link) (free : FreeSlots) (added : Placed) (chain : Chain) → Arrives f kept mid free added → HasEnds held chain → chain.len ≡ 0
-      → AreSeenAs (record { slots = mid; chains = with_item f.chains flow (record { first = added.key; last = added.key; len = 1 }); free = free; room = f.room - 1 })
+      → AreSeenAs (record { slots = mid; chains = with_item f.chains flow (record { first = added.key; last = added.key; len = 1 }); free = free; capacity = f.capacity })
       (set (queues_of f).queues flow (queue_seen ++ added.waiting ∷ []))
   pushed_first mid free added chain arrives ends empty =
       let none = ends_empty held chain ends empty in
@@ -270,7 +275,7 @@ module _ (f : Inside) (kept : AreChained f) (flow : ℕ) (within : flow < length
         slots = with_value f.slots chain.first (record { waiting = first.waiting; next = f.free.first });
         chains = with_item f.chains flow (record { first = first.next; last = chain.last; len = chain.len - 1 });
         free = record { first = chain.first; len = f.free.len + 1 };
-        room = f.room;
+        capacity = f.capacity;
       })
       (set (queues_of f).queues flow (drop 1 queue_seen))
       × (Some first.waiting ≡ slice_get queue_seen 0)
@@ -313,15 +318,15 @@ module _ (f : Inside) (kept : AreChained f) (flow : ℕ) (within : flow < length
       } in
       let queue : queue_seen ≡ split.head.waiting ∷ waitings split.rest = at_seen ∙ ap waitings split.is in (
         rw queue
-            (queue_set new (record { first = chain.first; len = f.free.len + 1 }) split.rest (record { first = first.next; last = chain.last; len = chain.len - 1 }) are split.left f.room
-            (omega (arith, same_len, kept.few)) (omega (arith, same_len, kept.room))),
+            (queue_set new (record { first = chain.first; len = f.free.len + 1 }) split.rest (record { first = first.next; last = chain.last; len = chain.len - 1 }) are split.left
+            (omega (arith, same_len, kept.few)) (omega (arith, same_len, kept.held)) refl),
         ap Some split.waiting ∙ ap (λ (ws : List Waiting). slice_get ws 0) (sym queue),
       )
 
 -- more memory changes no chain
-pub grown : (f : Inside) (kept : AreChained f) (capacity room : ℕ) → slab_len f.slots + (room - f.free.len) ≤ capacity
-    → AreChained (record { slots = record f.slots { capacity = capacity }; chains = f.chains; free = f.free; room = room })
-grown f kept capacity room fits = record {
+pub grown : (f : Inside) (kept : AreChained f) (memory capacity : ℕ) → f.slots.capacity ≤ memory → capacity ≤ memory
+    → AreChained (record { slots = record f.slots { capacity = memory }; chains = f.chains; free = f.free; capacity = capacity })
+grown f kept memory capacity more fits = record {
   each = λ flow. let c = kept.each flow in record { placed = c.placed; is = c.is; linked = c.linked; once = c.once };
   apart = kept.apart;
   freed = let c = kept.freed in record { left = c.left; first = c.first; len = c.len; linked = c.linked; once = c.once };
@@ -329,5 +334,6 @@ grown f kept capacity room fits = record {
   counted = kept.counted;
   flows = kept.flows;
   few = kept.few;
-  room = fits;
+  held = omega (arith, kept.held, more);
+  fits = fits;
 }

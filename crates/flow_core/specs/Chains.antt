@@ -1,6 +1,6 @@
 -- How one slab and the ends of each flow's chain give the queues, and what they keep.
 use Rattle.std.specs.Prelude.{◌≡◌, ◌⊎◌, ℕ, zero, suc, ◌+◌, ◌-◌, ◌≤◌, List, [], ◌∷◌, ◌++◌, Option, Some, None, get_or, length, map, sum_by, vec_len}
-use Rattle.slab.specs.Slab.{Slab, HasRoomFor, Updates, get, slab_len, with_value}
+use Rattle.slab.specs.Slab.{Slab, Updates, get, slab_len, with_value}
 use Rattle.packet_core.specs.declared.packet.Waiting.{Waiting}
 use Rattle.flow_core.specs.declared.linked_queues.Chain.{Chain}
 use Rattle.flow_core.specs.declared.linked_queues.LinkedQueues.TheInside.{Inside}
@@ -35,7 +35,7 @@ packets_of slots chain = packets_from slots chain.len chain.first
 abbrev pub queues_of : Inside → Queues
 queues_of c = record {
   queues = map (packets_of c.slots) c.chains.items;
-  room = c.room;
+  capacity = c.capacity;
 }
 
 -- a packet and the key of its slot
@@ -110,7 +110,8 @@ pub record IsReused (old new : Slab Link) (free after : FreeSlots) (link : Link)
   pub others : after ≡ record { first = next_of (get old free.first); len = free.len - 1 }
 
 -- Each flow has a chain, and the free slots are one more. No two of them share a slot, and nothing else stands in the
--- slab. There are few enough flows and packets, and there is memory for the next pushes beside the free slots.
+-- slab. There are few enough flows and packets, and the slab has memory for its slots and for as many packets as are
+-- said.
 pub record AreChained (c : Inside) : Type 0 where
   pub each : (flow : ℕ) → IsChain c.slots (get_or c.chains.items flow no_packets)
   pub apart :
@@ -120,4 +121,5 @@ pub record AreChained (c : Inside) : Type 0 where
   pub counted : slab_len c.slots ≡ sum_by length (queues_of c).queues + c.free.len
   pub flows : vec_len c.chains ≤ MAX_FLOWS
   pub few : slab_len c.slots ≤ MAX_WAITING
-  pub room : HasRoomFor c.slots (c.room - c.free.len)
+  pub held : slab_len c.slots ≤ c.slots.capacity
+  pub fits : c.capacity ≤ c.slots.capacity

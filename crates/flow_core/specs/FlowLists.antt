@@ -9,11 +9,11 @@ pub record FlowLists : Type 0 where
   pub new_flows : List ℕ
   pub old_flows : List ℕ
 
--- the same as callers see it, with the number of pushes that take no memory, and how often two flows' bytes were
+-- the same as callers see it, with the number of packets for which there is memory, and how often two flows' bytes were
 -- compared since the last clear
 pub record Holding : Type 0 where
   pub lists : FlowLists
-  pub room : ℕ
+  pub capacity : ℕ
   pub comparisons : ℕ
 
 -- no packet, and no flow in a list

@@ -14,7 +14,7 @@ holding_of f = record {
     new_flows = f.listed.new_flows;
     old_flows = f.listed.old_flows;
   };
-  room = f.chains.room;
+  capacity = f.chains.capacity;
   comparisons = f.winners.comparisons;
 }
 

@@ -1,6 +1,6 @@
 //! The flows as callers see them, and the queue of one of them as a line that CoDel pulls from.
 
-ghost use Rattle.std.specs.Prelude.{◌≡◌, ◌+◌, ◌^◌, ◌<◌, ◌≤◌, ◌↔◌, [], ◌∷◌, ◌++◌, All, Contains, IfOk, IfSome, IsNone, IsTrue, OnErr, OnOk, Some, drop, length, min, option_copied, slice_get, take};
+ghost use Rattle.std.specs.Prelude.{◌≡◌, ◌+◌, ◌^◌, ◌<◌, ◌≤◌, ◌↔◌, [], ◌∷◌, ◌++◌, All, Contains, IfOk, IfSome, IsNone, IsTrue, OnErr, OnOk, Some, drop, length, max, min, option_copied, slice_get, take};
 ghost use Rattle.packet_core.specs.Packets.{IsLengthInRange};
 ghost use Rattle.codel_core.specs.Queue.{bytes_of};
 ghost use Rattle.flow_core.specs.Fattest.{IsFattest, bytes_at};
@@ -46,7 +46,7 @@ impl Flows {
     pub fn try_new(alloc: Global, flows: u32) -> Result<Flows, Memory>
         requires least { 1 ≤ flows }
         requires most { flows ≤ MAX_FLOWS }
-        ensures { IfOk result (λ f. (f.lists ≡ no_flows flows) × (f.comparisons ≡ 0)) }
+        ensures { IfOk result (λ f. (f.lists ≡ no_flows flows) × (f.capacity ≡ 0) × (f.comparisons ≡ 0)) }
     {
         Ok(Flows {
             chains: LinkedQueues::try_new(alloc, flows)?,
@@ -56,29 +56,29 @@ impl Flows {
         })
     }
 
-    /// Takes memory for the next pushes, so many at least, into whatever flows. Room that is there stays. It
-    /// fails only where that much room was missing.
+    /// Takes memory for so many packets more than wait, into whatever flows. Memory that is there stays. It fails only
+    /// where there is less.
     pub fn reserve(&mut self, pushes: u64) -> Result<(), Memory>
         requires { pushes ≤ MAX_WAITING }
         ensures lists { self.new.lists ≡ self.old.lists }
-        ensures room { self.old.room ≤ self.new.room }
-        ensures ok { OnOk result (pushes ≤ self.new.room) }
+        ensures capacity { self.old.capacity ≤ self.new.capacity }
+        ensures ok { OnOk result (self.new.capacity ≡ max self.old.capacity (waiting_in self.old.lists + pushes)) }
         ensures err { OnErr result (self.new ≡ self.old) }
-        ensures missing { OnErr result (self.old.room < pushes) }
+        ensures missing { OnErr result (self.old.capacity < waiting_in self.old.lists + pushes) }
         ensures comparisons { self.new.comparisons ≡ self.old.comparisons }
     {
         self.chains.reserve(pushes)
     }
 
-    /// A packet comes to the end of a flow's queue. It takes one of the room, and no memory. It makes at most `levels`
-    /// comparisons, and one at least where there are two flows or more.
+    /// A packet comes to the end of a flow's queue. It takes no memory. It makes at most `levels` comparisons, and one
+    /// at least where there are two flows or more.
     #[inline(always)]
     pub fn push(&mut self, flow: u32, waiting: Waiting)
         requires flow { flow < length self.old.lists.queues }
-        requires room { 0 < self.old.room }
+        requires capacity { waiting_in self.old.lists < self.old.capacity }
         requires size { waiting_in self.old.lists < MAX_WAITING }
         ensures lists { self.new.lists ≡ with_queue self.old.lists flow (queue_at self.old.lists flow ++ waiting ∷ []) }
-        ensures room { self.new.room + 1 ≡ self.old.room }
+        ensures capacity { self.new.capacity ≡ self.old.capacity }
         ensures few_comparisons { CountsFew (length self.old.lists.queues) 1 self.old.comparisons self.new.comparisons }
         ensures compares { 2 ≤ length self.old.lists.queues
             → min (self.old.comparisons + 1) u64.MAX ≤ self.new.comparisons }

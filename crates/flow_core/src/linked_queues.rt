@@ -1,6 +1,6 @@
 //! The waiting packets of all flows in one slab, chained flow by flow.
 
-ghost use Rattle.std.specs.Prelude.{◌≡◌, ◌+◌, ◌-◌, ◌^◌, ◌<◌, ◌≤◌, [], ◌∷◌, ◌++◌, IfOk, OnErr, OnOk, drop, get_or, length, option_copied, replicate, set, slice_get, sum_by};
+ghost use Rattle.std.specs.Prelude.{◌≡◌, ◌+◌, ◌-◌, ◌^◌, ◌<◌, ◌≤◌, [], ◌∷◌, ◌++◌, IfOk, OnErr, OnOk, drop, get_or, length, max, option_copied, replicate, set, slice_get, sum_by};
 ghost use Rattle.slab.specs.Slab.{ContainsKey, HasRoomFor};
 
 use crate::limits::{MAX_FLOWS, MAX_WAITING, Memory};
@@ -61,7 +61,9 @@ impl FreeSlots {
         ensures reused { 0 < self.old.len → IsReused slots.old slots.new self.old self.new link result }
     {
         if self.len == 0 {
-            return slots.insert_reserved(link);
+            // A link whose place a call knows would be written there at each push, and then read in other pieces.
+            let copy = link;
+            return slots.insert_reserved(copy);
         }
         let key = self.first;
         let slot = &mut slots[key];
@@ -81,7 +83,7 @@ pub(crate) struct LinkedQueues {
     slots: Slab<Link>,
     chains: Vec<Chain>,
     free: FreeSlots,
-    room: u64,
+    capacity: u64,
 }
 
 impl Model for LinkedQueues {
@@ -100,7 +102,7 @@ impl LinkedQueues {
     /// That many flows, all of them empty.
     pub(crate) fn try_new(alloc: Global, flows: u32) -> Result<LinkedQueues, Memory>
         requires { flows ≤ MAX_FLOWS }
-        ensures { IfOk result (λ c. c.queues ≡ replicate flows []) }
+        ensures { IfOk result (λ c. (c.queues ≡ replicate flows []) × (c.capacity ≡ 0)) }
     {
         let empty = Chain {
             first: 0,
@@ -112,40 +114,41 @@ impl LinkedQueues {
             slots: Slab::new(alloc),
             chains,
             free: FreeSlots { first: 0, len: 0 },
-            room: 0,
+            capacity: 0,
         })
     }
 
-    /// Takes memory for the next pushes, so many at least, into whatever flows. Room that is there stays. It
-    /// fails only where that much room was missing.
+    /// Takes memory for so many packets more than wait, into whatever flows. Memory that is there stays. It fails only
+    /// where there is less.
     pub(crate) fn reserve(&mut self, pushes: u64) -> Result<(), Memory>
         requires { pushes ≤ MAX_WAITING }
         ensures queues { self.new.queues ≡ self.old.queues }
-        ensures room { self.old.room ≤ self.new.room }
-        ensures ok { OnOk result (pushes ≤ self.new.room) }
+        ensures capacity { self.old.capacity ≤ self.new.capacity }
+        ensures ok { OnOk result (self.new.capacity
+            ≡ max self.old.capacity (sum_by length self.old.queues + pushes)) }
         ensures err { OnErr result (self.new ≡ self.old) }
-        ensures missing { OnErr result (self.old.room < pushes) }
+        ensures missing { OnErr result (self.old.capacity < sum_by length self.old.queues + pushes) }
     {
         self.slots
             .reserve(pushes.saturating_sub(self.free.len) as usize)?;
-        if self.room < pushes {
-            self.room = pushes;
+        let capacity = self.slots.len() as u64 - self.free.len + pushes;
+        if self.capacity < capacity {
+            self.capacity = capacity;
         }
         Ok(())
     }
 
-    /// A packet comes to the end of a flow's queue. It takes one of the room, and no memory.
+    /// A packet comes to the end of a flow's queue. It takes no memory.
     // Merged into its callers up to an enqueue: handed on in memory, a packet is read in other pieces than it was
     // written in, and each such read waits for the writes.
     #[inline(always)]
     pub(crate) fn push(&mut self, flow: u32, waiting: Waiting)
         requires flow { flow < length self.old.queues }
-        requires room { 0 < self.old.room }
+        requires capacity { sum_by length self.old.queues < self.old.capacity }
         requires size { sum_by length self.old.queues < MAX_WAITING }
         ensures queues { self.new.queues ≡ set self.old.queues flow (get_or self.old.queues flow [] ++ waiting ∷ []) }
-        ensures room { self.new.room + 1 ≡ self.old.room }
+        ensures capacity { self.new.capacity ≡ self.old.capacity }
     {
-        self.room -= 1;
         let key = self.free.place(&mut self.slots, Link { waiting, next: 0 });
         let chain = &mut self.chains[flow as usize];
         if chain.len == 0 {
@@ -158,8 +161,7 @@ impl LinkedQueues {
         self.slots[last].next = key;
     }
 
-    /// Takes the packet at the head of a flow's queue. None where the flow is empty. The room stays, since it
-    /// counts the pushes that were asked for.
+    /// Takes the packet at the head of a flow's queue. None where the flow is empty. Its memory stays for a later one.
     #[inline(always)]
     pub(crate) fn pop(&mut self, flow: u32) -> Option<Waiting>
         requires { flow < length self.old.queues }

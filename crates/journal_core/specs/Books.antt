@@ -9,23 +9,25 @@ use Rattle.journal_core.specs.declared.journal.Counts.{Counts}
 use Rattle.journal_core.specs.declared.journal.TheConstants.{MAX_EVENTS}
 
 -- the journal as the scheduler sees it: the events, the packets that its recorder was told of as sent and as lost, the
--- counts that run along, and how many events more take no memory
+-- counts that run along, how many events more take no memory, and for how many packets its recorder was made
 pub record Book : Type 0 where
   pub events : List Event
   pub sent : List Waiting
   pub lost : List Waiting
   pub counts : Counts
   pub room : ℕ
+  pub made_for : ℕ
 
--- that of a recorder which was told those events, departures and losses and has so much room; there is no more than the
--- most events leave
-abbrev pub book_of : List Event → List Waiting → List Waiting → Counts → ℕ → Book
-book_of events sent lost counts room = record {
+-- that of a recorder which was told those events, departures and losses, has so much room, and was made for so many
+-- packets; there is no more room than the most events leave
+abbrev pub book_of : List Event → List Waiting → List Waiting → Counts → ℕ → ℕ → Book
+book_of events sent lost counts room made_for = record {
   events = events;
   sent = sent;
   lost = lost;
   counts = counts;
   room = min room (MAX_EVENTS - length events);
+  made_for = made_for;
 }
 
 abbrev pub no_counts : Counts
@@ -49,6 +51,7 @@ with_event book event counts = record {
   lost = book.lost;
   counts = counts;
   room = book.room - 1;
+  made_for = book.made_for;
 }
 
 -- the same, where that packet is sent

@@ -18,6 +18,7 @@ with_drops book moment cause ws = record {
   lost = book.lost ++ ws;
   counts = count_drops cause book.counts ws;
   room = book.room - length ws;
+  made_for = book.made_for;
 }
 
 -- Those packets are taken, one after another: each is dropped at that moment, for that cause, and nothing else changed.
@@ -38,6 +39,7 @@ drops_none book moment cause =
       lost = sym (append-nil book.lost) i;
       counts = book.counts;
       room = sym (sub-zero book.room) i;
+      made_for = book.made_for;
     }
 
 -- the counts of one more, behind others
@@ -62,6 +64,7 @@ drops_more book moment cause ws w =
       lost = append_assoc book.lost ws (w ∷ []) i;
       counts = count_drops_push cause book.counts ws w i;
       room = room i;
+      made_for = book.made_for;
     }
 
 -- none is taken

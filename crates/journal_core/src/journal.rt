@@ -50,7 +50,8 @@ impl<K: Recorder> Model for Journal<K> {
 
     ghost Value = { Book };
 
-    ghost view = { λ j. book_of (K.told j.recorder) (K.sent j.recorder) (K.lost j.recorder) j.counts (K.room j.recorder) };
+    ghost view = { λ j. book_of (K.told j.recorder) (K.sent j.recorder) (K.lost j.recorder) j.counts
+        (K.room j.recorder) (K.made_for j.recorder) };
 
     ghost invariant = { λ j. CountsFewEvents j.counts (K.told j.recorder) };
 }
@@ -68,7 +69,8 @@ impl<K: Recorder> Journal<K> {
         requires no_loss { K.lost recorder ≡ [] }
         requires most { room ≤ MAX_EVENTS }
         ensures { IfOk result
-            (λ j. (j.events ≡ []) × (j.sent ≡ []) × (j.lost ≡ []) × (j.counts ≡ no_counts) × (room ≤ j.room)) }
+            (λ j. (j.events ≡ []) × (j.sent ≡ []) × (j.lost ≡ []) × (j.counts ≡ no_counts) × (room ≤ j.room)
+            × (j.made_for ≡ K.made_for recorder)) }
     {
         recorder.reserve(room)?;
         Ok(Journal {
@@ -98,6 +100,8 @@ impl<K: Recorder> Journal<K> {
         ensures ok { OnOk result (room ≤ self.new.room) }
         ensures missing { OnErr result (self.old.room < room) }
         ensures err { OnErr result (self.new ≡ self.old) }
+        ensures made_for { self.new.made_for ≡ self.old.made_for }
+        ensures refused { OnErr result K.can_refuse }
     {
         self.recorder.reserve(room)
     }
@@ -107,6 +111,7 @@ impl<K: Recorder> Journal<K> {
         ensures told { K.told result.now ≡ self.now.events }
         ensures sent { K.sent result.now ≡ self.now.sent }
         ensures lost { K.lost result.now ≡ self.now.lost }
+        ensures made_for { K.made_for result.now ≡ self.now.made_for }
     {
         &self.recorder
     }

@@ -32,6 +32,12 @@ pub trait Recorder: Drop {
     /// How many events more it can be told before it must reserve.
     ghost room: { Self → ℕ };
 
+    /// For how many packets it was made, where that matters to who reads it. No call changes it.
+    ghost made_for: { Self → ℕ } = { λ _. 0 };
+
+    /// That a `reserve` of its kind can be refused. A recorder whose `reserve` never answers Err says `⊥`.
+    ghost can_refuse: { Type 0 } = { Unit {0} };
+
     /// A packet was accepted, from that lane, into the queue of that flow: its id, its moment and the packet as it
     /// came. It takes no memory.
     fn accept(&mut self, packet: &Waiting, lane: u32, flow: u32)
@@ -39,7 +45,8 @@ pub trait Recorder: Drop {
         ensures told { told self.new ≡ told self.old ++ accepted_event lane flow packet.now ∷ [] }
         ensures sent { sent self.new ≡ sent self.old }
         ensures lost { lost self.new ≡ lost self.old }
-        ensures room { room self.new ≡ room self.old - 1 };
+        ensures room { room self.new ≡ room self.old - 1 }
+        ensures made_for { made_for self.new ≡ made_for self.old };
 
     /// A packet goes to the device at a moment, with its mark, and with the ECN field that the mark gave it. It takes
     /// no memory.
@@ -48,7 +55,8 @@ pub trait Recorder: Drop {
         ensures told { told self.new ≡ told self.old ++ sent_event moment served.now.mark served.now.waiting ∷ [] }
         ensures sent { sent self.new ≡ sent self.old ++ served.now.waiting ∷ [] }
         ensures lost { lost self.new ≡ lost self.old }
-        ensures room { room self.new ≡ room self.old - 1 };
+        ensures room { room self.new ≡ room self.old - 1 }
+        ensures made_for { made_for self.new ≡ made_for self.old };
 
     /// A packet is lost at a moment, for that cause. It takes no memory.
     fn lose(&mut self, packet: &Waiting, moment: u64, cause: Cause)
@@ -56,7 +64,8 @@ pub trait Recorder: Drop {
         ensures told { told self.new ≡ told self.old ++ drop_event moment cause packet.now ∷ [] }
         ensures sent { sent self.new ≡ sent self.old }
         ensures lost { lost self.new ≡ lost self.old ++ packet.now ∷ [] }
-        ensures room { room self.new ≡ room self.old - 1 };
+        ensures room { room self.new ≡ room self.old - 1 }
+        ensures made_for { made_for self.new ≡ made_for self.old };
 
     /// There was a close at a moment. It takes no memory.
     fn close(&mut self, moment: u64)
@@ -64,7 +73,8 @@ pub trait Recorder: Drop {
         ensures told { told self.new ≡ told self.old ++ Closed moment ∷ [] }
         ensures sent { sent self.new ≡ sent self.old }
         ensures lost { lost self.new ≡ lost self.old }
-        ensures room { room self.new ≡ room self.old - 1 };
+        ensures room { room self.new ≡ room self.old - 1 }
+        ensures made_for { made_for self.new ≡ made_for self.old };
 
     /// Takes what memory it needs for so many events more. It is refused only where there is less room already.
     fn reserve(&mut self, more: usize) -> Result<(), Memory>
@@ -74,7 +84,9 @@ pub trait Recorder: Drop {
         ensures room { room self.old ≤ room self.new }
         ensures ok { OnOk result (more ≤ room self.new) }
         ensures missing { OnErr result (room self.old < more) }
-        ensures err { OnErr result (room self.new ≡ room self.old) };
+        ensures err { OnErr result (room self.new ≡ room self.old) }
+        ensures made_for { made_for self.new ≡ made_for self.old }
+        ensures refused { OnErr result can_refuse };
 }
 
 /// Who is told the steps that an engine makes, and stores them or not.
@@ -281,6 +293,8 @@ impl Recorder for NullRecorder {
     ghost lost = { null_losses };
 
     ghost room = { null_room };
+
+    ghost can_refuse = { ⊥ };
 
     #[inline(always)]
     fn accept(&mut self, packet: &Waiting, lane: u32, flow: u32) {

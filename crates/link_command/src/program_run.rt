@@ -11,6 +11,7 @@ ghost use Rattle.link_command.specs.declared.faults.ProgramFault.{ProgramFault};
 ghost use Rattle.link_command.specs.Runs.{Answers, FailsBy, IsAsked, IsFaultOn, IsJournalText, IsComparedText, IsRunFault, IsTableFor, IsTableOf, IsTraceOf};
 ghost use Rattle.link_command.specs.RunsSaid.{run_parts_of};
 ghost use Rattle.link_report.specs.Packets.{known_of};
+ghost use Rattle.sched_core.specs.Schedulers.{IsMadeFor};
 
 use crate::arrivals::read_arrivals;
 use crate::command_line::{Asked, RunRequest, TableName, parse};
@@ -165,6 +166,7 @@ fn run_told<K: Recorder, S: StepRecorder>(
     requires events { K.told events ≡ [] }
     requires none_sent { K.sent events ≡ [] }
     requires no_loss { K.lost events ≡ [] }
+    requires made_for { IsMadeFor run.now.params.limit (K.made_for events) }
     requires steps { S.told steps ≡ [] }
     ensures { IfOk result (HasRunLink run.now.params run.now.seed run.now.link arrivals.now) }
 {

@@ -7,7 +7,7 @@ ghost use Rattle.journal_core.specs.declared.step.Step.TheVariants.{Enqueue, Deq
 ghost use Rattle.link_core.specs.Arrivals.{AreArrivals};
 ghost use Rattle.link_core.specs.LinkRuns.{HasRunLink};
 ghost use Rattle.link_core.specs.Underway.{ComesBy, HasAsked, IsOnLink, KeepsParams};
-ghost use Rattle.sched_core.specs.Schedulers.{IsAdvanced};
+ghost use Rattle.sched_core.specs.Schedulers.{IsAdvanced, IsMadeFor};
 
 use crate::arrival::{Arrival, MAX_ARRIVALS};
 use crate::free_at::FreeAt;
@@ -35,7 +35,8 @@ pub fn run_link(
 }
 
 /// The same as `run_link`, but over recorders of events and of steps that were told none. `NullRecorder` is for those that
-/// nobody reads: a run takes less memory then.
+/// nobody reads: a run takes less memory then. Where the one of events says for how many packets it was made, that has
+/// to be for `limit` and one more.
 pub fn run_link_with_recorders<K: Recorder, S: StepRecorder>(
     alloc: Global,
     params: Params,
@@ -49,6 +50,7 @@ pub fn run_link_with_recorders<K: Recorder, S: StepRecorder>(
     requires events { K.told events ≡ [] }
     requires none_sent { K.sent events ≡ [] }
     requires no_loss { K.lost events ≡ [] }
+    requires made_for { IsMadeFor params.limit (K.made_for events) }
     requires steps { S.told steps ≡ [] }
     ensures { IfOk result (HasRunLink params seed link.now arrivals.now) }
 {

@@ -53,13 +53,13 @@ pub record AnswersAdmitted (old : DiscState) (moment : ℕ) (packet : PacketPart
   pub enqueued : IsEnqueued old moment packet said new
   pub told : out ≡ admitted_told said
 
--- An enqueue is refused for that, by the tests in their order: a drop wasn't read; the scheduler refuses the step; or
--- memory is wanted, and no enqueue is reserved.
+-- An enqueue is refused for that, by the tests in their order: a drop wasn't read, or the scheduler refuses the step.
+-- It is never refused for want of memory.
 pub record RefusesEnqueue (old : DiscState) (moment : ℕ) (packet : PacketParts) (answer : ℤ) : Type 0 where
   pub fault : EnqueueFault
   pub unread : (fault ≡ Unread) ↔ (0 < old.unread)
   pub is_fault : IsFault (refusal_of old.sched.standing.state (Enqueue moment 0 packet)) fault
-  pub reserved : 0 < old.sched.room → fault ≢ Refused refusal.Memory
+  pub memory : fault ≢ Refused refusal.Memory
   pub code : answer ≡ enqueue_code fault
 
 -- An enqueue to a flow of the caller's is refused: no packet is what the caller says, or the packet that it says is

@@ -5,7 +5,7 @@ ghost use Rattle.packet_core.specs.Packets.{PacketParts};
 ghost use Rattle.packet_core.specs.declared.params.Classify.TheVariants.{Dport, Hash};
 ghost use Rattle.maltcove_c.specs.Calls.{AnswersAdmitted, AreSent, Behind, IfBehind, Idles, RefusesDequeue, RefusesEnqueue, RefusesInFlow, AnswersSent, SendsAll};
 ghost use Rattle.maltcove_c.specs.Records.{Says, SaysInFlow};
-ghost use Rattle.maltcove_c.specs.declared.status.TheConstants.{BAD_PACKET, HASHED, IDLE, NOT_OPEN, OK};
+ghost use Rattle.maltcove_c.specs.declared.status.TheConstants.{BAD_PACKET, HASHED, IDLE, MEMORY, NOT_OPEN, OK};
 
 use crate::records::{
     MaltcoveAdmitted, MaltcoveDropped, MaltcovePacket, MaltcoveSent, admitted_of, dropped_of,
@@ -18,9 +18,13 @@ use queue_disc_core::QueueDisc;
 use std::alloc::Global;
 
 /// A packet comes.
+// Merged into the calls of C, as what stands below is merged into it: handed on in memory, a packet is read in other
+// pieces than it was written in, and each such read waits for the writes.
+#[inline(always)]
 fn accept(disc: &mut QueueDisc, moment: u64, packet: Packet, out: &mut MaltcoveAdmitted) -> i32
     ensures made { result ≡ OK → AnswersAdmitted disc.old moment packet out.new disc.new }
     ensures refused { result ≢ OK → RefusesEnqueue disc.old moment packet result }
+    ensures memory { result ≢ MEMORY }
     ensures unchanged { result ≢ OK → (disc.new ≡ disc.old) × (out.new ≡ out.old) }
     ensures open { result ≢ NOT_OPEN }
 {
@@ -34,6 +38,7 @@ fn accept(disc: &mut QueueDisc, moment: u64, packet: Packet, out: &mut MaltcoveA
 }
 
 /// The packet comes that C's record says, if it says one.
+#[inline(always)]
 fn accept_said(
     disc: &mut QueueDisc,
     moment: u64,
@@ -45,6 +50,7 @@ fn accept_said(
     ensures refused { result ≢ OK
         → ((result ≡ BAD_PACKET) × ((packet : PacketParts) → ¬ Says said.now packet))
         ⊎ ((packet : PacketParts) × Says said.now packet × RefusesEnqueue disc.old moment packet result) }
+    ensures memory { result ≢ MEMORY }
     ensures unchanged { result ≢ OK → (disc.new ≡ disc.old) × (out.new ≡ out.old) }
     ensures open { result ≢ NOT_OPEN }
 {
@@ -71,6 +77,7 @@ pub extern "C" fn maltcove_raw_enqueue(
         (λ a. ((result ≡ BAD_PACKET) × ((p : PacketParts) → ¬ Says packet.now p))
         ⊎ ((p : PacketParts) × Says packet.now p × RefusesEnqueue a moment p result))
         m.old.handle.value }
+    ensures memory { result ≢ MEMORY }
     ensures unchanged { result ≢ OK → (m.new.handle.value ≡ m.old.handle.value) × (out.new ≡ out.old) }
 {
     let Some(mut disc) = take(alloc, m) else {
@@ -103,6 +110,7 @@ fn flow_number(disc: &QueueDisc, flow: u32) -> u16
 }
 
 /// A packet comes to the flow of that number, where the caller chooses flows.
+#[inline(always)]
 fn accept_in_flow(
     disc: &mut QueueDisc,
     moment: u64,
@@ -117,6 +125,7 @@ fn accept_in_flow(
         × AnswersAdmitted disc.old moment packet out.new disc.new }
     ensures hashed { (result ≡ HASHED) ↔ (disc.old.sched.params.classify ≡ Hash) }
     ensures refused { result ≢ OK → result ≢ HASHED → RefusesInFlow disc.old moment flow len ecn tag result }
+    ensures memory { result ≢ MEMORY }
     ensures unchanged { result ≢ OK → (disc.new ≡ disc.old) × (out.new ≡ out.old) }
     ensures open { result ≢ NOT_OPEN }
 {
@@ -149,6 +158,7 @@ pub extern "C" fn maltcove_raw_enqueue_flow(
     ensures hashed { IfBehind (λ a. (result ≡ HASHED) ↔ (a.sched.params.classify ≡ Hash)) m.old.handle.value }
     ensures refused { result ≢ OK → result ≢ HASHED
         → IfBehind (λ a. RefusesInFlow a moment flow len ecn tag result) m.old.handle.value }
+    ensures memory { result ≢ MEMORY }
     ensures unchanged { result ≢ OK → (m.new.handle.value ≡ m.old.handle.value) × (out.new ≡ out.old) }
 {
     let Some(mut disc) = take(alloc, m) else {

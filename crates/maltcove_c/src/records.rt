@@ -208,31 +208,44 @@ pub(crate) fn bits_of(ecn: Ecn) -> u8
     }
 }
 
-/// The address in these bytes, of that version of IP.
-fn address_of(version: u8, bytes: &[u8; 16]) -> Option<Ip>
-    ensures { result ≡ address_of_bytes version bytes.now }
+/// The address of IPv4 in the first four of these bytes.
+fn address_of_ipv4(bytes: &[u8; 16]) -> Ip
+    ensures { Some result ≡ address_of_bytes 4 bytes.now }
 {
-    match version {
-        4 => Some(Ip::V4([bytes[0], bytes[1], bytes[2], bytes[3]])),
-        6 => Some(Ip::V6(*bytes)),
-        _ => None,
-    }
+    Ip::V4([bytes[0], bytes[1], bytes[2], bytes[3]])
 }
 
-/// The packet that C describes, if there is such a one.
-pub(crate) fn packet_of(p: &MaltcovePacket) -> Option<Packet>
+/// The packet that C describes, between two addresses, if its length and its ECN field are right.
+#[inline(always)]
+fn packet_between(p: &MaltcovePacket, src: Ip, dst: Ip) -> Option<Packet>
+    requires src { address_of_bytes p.now.version p.now.src ≡ Some src }
+    requires dst { address_of_bytes p.now.version p.now.dst ≡ Some dst }
     ensures said { IfSome result (Says p.now) }
     ensures none { IsNone result → (packet : PacketParts) → ¬ Says p.now packet }
 {
     let tuple = FiveTuple {
         proto: p.proto,
-        src: address_of(p.version, &p.src)?,
-        dst: address_of(p.version, &p.dst)?,
+        src,
+        dst,
         sport: p.sport,
         dport: p.dport,
     };
     let packet = Packet::try_new(tuple, p.len, ecn_of(p.ecn)?).ok()?;
     Some(packet.with_tag(p.tag))
+}
+
+/// The packet that C describes, if there is such a one.
+// Each version has its own way: a packet of which the version is known is packed in fewer steps.
+#[inline(always)]
+pub(crate) fn packet_of(p: &MaltcovePacket) -> Option<Packet>
+    ensures said { IfSome result (Says p.now) }
+    ensures none { IsNone result → (packet : PacketParts) → ¬ Says p.now packet }
+{
+    match p.version {
+        4 => packet_between(p, address_of_ipv4(&p.src), address_of_ipv4(&p.dst)),
+        6 => packet_between(p, Ip::V6(p.src), Ip::V6(p.dst)),
+        _ => None,
+    }
 }
 
 /// A packet whose destination port is the number of its flow, and which is 0 else.

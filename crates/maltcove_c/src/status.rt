@@ -1,7 +1,9 @@
 //! What the calls answer: numbers that C knows by the names in `maltcove.h`.
 
-ghost use Rattle.std.specs.Prelude.{◌≡◌};
+ghost use Rattle.std.specs.Prelude.{◌≡◌, ◌≢◌};
+ghost use Rattle.journal_core.specs.declared.step.Refusal.TheVariants as step_refusal;
 ghost use Rattle.maltcove_c.specs.Statuses.{close_code, enqueue_code, moment_code, refusal_code};
+ghost use Rattle.queue_disc_core.specs.declared.answers.EnqueueFault.TheVariants as enqueue_fault;
 
 use queue_disc_core::EnqueueFault;
 use sched_core::{CloseFault, MomentFault, Refusal};
@@ -53,7 +55,8 @@ pub(crate) const HASHED: i32 = -13;
 
 /// Why a moment was refused.
 pub(crate) fn moment_code(fault: MomentFault) -> i32
-    ensures { result ≡ moment_code fault }
+    ensures value { result ≡ moment_code fault }
+    ensures memory { result ≢ MEMORY }
 {
     match fault {
         MomentFault::TooLarge => TOO_LARGE,
@@ -63,7 +66,8 @@ pub(crate) fn moment_code(fault: MomentFault) -> i32
 
 /// Why a step was refused.
 fn refusal_code(refusal: Refusal) -> i32
-    ensures { result ≡ refusal_code refusal }
+    ensures value { result ≡ refusal_code refusal }
+    ensures memory { refusal ≢ step_refusal.Memory → result ≢ MEMORY }
 {
     match refusal {
         Refusal::Moment(fault) => moment_code(fault),
@@ -75,7 +79,8 @@ fn refusal_code(refusal: Refusal) -> i32
 
 /// Why an enqueue was refused.
 pub(crate) fn enqueue_code(fault: EnqueueFault) -> i32
-    ensures { result ≡ enqueue_code fault }
+    ensures value { result ≡ enqueue_code fault }
+    ensures memory { fault ≢ enqueue_fault.Refused step_refusal.Memory → result ≢ MEMORY }
 {
     match fault {
         EnqueueFault::Unread => UNREAD,

@@ -77,7 +77,10 @@ impl<K: Recorder, S: StepRecorder> LaneEngine<K, S> {
         ensures ok { OnOk result (self.new.engine.room ≡ max self.old.engine.room steps) }
         ensures rest { self.new ≡ record self.old {
           engine = record self.old.engine {
-            sched = record self.old.engine.sched { room = self.new.engine.sched.room };
+            sched = record self.old.engine.sched {
+              room = self.new.engine.sched.room;
+              capacity = self.new.engine.sched.capacity;
+            };
             room = self.new.engine.room;
           };
         } }

@@ -7,6 +7,7 @@ ghost use Rattle.port_core.specs.Devices.{AreNewEnds, AreNewLanes};
 ghost use Rattle.port_core.specs.declared.device.TheConstants.{MAX_LANES};
 ghost use Rattle.port_core.specs.declared.opening.TheConstants.{MAX_CAPACITY, MAX_MONITORS};
 ghost use Rattle.sched_core.specs.Engines.{new_engine};
+ghost use Rattle.sched_core.specs.Schedulers.{IsMadeFor};
 
 use crate::device::{Device, MAX_LANES};
 use crate::lane::Lane;
@@ -112,7 +113,8 @@ pub fn lanes<J: BookName, R: Wait + Drop>(
     )
 }
 
-/// The same with a device whose engine tells its events and its steps to recorders that were told none.
+/// The same with a device whose engine tells its events and its steps to recorders that were told none. Where the one
+/// of events says for how many packets it was made, that has to be for `limit` and one more.
 pub fn lanes_with_recorders<J: BookName, R: Wait + Drop, K: Recorder, S: StepRecorder>(
     rt: R,
     alloc: Global,
@@ -130,6 +132,7 @@ pub fn lanes_with_recorders<J: BookName, R: Wait + Drop, K: Recorder, S: StepRec
     requires events { K.told events ≡ [] }
     requires none_sent { K.sent events ≡ [] }
     requires no_loss { K.lost events ≡ [] }
+    requires made_for { IsMadeFor params.limit (K.made_for events) }
     requires steps { S.told steps ≡ [] }
     ensures engine { IfOk result (λ o. o.device.engine ≡ new_engine params seed) }
     ensures lanes { IfOk result (λ o. AreNewLanes o.senders.items o.device.lanes layout.lanes layout.capacity) }

@@ -9,6 +9,7 @@ pub mod Handles
 pub mod Balance
 pub mod StepMoves
 pub mod Balanced
+pub mod Memory
 pub mod SoundSteps
 pub mod Renewals
 pub mod Readings

@@ -47,6 +47,8 @@ new_sound p seed n = record {
   few = omega arith;
   ids = refl;
   balanced = λ f. let none = ap (λ ws. sum_by f (map (handle_of 0) ws)) (none_queued p.flows) in omega arith;
+  memory = record { waits = omega arith; recent = omega arith; held = omega arith };
+  reserved = omega arith;
 }
 
 -- A queue disc that is opened.
@@ -158,6 +160,8 @@ accepted_unrenewed old moment packet said new a = record {
   unread = a.unread;
   drops = a.drops;
   room = a.room;
+  reserved = a.reserved;
+  capacity = a.capacity;
   rest = ap (λ (s : DiscState). unrenewed s moment) a.rest;
 }
 

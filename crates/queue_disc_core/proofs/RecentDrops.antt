@@ -1,7 +1,7 @@
 -- What the recorder of drops keeps, as it is told more.
-use Rattle.std.proofs.Common.{◌≡◌, ℕ, ◌+◌, ◌-◌, ◌<◌, ◌≤◌, List, [], ◌∷◌, ◌++◌, map, get_or, length, Option, Some, None, option_map, refl, sym, ap, ◌∙◌, append_assoc, arith}
+use Rattle.std.proofs.Common.{◌≡◌, ℕ, ◌+◌, ◌-◌, ◌<◌, ◌≤◌, List, [], ◌∷◌, ◌++◌, map, get_or, length, take, Option, Some, None, option_map, refl, sym, ap, ◌∙◌, append_assoc, arith}
 use Rattle.std.specs.Prelude.{IsSomeAnd, slice_get}
-use Rattle.std.proofs.lemmas.List.{append-nil, get_or-append-add, length-append, length-map, map-append}
+use Rattle.std.proofs.lemmas.List.{append-nil, get_or-append-add, length-append, length-map, length-take, map-append, take-append-le, take_all}
 use Rattle.std.proofs.lemmas.Option.{get_or_from_slice_get, slice_get-get_or, slice_get-map, slice_get_within}
 use Rattle.packet_core.specs.Packets.{PacketParts}
 use Rattle.packet_core.specs.declared.packet.Ecn.{Ecn}
@@ -66,6 +66,20 @@ module _ (drops : List Drop) (told : List Event) (lost : List Waiting) (r : AreR
   losses_kept =
       let size : length lost ≡ length r.past_losses + length drops = sym (length-map lost loss_of) ∙ ap length r.losses_are ∙ length-append r.past_losses (map drop_handle_of drops) ∙ ap (λ n. length r.past_losses + n) (length-map drops drop_handle_of) in
       omega (arith, r.as_many, r.settled)
+
+-- The first ones of a list that fits are all of it.
+pub first_all : (most : ℕ) (kept all : List Drop) → kept ≡ take most all → length all ≤ most → kept ≡ all
+first_all most kept all first fits = first ∙ take_all most all fits
+
+-- One more comes to the end of those that are kept, where there is a place.
+pub first_pushed : (most : ℕ) (kept all : List Drop) (d : Drop) → kept ≡ take most all → length kept < most → kept ++ d ∷ [] ≡ take most (all ++ d ∷ [])
+first_pushed most kept all d first place =
+    let few : length all ≤ most = omega (arith, ap length first, length-take most all) in
+    ap (λ l. l ++ d ∷ []) (first_all most kept all first few) ∙ sym (take_all most (all ++ d ∷ []) (omega (arith, length-append all (d ∷ []), ap length first, length-take most all)))
+
+-- Where there is none, those that are kept stay the first ones.
+pub first_full : (most : ℕ) (kept all : List Drop) (d : Drop) → kept ≡ take most all → most ≤ length kept → kept ≡ take most (all ++ d ∷ [])
+first_full most kept all d first full = first ∙ sym (take-append-le most all (d ∷ []) (omega (arith, ap length first, length-take most all)))
 
 -- What stands at a place from the end of a list stands there in a longer one that ends with it.
 at_end : {X : Type 0} (all past xs : List X) (back : ℕ) (x : X) → all ≡ past ++ xs → back ≤ length xs

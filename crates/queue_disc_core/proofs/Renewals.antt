@@ -48,4 +48,6 @@ renewed_sound old due s balance idle = record {
   few = let few = due.few in let counted = s.counted in omega arith;
   ids = let ids = s.ids in let counted = s.counted in omega arith;
   balanced = renewed_balanced old due s.balanced;
+  memory = record { waits = omega arith; recent = omega arith; held = omega arith };
+  reserved = omega arith;
 }

@@ -19,12 +19,13 @@ use Rattle.queue_disc_core.specs.declared.answers.Handle.{Handle}
 use Rattle.queue_disc_core.specs.declared.totals.FlushedCounts.{FlushedCounts}
 use Rattle.queue_disc_core.specs.declared.totals.QueueDiscTotals.{QueueDiscTotals}
 use Rattle.queue_disc_core.specs.Drops.{causes_of}
-use Rattle.queue_disc_core.specs.Laws.{IsLawful}
+use Rattle.queue_disc_core.specs.Laws.{IsCounted, IsLawful}
 use Rattle.queue_disc_core.specs.QueueDiscKept.{AreBalanced, IsSoundDisc}
 use Rattle.queue_disc_core.specs.QueueDiscTotals.{HasGrown, IsFlushedWithin, more_flushed}
 use Rattle.queue_disc_core.specs.QueueDiscs.{IsDiscAccepted, IsDiscClosed, IsDiscDequeued, IsFlushed, IsIdle, IsRead, DiscState, drop_handle, events_of, handle_of, lost_of, read_of, sent_handle, sent_handles, unread_packets}
 use Rattle.queue_disc_core.proofs.Balanced.{balance_noted, gone_sum, sum_push, weighs}
 use Rattle.queue_disc_core.proofs.DropCounts.{lost_counted}
+use Rattle.queue_disc_core.proofs.Memory.{memory_accepts, memory_closes, memory_serves}
 use Rattle.queue_disc_core.proofs.StepDrops.{close_settles, dequeue_settles, enqueue_settles}
 use Rattle.queue_disc_core.proofs.StepMoves.{close_grows, close_loses, close_moves, enqueue_grows, enqueue_moves, idle_moves, sent_moves, served_grows}
 
@@ -63,8 +64,8 @@ accept_balanced old new moment packet said before after balanced a =
       sent = λ f. omega (arith, ap (gone_sum f) a.rest);
     })
 
-pub accept_sound : (old new : DiscState) (moment : ℕ) (packet : PacketParts) (said : Enqueued) → IsLawful old.sched → IsLawful new.sched → IsSoundDisc old → IsDiscAccepted old moment packet said new → IsSoundDisc new
-accept_sound old new moment packet said before after s a =
+pub accept_sound : (old new : DiscState) (moment : ℕ) (packet : PacketParts) (said : Enqueued) → IsLawful old.sched → IsLawful new.sched → IsCounted new.sched → IsSoundDisc old → IsDiscAccepted old moment packet said new → IsSoundDisc new
+accept_sound old new moment packet said before after counted s a =
     let handle : Handle = record { tag = packet.tag; id = said.id } in
     let settles = enqueue_settles (discipline_of old.sched) old.sched.standing new.sched.standing moment 0 packet a.advances.advances in
     let adds = adds_accepted (discipline_of old.sched) old.sched.standing new.sched.standing moment 0 packet a.advances.advances in
@@ -80,6 +81,8 @@ accept_sound old new moment packet said before after s a =
       few = s.few;
       ids = omega (arith, length-append old.packets.accepted (handle ∷ []), s.ids, next);
       balanced = subst AreBalanced a.rest (accept_balanced old new moment packet said before after s.balanced a);
+      memory = memory_accepts old.sched new.sched moment packet counted s.memory a.capacity a.advances;
+      reserved = a.reserved;
     })
 
 pub close_balanced : (old new : DiscState) (moment : ℕ) → IsLawful old.sched → IsLawful new.sched → AreBalanced old → IsDiscClosed old moment new → AreBalanced new
@@ -109,6 +112,8 @@ close_sound old new moment before after s a =
       few = s.few;
       ids = omega (arith, s.ids, next);
       balanced = subst AreBalanced a.rest (close_balanced old new moment before after s.balanced a);
+      memory = memory_closes old.sched new.sched moment s.memory a.capacity a.advances;
+      reserved = omega (arith, s.reserved, a.room);
     })
 
 -- the same drops were read
@@ -172,6 +177,8 @@ served_sound old new moment sent s v =
       few = omega (arith, accepted, s.few);
       ids = omega (arith, ap length v.accepted, s.ids, next, accepted);
       balanced = served_balanced old new moment sent v.before v.after s.balanced v.serves v.packet (still_read (length (lost_of old)) (length (lost_of new)) old.unread new.unread (omega (arith, lost_old, s.readable)) v.drops) accepted v.accepted v.gone;
+      memory = memory_serves old.sched new.sched moment sent s.memory v.serves;
+      reserved = omega (arith, s.reserved, v.serves.room);
     }
 
 pub dequeue_sound : (old new : DiscState) (moment : ℕ) (said : Dequeued) → IsLawful old.sched → IsLawful new.sched → IsSoundDisc old → IsDiscDequeued old moment said new → IsSoundDisc new
@@ -258,4 +265,6 @@ read_sound old new d before s r =
       few = s.few;
       ids = s.ids;
       balanced = subst AreBalanced r.rest (read_balanced old new d (omega arith) s.balanced r);
+      memory = s.memory;
+      reserved = s.reserved;
     })

@@ -54,9 +54,11 @@ pub record AreRecent (drops : List Drop) (told : List Event) (lost : List Waitin
   pub as_many : length past_losses ≡ length past_causes
   pub settled : length past_causes ≡ settled_drops told
 
--- what a recorder was told: the events, the packets sent and the packets lost, and how many events more it can be told
+-- what a recorder was told: the events, the packets sent and the packets lost, how many events more it can be told, and
+-- for how many drops it was made
 pub record DropTale : Type 0 where
   pub events : List Event
   pub sent : List Waiting
   pub lost : List Waiting
   pub room : ℕ
+  pub made_for : ℕ

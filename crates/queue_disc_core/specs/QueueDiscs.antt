@@ -37,7 +37,7 @@ pub record DiscState : Type 0 where
 
 -- a scheduler before its first step, with memory for `limit` packets and one more
 abbrev pub open_scheduler : ParamFields → Seed → Scheduler
-open_scheduler p seed = record (new_scheduler p seed) { room = p.limit + 1 }
+open_scheduler p seed = record (new_scheduler p seed) { room = p.limit + 1; capacity = p.limit + 1 }
 
 -- before the first call
 abbrev pub new_disc : ParamFields → Seed → ℕ → DiscState
@@ -138,7 +138,8 @@ IsDiscReady old moment ready =
     ⊎ (IsDue old × ((ready ≡ renewed old) ⊎ (ready ≡ unrenewed old moment)))
 
 -- A packet is accepted: the scheduler makes the step, and the packets that it drops are there to be read. No other
--- drop was. It takes one of the enqueues that are reserved at most.
+-- drop was. It takes one of the enqueues that are reserved at most, and another one is reserved. The flows have memory
+-- for as many packets as before.
 pub record IsDiscAccepted (old : DiscState) (moment : ℕ) (packet : PacketParts) (said : Enqueued) (new : DiscState)
     : Type 0 where
   pub advances : IsAdvanced old.sched (Enqueue moment 0 packet) answer.Accepted new.sched
@@ -148,6 +149,8 @@ pub record IsDiscAccepted (old : DiscState) (moment : ℕ) (packet : PacketParts
   pub unread : new.unread ≡ said.drops
   pub drops : length (lost_of new) ≡ length (lost_of old) + said.drops
   pub room : old.sched.room - 1 ≤ new.sched.room
+  pub reserved : 0 < new.sched.room
+  pub capacity : new.sched.capacity ≡ old.sched.capacity
   pub rest : new ≡ record old {
     sched = new.sched;
     unread = new.unread;
@@ -257,4 +260,5 @@ flushed_by (Some packet) = 1
 pub record IsDiscClosed (old : DiscState) (moment : ℕ) (new : DiscState) : Type 0 where
   pub advances : IsAdvanced old.sched (Close moment) answer.Closed new.sched
   pub room : new.sched.room ≡ old.sched.room
+  pub capacity : new.sched.capacity ≡ old.sched.capacity
   pub rest : new ≡ record old { sched = new.sched }

@@ -1,6 +1,6 @@
 //! The recorder of a queue disc's scheduler: it has the drops since the last acceptance, and nothing else.
 
-ghost use Rattle.std.specs.Prelude.{◌≡◌, ◌+◌, ◌-◌, ◌<◌, ◌≤◌, [], length};
+ghost use Rattle.std.specs.Prelude.{◌≡◌, ◌+◌, ◌-◌, ◌<◌, ◌≤◌, [], ◌∷◌, ◌++◌, IfOk, length, vec_capacity};
 ghost use Rattle.queue_disc_core.specs.Drops.{IsDropAt, causes_of, settled_drops};
 
 use crate::answers::Dropped;
@@ -10,11 +10,13 @@ use sched_core::{Cause, Event, GhostList, Memory, Recorder};
 use std::alloc::Global;
 use std::marker::Model;
 
-/// It keeps the drops since the last acceptance. Where a packet is accepted it forgets them, so they have to be read
-/// before. Each event that it has room for may be a drop, and so there is memory for as many.
+/// It keeps the drops since the last acceptance, up to the number that it was made for: no more are lost between two
+/// acceptances than packets may wait. Where a packet is accepted it forgets them, so they have to be read before. It
+/// asks for no memory once it is made.
 #[derive(Debug, Drop)]
 pub(crate) struct Drops {
     drops: Vec<Dropped>,
+    most: usize,
     told: GhostList<Event>,
     sent: GhostList<Waiting>,
     lost: GhostList<Waiting>,
@@ -32,18 +34,29 @@ impl Model for Drops {
 }
 
 impl Drops {
-    /// Nothing was told yet.
-    pub(crate) fn new(alloc: Global) -> Drops
-        ensures told { result.events ≡ [] }
-        ensures sent { result.sent ≡ [] }
-        ensures lost { result.lost ≡ [] }
+    /// Nothing was told yet. It takes memory for so many drops.
+    pub(crate) fn try_new(alloc: Global, most: usize) -> Result<Drops, Memory>
+        requires { 0 < most }
+        ensures { IfOk result
+            (λ d. (d.events ≡ []) × (d.sent ≡ []) × (d.lost ≡ []) × (d.made_for ≡ most)) }
     {
-        Drops {
-            drops: Vec::new(alloc),
+        let mut drops = Vec::new(alloc);
+        drops.reserve(most)?;
+        Ok(Drops {
+            drops,
+            most,
             told: GhostList::new(),
             sent: GhostList::new(),
             lost: GhostList::new(),
-        }
+        })
+    }
+
+    /// It was made for some. It does nothing when it runs: it is called for its clause.
+    #[inline(always)]
+    pub(crate) fn is_made_for_some(&self)
+        ensures { 0 < self.now.made_for }
+    {
+        let _ = &self.most;
     }
 
     /// Where its memory comes from.
@@ -54,6 +67,7 @@ impl Drops {
     /// How many drops are kept: those since the last acceptance.
     #[inline(always)]
     pub(crate) fn kept(&self) -> u64
+        requires { length self.now.lost ≤ self.now.made_for + settled_drops self.now.events }
         ensures { length self.now.lost ≡ result + settled_drops self.now.events }
     {
         self.drops.len() as u64
@@ -62,11 +76,25 @@ impl Drops {
     /// The drop that stands at that place from the end: the last one has 1.
     pub(crate) fn dropped(&self, back: usize) -> Dropped
         requires some { 0 < back }
+        requires few { length self.now.lost ≤ self.now.made_for + settled_drops self.now.events }
         requires recent { back + settled_drops self.now.events ≤ length (causes_of self.now.events) }
         requires told { length self.now.lost ≡ length (causes_of self.now.events) }
         ensures { IsDropAt self.now.events self.now.lost (length self.now.lost - back) result }
     {
         self.drops[self.drops.len() - back]
+    }
+}
+
+/// Keeps one drop more, where fewer than so many are kept.
+#[inline(always)]
+fn keep(drops: &mut Vec<Dropped>, most: usize, drop: Dropped)
+    requires { most ≤ vec_capacity drops.old }
+    ensures pushed { length drops.old.items < most → drops.new.items ≡ drops.old.items ++ drop ∷ [] }
+    ensures full { most ≤ length drops.old.items → drops.new.items ≡ drops.old.items }
+    ensures fit { most ≤ vec_capacity drops.new }
+{
+    if drops.len() < most {
+        drops.push_reserved(drop);
     }
 }
 
@@ -78,6 +106,10 @@ impl Recorder for Drops {
     ghost lost = { λ drops. drops.lost };
 
     ghost room = { λ drops. drops.room };
+
+    ghost made_for = { λ drops. drops.made_for };
+
+    ghost can_refuse = { ⊥ };
 
     #[inline(always)]
     fn accept(&mut self, packet: &Waiting, lane: u32, flow: u32) {
@@ -92,11 +124,12 @@ impl Recorder for Drops {
     }
 
     fn lose(&mut self, packet: &Waiting, moment: u64, cause: Cause) {
-        self.drops.push_reserved(Dropped {
+        let drop = Dropped {
             tag: packet.packet.tag(),
             id: packet.id,
             cause,
-        });
+        };
+        keep(&mut self.drops, self.most, drop);
         self.told = self.told.and(&Event::loss(packet, moment, cause));
         self.lost = self.lost.and(packet);
     }
@@ -106,7 +139,6 @@ impl Recorder for Drops {
     }
 
     fn reserve(&mut self, more: usize) -> Result<(), Memory> {
-        self.drops.reserve(more)?;
         self.told = self.told.with_room(more);
         Ok(())
     }

@@ -3,10 +3,9 @@
 //! is lost; and by a flush. It takes the memory for `limit` packets and one more where it is opened, and goes on after
 //! the end of a scheduler's ids.
 //!
-//! An enqueue isn't refused for want of memory while one is reserved. `QueueDisc::open` reserves `limit` + 1 of them,
-//! and each enqueue takes one. That no later call takes memory but a renewal is tested, and not proved: no clause of
-//! the scheduler says that one comes back with each packet that leaves. A renewal takes memory for a scheduler as new,
-//! or doesn't happen.
+//! No call after `QueueDisc::open` is refused for want of memory: the memory of a packet that leaves serves a later one.
+//! That no later call asks for memory is tested, a renewal apart. A renewal takes memory for a scheduler as new, or
+//! doesn't happen.
 #![tactic(auto)]
 
 mod answers;

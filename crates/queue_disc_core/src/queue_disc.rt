@@ -12,7 +12,8 @@ ghost use Rattle.flow_core.specs.FlowLists.{waiting_in};
 ghost use Rattle.sched_core.specs.Schedulers.{IsServed, flows_of};
 ghost use Rattle.queue_disc_core.specs.FreeEnqueues.{free_enqueues};
 ghost use Rattle.queue_disc_core.specs.Drops.{causes_of, settled_drops};
-ghost use Rattle.queue_disc_core.specs.Laws.{IsLawful};
+ghost use Rattle.queue_disc_core.specs.Laws.{IsCounted, IsLawful};
+ghost use Rattle.queue_disc_core.specs.QueueDiscKept.{HasMemory};
 ghost use Rattle.queue_disc_core.specs.QueueDiscs.{open_scheduler, renumbered, sent_handle, sent_handles};
 ghost use Rattle.queue_disc_core.specs.declared.answers.EnqueueFault.TheVariants as fault;
 
@@ -70,7 +71,7 @@ impl Model for QueueDisc {
 fn has_laws(sched: &Sched<Drops>)
     ensures laws { IsLawful sched.now }
     ensures ids { sched.now.standing.state.next_id ≤ MAX_ACCEPTED }
-    ensures queued { (statistics sched.now.standing.events).queued ≡ waiting_in (flows_of sched.now).lists }
+    ensures counted { IsCounted sched.now }
 {
     sched.journal_laws();
     sched.recorder();
@@ -89,50 +90,59 @@ fn drops_have_causes(sched: &Sched<Drops>)
 /// How many packets were dropped since the last acceptance.
 #[inline(always)]
 fn recent_drops(sched: &Sched<Drops>) -> u64
+    requires { HasMemory sched.now }
     ensures lost { length (lost_packets sched.now.standing.events) ≡ result + settled_drops sched.now.standing.events }
     ensures causes { length (causes_of sched.now.standing.events) ≡ result + settled_drops sched.now.standing.events }
 {
+    has_laws(sched);
     drops_have_causes(sched);
-    sched.recorder().kept()
+    let drops = sched.recorder();
+    drops.is_made_for_some();
+    drops.kept()
 }
 
 /// A scheduler before its first step, with memory for `limit` packets and one more.
 fn open_sched(alloc: Global, params: Params, seed: Seed) -> Result<Sched<Drops>, Memory>
     ensures { IfOk result (λ s. s ≡ open_scheduler params seed) }
 {
-    let mut sched = Sched::try_with_recorder(alloc, params, seed, Drops::new(alloc))?;
-    sched.reserve(u64::from(params.limit()) + 1)?;
+    let most = params.limit() as usize + 1;
+    let drops = Drops::try_new(alloc, most)?;
+    let mut sched = Sched::try_with_recorder(alloc, params, seed, drops)?;
+    sched.reserve(most as u64)?;
     Ok(sched)
 }
 
-/// An enqueue was made. Where no other is reserved, it reserves more. So it asks once in many enqueues.
+/// An enqueue was made. Where no other is reserved, it reserves more.
 #[inline(always)]
 fn keep_room(sched: &mut Sched<Drops>)
+    requires { HasMemory sched.old }
     ensures some { 0 < sched.old.room → sched.new ≡ sched.old }
+    ensures none { sched.old.room ≡ 0 → sched.new ≡ record sched.old { room = free_enqueues sched.old } }
     ensures rest { sched.new ≡ record sched.old { room = sched.new.room } }
     ensures room { sched.old.room ≤ sched.new.room }
-    ensures most { sched.new.room ≤ max sched.old.room (free_enqueues sched.old) }
+    ensures reserved { 0 < sched.new.room }
 {
     if sched.room() == 0 {
         take_room(sched);
     }
 }
 
-/// Reserves as many enqueues as packets may come before as many wait as may, but for drops that the recorder has.
-/// There is memory for all of these since the queue disc was opened, so none is taken. It says whether they are
-/// reserved.
-// Kept out of an enqueue: few come here.
+/// Reserves as many enqueues as packets may come before `limit` and one more wait. There is memory for these, so none
+/// is taken.
+// Kept out of an enqueue: few come here while less waits than `limit`.
 #[inline(never)]
-fn take_room(sched: &mut Sched<Drops>) -> bool
-    requires { sched.old.room ≡ 0 }
-    ensures taken { result ≡ true → sched.new ≡ record sched.old { room = free_enqueues sched.old } }
-    ensures refused { result ≡ false → sched.new ≡ sched.old }
-    ensures some { result ≡ true → 0 < sched.new.room }
+fn take_room(sched: &mut Sched<Drops>)
+    requires memory { HasMemory sched.old }
+    requires none { sched.old.room ≡ 0 }
+    ensures taken { sched.new ≡ record sched.old { room = free_enqueues sched.old } }
+    ensures reserved { 0 < sched.new.room }
 {
+    has_laws(sched);
+    drops_have_causes(sched);
     let most = u64::from(sched.params().limit()) + 1;
-    let used = sched.queued().saturating_add(sched.recorder().kept());
-    let enqueues = most.saturating_sub(used).max(1);
-    sched.reserve(enqueues).is_ok()
+    let enqueues = most - sched.queued();
+    let reserved = sched.reserve(enqueues);
+    prove!(reserved.is_ok());
 }
 
 /// What a dequeue answers of the packet that the scheduler gives: it has its id over all renewals.
@@ -212,7 +222,8 @@ impl QueueDisc {
 
     /// Accepts a packet at a moment, in microseconds, into the queue of its flow, as the scheduler does, and says how
     /// many packets were dropped for it. It refuses while a drop of an earlier call wasn't read, then where the
-    /// scheduler refuses the step. Where a renewal is due, it goes on with a scheduler as new first.
+    /// scheduler refuses the step, and never for want of memory. Where a renewal is due, it goes on with a scheduler as
+    /// new first.
     #[inline(always)]
     pub fn enqueue(&mut self, moment: u64, packet: Packet) -> Result<Enqueued, EnqueueFault>
         ensures made { IfOk result (λ said. IsEnqueued self.old moment packet said self.new) }
@@ -221,7 +232,7 @@ impl QueueDisc {
         ensures unread { (result ≡ Err fault.Unread) ↔ (0 < self.old.unread) }
         ensures refused { IfErr result (λ f. IsFault
             (refusal_of self.old.sched.standing.state (Enqueue moment 0 packet)) f) }
-        ensures reserved { 0 < self.old.sched.room → IfErr result (λ f. f ≢ fault.Refused refusal.Memory) }
+        ensures memory { IfErr result (λ f. f ≢ fault.Refused refusal.Memory) }
         ensures unchanged { OnErr result (self.new ≡ self.old) }
     {
         if self.unread > 0 {
@@ -240,12 +251,13 @@ impl QueueDisc {
         ensures may_come { IfOk result (λ said. MayCome self.old moment) }
         ensures refused { IfErr result
             (IsRefusal (refusal_of self.old.sched.standing.state (Enqueue moment 0 packet))) }
-        ensures reserved { 0 < self.old.sched.room
-            → OnErr result (refusal_of self.old.sched.standing.state (Enqueue moment 0 packet) ≢ None) }
+        ensures memory { OnErr result (refusal_of self.old.sched.standing.state (Enqueue moment 0 packet) ≢ None) }
         ensures unchanged { OnErr result (self.new ≡ self.old) }
     {
         if self.is_due(moment) {
-            return self.accept_anew(moment, packet);
+            // A packet whose place a call knows would be written there at each enqueue.
+            let copy = packet;
+            return self.accept_anew(moment, copy);
         }
         self.accept(moment, packet)
     }
@@ -298,8 +310,7 @@ impl QueueDisc {
         ensures may_come { IfOk result (λ said. MayCome self.old moment) }
         ensures refused { IfErr result
             (IsRefusal (refusal_of self.old.sched.standing.state (Enqueue moment 0 packet))) }
-        ensures reserved { 0 < self.old.sched.room
-            → OnErr result (refusal_of self.old.sched.standing.state (Enqueue moment 0 packet) ≢ None) }
+        ensures memory { OnErr result (refusal_of self.old.sched.standing.state (Enqueue moment 0 packet) ≢ None) }
         ensures unchanged { OnErr result (self.new ≡ self.old) }
     {
         let renewed = self.renew();
@@ -318,13 +329,13 @@ impl QueueDisc {
             refusal_of self.old.sched.standing.state (Enqueue moment 0 packet) ≡ None) }
         ensures refused { IfErr result
             (IsRefusal (refusal_of self.old.sched.standing.state (Enqueue moment 0 packet))) }
-        ensures reserved { 0 < self.old.sched.room
-            → OnErr result (refusal_of self.old.sched.standing.state (Enqueue moment 0 packet) ≢ None) }
+        ensures memory { OnErr result (refusal_of self.old.sched.standing.state (Enqueue moment 0 packet) ≢ None) }
         ensures unchanged { OnErr result (self.new ≡ self.old) }
     {
         has_laws(&self.sched);
         drops_have_causes(&self.sched);
         let admitted = self.sched.enqueue(moment, 0, packet)?;
+        has_laws(&self.sched);
         keep_room(&mut self.sched);
         has_laws(&self.sched);
         // The acceptance forgot the drops before it.
@@ -383,7 +394,9 @@ impl QueueDisc {
     {
         has_laws(&self.sched);
         drops_have_causes(&self.sched);
-        let mut dropped = self.sched.recorder().dropped(self.unread as usize);
+        let drops = self.sched.recorder();
+        drops.is_made_for_some();
+        let mut dropped = drops.dropped(self.unread as usize);
         dropped.id = self.past.accepted + dropped.id;
         self.unread -= 1;
         self.packets.read(Handle {

@@ -39,7 +39,7 @@ use Rattle.sched_core.specs.declared.sched.Sched.TheInside.{Inside}
 use Rattle.sched_core.specs.Kept.{IsBookKept, IsSchedulerKept, closes_left, scheduler_of}
 use Rattle.fair_core.specs.Overflow.{Overflow}
 use Rattle.sched_core.specs.EnqueueRooms.{TakesMemory}
-use Rattle.sched_core.specs.Schedulers.{ComparesFew, IsServed, Scheduler, discipline_of, flows_of}
+use Rattle.sched_core.specs.Schedulers.{ComparesFew, IsMadeFor, IsServed, Scheduler, discipline_of, flows_of}
 use Rattle.journal_core.specs.State.{State, arrival, refusal_of}
 use Rattle.journal_core.specs.Statistics.{length_named, statistics}
 use Rattle.journal_core.specs.Steps.{Serves, dequeue_answer, drop_event, sent_events}
@@ -132,11 +132,11 @@ module _ (p : ParamFields) (seed : Seed) where
 
   -- A step that is made, whose events took their room and are counted, and whose losses were told: each event is a fate,
   -- the acceptance or the close.
-  kept_on : {old new : State FairQueues} {places places' enqueue_room enqueue_room' : ℕ} {book book' : Book} (step : Step) (said : Answer) → IsBookKept p seed old places book enqueue_room
+  kept_on : {old new : State FairQueues} {capacity capacity' enqueue_room enqueue_room' : ℕ} {book book' : Book} (step : Step) (said : Answer) → IsBookKept p seed old capacity book enqueue_room
       → (a : Advances (fq_codel p seed) (standing_of old book) step said (standing_of new book')) → book'.room ≡ book.room - length a.made → AreCounts book'.counts book'.events → book'.sent ≡ departed_packets book'.events → book'.lost ≡ lost_packets book'.events
       → length a.made + old.next_id + closes_left new.closed ≡ length (fate_ids a.made) + new.next_id + closes_left old.closed → new.next_id ≤ 2 ^ 40 → new.last < 2 ^ 60
-      → enqueue_room' ≤ places' → enqueue_room' + new.next_id ≡ enqueue_room + old.next_id → IsBookKept p seed new places' book' enqueue_room'
-  kept_on {old} {new} {places} {places'} {enqueue_room} {enqueue_room'} {book} {book'} step said h a taken counts sent lost each few soon reserved spares =
+      → capacity ≤ capacity' → enqueue_room' + new.next_id ≡ enqueue_room + old.next_id → IsBookKept p seed new capacity' book' enqueue_room'
+  kept_on {old} {new} {capacity} {capacity'} {enqueue_room} {enqueue_room'} {book} {book'} step said h a taken counts sent lost each few soon more spares =
       let d = fq_codel p seed in
       let flows = makes_as_many (fq_codel_policy p) (policy_drops p) p.flows d.flow_of old new step said a.made a.makes ∙ h.flows in
       let history : IsHistory d.flow_of (queue_of new.queues) book'.events new.next_id new.last new.closed =
@@ -150,7 +150,7 @@ module _ (p : ParamFields) (seed : Seed) where
         some = h.some;
         flows = flows;
         space = omega (arith, h.space, h.history.left, history.left);
-        reserved = reserved;
+        reserved = omega (arith, h.reserved, h.history.left, history.left);
         long = omega (arith, h.long, h.history.left, history.left);
         accepted = counts.accepted ∙ ids;
         few = few;
@@ -170,13 +170,13 @@ module _ (p : ParamFields) (seed : Seed) where
       longer a = rw (a.journal, filter_map-append acceptance_of book.events a.made) (longest_grows (acceptances book.events) (acceptances a.made))
 
   -- a close
-  pub kept_closes : {s : State FairQueues} {places enqueue_room : ℕ} {book : Book} (moment : ℕ) → refusal_of s (Close moment) ≡ None
-      → IsBookKept p seed s places book enqueue_room → IsBookKept p seed (record s { last = moment; closed = true }) places (with_event book (Closed moment) book.counts) enqueue_room
+  pub kept_closes : {s : State FairQueues} {capacity enqueue_room : ℕ} {book : Book} (moment : ℕ) → refusal_of s (Close moment) ≡ None
+      → IsBookKept p seed s capacity book enqueue_room → IsBookKept p seed (record s { last = moment; closed = true }) capacity (with_event book (Closed moment) book.counts) enqueue_room
   kept_closes {s} {book = book} moment fits h =
       let open' = close_open s moment fits in
       let one : closes_left s.closed ≡ 1 = ap closes_left open'.open' in
       kept_on (Close moment) answer.Closed h (record { fits = fits; made = Closed moment ∷ []; makes = (refl, record { told = refl; state = refl }); journal = refl })
-      refl (counts_close book.counts book.events moment h.counts) (h.sent ∙ sym (departures_same book.events (Closed moment) refl (λ _. refl))) (h.lost ∙ sym (losses_same book.events (Closed moment) refl refl)) (omega arith) h.few open'.next.soon h.reserved refl
+      refl (counts_close book.counts book.events moment h.counts) (h.sent ∙ sym (departures_same book.events (Closed moment) refl (λ _. refl))) (h.lost ∙ sym (losses_same book.events (Closed moment) refl refl)) (omega arith) h.few open'.next.soon (omega arith) refl
 
 -- one close at most is still to come
 one_close : (closed : Bool) → closes_left closed ≤ 1
@@ -185,8 +185,8 @@ one_close false = omega arith
 
 -- what is kept with the memory that is taken
 pub kept_takes : {p : ParamFields} {seed : Seed} {held held' : Held} {book book' : Book} {last enqueue_room enqueue_room' : ℕ} {closed : Bool} (m : TakesMemory enqueue_room held book enqueue_room' held' book')
-    → IsBookKept p seed (state_of held last closed) held.room book enqueue_room
-    → IsBookKept p seed (state_of held last closed) m.places (record book { room = m.events }) enqueue_room'
+    → IsBookKept p seed (state_of held last closed) held.capacity book enqueue_room
+    → IsBookKept p seed (state_of held last closed) m.capacity (record book { room = m.events }) enqueue_room'
 kept_takes {closed = closed} m h =
     let enough = m.enough (closes_left closed) (one_close closed) (record { places = h.reserved; events = h.space }) in
     record {
@@ -224,10 +224,10 @@ recorded p seed held book moment lane packet = with_event book (accepted p seed 
 pub record Accepts (p : ParamFields) (seed : Seed) (held mid new : Held) (book book' : Book) (last moment lane enqueue_room : ℕ) (packet : PacketParts) (closed : Bool) : Type 0 where
   pub fits : refusal_of (state_of held last closed) (Enqueue moment lane packet) ≡ None
   pub some : 0 < enqueue_room
-  pub kept : IsBookKept p seed (state_of held last closed) held.room book enqueue_room
+  pub kept : IsBookKept p seed (state_of held last closed) held.capacity book enqueue_room
   pub listed : mid.queues ≡ with_arrival_listed p held.queues ((fq_codel p seed).flow_of packet.tuple) (arrival (state_of held last closed) moment packet)
   pub arrived : mid.arrived ≡ held.arrived + 1
-  pub reserved : mid.room + 1 ≡ held.room
+  pub reserved : mid.capacity ≡ held.capacity
   pub few_comparisons : CountsFew (length held.queues.lists.queues) 1 0 mid.comparisons
   pub drops : DropsOverflow p moment mid (recorded p seed held book moment lane packet) new book'
 
@@ -272,7 +272,7 @@ module _ {p : ParamFields} {seed : Seed} {held mid new : Held} {book book' : Boo
       rw leave.1 (all_in_batches (IsNamed events) leave.0
       (λ f. (ByRecursion-parts (IsNamed events) _ (queue_of new.queues f) (subst (AllByRecursion (IsNamed events)) (leave.2 f) (waiting f))).0))
 
-  pub kept_admits : IsBookKept p seed (state_of new moment closed) new.room book' (enqueue_room - 1)
+  pub kept_admits : IsBookKept p seed (state_of new moment closed) new.capacity book' (enqueue_room - 1)
   kept_admits =
       let h = a.kept in
       let found = all_found (acceptances book.events) held.arrived (fate_ids book.events) h.history.ids (recursion_from_All (λ id. id < held.arrived) (fate_ids book.events) h.history.known) in
@@ -285,13 +285,13 @@ module _ {p : ParamFields} {seed : Seed} {held mid new : Held} {book book' : Boo
       h.sent ∙ sym (departures_accept book.events held.arrived moment lane flow packet found) ∙ sym (departures_drops moment cause.Overflow entered.events lost) in
       let left = ap (λ (b : Book). b.room) a.drops.journal in
       let each = length-map lost (drop_event moment cause.Overflow) in
-      let room_is : new.room ≡ mid.room = ap (λ (x : Held). x.room) a.drops.rest in
+      let memory_is : new.capacity ≡ mid.capacity = ap (λ (x : Held). x.capacity) a.drops.rest in
       let next : new.arrived ≡ held.arrived + 1 = ap (λ (h : Held). h.arrived) a.drops.rest ∙ a.arrived in
       let open' = enqueue_open (state_of held last closed) moment lane packet a.fits in
       let drops = map (drop_event moment cause.Overflow) lost in
       let fates : length (fate_ids drops) ≡ length drops = rw append-nil at (all_fates moment cause.Overflow lost None) in
       kept_on p seed (Enqueue moment lane packet) answer.Accepted h advances (omega arith) (rw a.drops.journal counts) (rw a.drops.journal departed) (rw a.drops.journal told)
-      (omega arith) (omega (arith, open'.1)) open'.0.next.soon (omega (arith, h.reserved, a.reserved)) (omega (arith, a.some))
+      (omega arith) (omega (arith, open'.1)) open'.0.next.soon (omega (arith, memory_is, a.reserved)) (omega (arith, a.some))
 
   -- the comparisons since the arrival, and the events
   pub few_admitted : CountsFew p.flows (1 + length lost) 0 new.comparisons
@@ -368,8 +368,8 @@ one_given served None e = absurd cc
 one_given served (Some s) e = refl
 
 module _ (p : ParamFields) (seed : Seed) where
-  abbrev seen : State FairQueues → Book → ℕ → ℕ → ℕ → Scheduler
-  seen s book turns comparisons room = record { params = p; seed = seed; standing = standing_of s book; turns = turns; comparisons = comparisons; room = room }
+  abbrev seen : State FairQueues → Book → ℕ → ℕ → ℕ → ℕ → Scheduler
+  seen s book turns comparisons room capacity = record { params = p; seed = seed; standing = standing_of s book; turns = turns; comparisons = comparisons; room = room; capacity = capacity }
 
   module _ {held held' : Held} {book book' : Book} {moment turns : ℕ} {answer : Option Served} (s : MakesChain p moment held book turns answer held' book') where
     abbrev served_next : ServesNext (fq_codel_policy p) moment held.queues (dropped_in (service_in s.turns)) (given_in (service_in s.turns)) held'.queues
@@ -394,23 +394,23 @@ module _ (p : ParamFields) (seed : Seed) where
 
   -- a dequeue
   pub kept_serves : (held held' : Held) (book book' : Book) (last moment turns room : ℕ) (closed : Bool) (answer : Option Served) → MakesChain p moment held book turns answer held' book'
-      → held'.arrived ≡ held.arrived → held'.room ≡ held.room → refusal_of (state_of held last closed) (Dequeue moment) ≡ None
-      → IsBookKept p seed (state_of held last closed) held.room book room → IsBookKept p seed (state_of held' moment closed) held'.room (with_sent book' moment answer) room
-  kept_serves held held' book book' last moment turns room closed answer s arrived same_room fits h =
+      → held'.arrived ≡ held.arrived → held'.capacity ≡ held.capacity → refusal_of (state_of held last closed) (Dequeue moment) ≡ None
+      → IsBookKept p seed (state_of held last closed) held.capacity book room → IsBookKept p seed (state_of held' moment closed) held'.capacity (with_sent book' moment answer) room
+  kept_serves held held' book book' last moment turns room closed answer s arrived same_memory fits h =
       let left = left_head s in
       let waiting = waiting_known (fq_codel p seed).flow_of (queue_of held.queues) book.events held.arrived last closed h.history left.0 in
       let named = (ByRecursion-parts (IsNamed book.events) (packets_in (service_in s.turns)) (queue_of held'.queues left.0) (rw left.1 at waiting)).0 in
       kept_on p seed (Dequeue moment) (dequeue_answer (given_in (service_in s.turns))) h (record { fits = fits; made = served_events moment (service_in s.turns); makes = (given_in (service_in s.turns), refl, served s last closed arrived); journal = journal_is s })
       (rw (book_is s) (served_room book moment (service_in s.turns))) (rw (book_is s) (served_counts book moment (service_in s.turns) named h.counts))
       (rw (book_is s) (served_departures book moment (service_in s.turns) named h.sent)) (rw (book_is s) (served_losses book moment (service_in s.turns) named h.lost))
-      (omega (arith, all_fates moment cause.Codel (dropped_in (service_in s.turns)) (given_in (service_in s.turns)))) (rw arrived h.few) (dequeue_next (state_of held last closed) moment fits).soon (rw same_room h.reserved) (ap (λ n. room + n) arrived)
+      (omega (arith, all_fates moment cause.Codel (dropped_in (service_in s.turns)) (given_in (service_in s.turns)))) (rw arrived h.few) (dequeue_next (state_of held last closed) moment fits).soon (omega (arith, same_memory)) (ap (λ n. room + n) arrived)
 
   -- what is answered to a dequeue
   pub is_served : (held held' : Held) (book book' : Book) (last moment turns0 turns before after room : ℕ) (closed : Bool) (answer : Option Served) (s : MakesChain p moment held book turns answer held' book')
-      → held'.arrived ≡ held.arrived → AreSound held.queues → 0 < p.quantum → AreCreditsKept p.quantum (longest (acceptances book.events)) held.queues → refusal_of (state_of held last closed) (Dequeue moment) ≡ None
-      → IsServed (seen (state_of held last closed) book turns0 before room) moment (option_map (λ (s : Service). sent_at moment s.given) (service_in s.turns))
-      (seen (state_of held' moment closed) (with_sent book' moment answer) turns after room)
-  is_served held held' book book' last moment turns0 turns before after room closed answer s arrived sound some credits fits =
+      → held'.arrived ≡ held.arrived → held'.capacity ≡ held.capacity → AreSound held.queues → 0 < p.quantum → AreCreditsKept p.quantum (longest (acceptances book.events)) held.queues → refusal_of (state_of held last closed) (Dequeue moment) ≡ None
+      → IsServed (seen (state_of held last closed) book turns0 before room held.capacity) moment (option_map (λ (s : Service). sent_at moment s.given) (service_in s.turns))
+      (seen (state_of held' moment closed) (with_sent book' moment answer) turns after room held'.capacity)
+  is_served held held' book book' last moment turns0 turns before after room closed answer s arrived same_memory sound some credits fits =
       let made = served_events moment (service_in s.turns) in
       record {
         gives = record { fits = fits; given = given_in (service_in s.turns); made = made; serves = served s last closed arrived; journal = journal_is s; told = told (service_in s.turns) };
@@ -425,6 +425,7 @@ module _ (p : ParamFields) (seed : Seed) where
         params = refl;
         seed = refl;
         room = refl;
+        capacity = same_memory;
       }
     where
       told : (service : Option Service) → option_map (λ (s : Service). sent_at moment s.given) service ≡ option_map (sent_at moment) (given_in service)
@@ -434,7 +435,7 @@ module _ (p : ParamFields) (seed : Seed) where
   -- the comparisons of a dequeue
   pub few_served : (held held' : Held) (book book' : Book) (last moment turns0 turns before room : ℕ) (closed : Bool) (answer : Option Served) → MakesChain p moment held book turns answer held' book'
       → length held.queues.lists.queues ≡ p.flows → held.comparisons ≡ 0
-      → ComparesFew (seen (state_of held last closed) book turns0 before room) (seen (state_of held' moment closed) (with_sent book' moment answer) turns held'.comparisons room)
+      → ComparesFew (seen (state_of held last closed) book turns0 before room held.capacity) (seen (state_of held' moment closed) (with_sent book' moment answer) turns held'.comparisons room held'.capacity)
   few_served held held' book book' last moment turns0 turns before room closed answer s flows zero_before =
       let grown = ap length (journal_is s) ∙ length-append book.events (served_events moment (service_in s.turns)) ∙ ap (λ n. length book.events + n) (served_length moment (service_in s.turns)) in
       few_compared _ _ (leaving (service_in s.turns)) grown (rw (flows, zero_before) at s.answered.few_comparisons)
@@ -451,7 +452,7 @@ module _ (p : ParamFields) (seed : Seed) where
 
   -- a packet that is given has room for its fate
   pub room_for_sent : (held held' : Held) (book book' : Book) (last moment turns room : ℕ) (closed : Bool) (served : Served) → MakesChain p moment held book turns (Some served) held' book'
-      → IsBookKept p seed (state_of held last closed) held.room book room → 0 < book'.room
+      → IsBookKept p seed (state_of held last closed) held.capacity book room → 0 < book'.room
   room_for_sent held held' book book' last moment turns room closed served s h =
       let left = left_head s in
       let parts = ap length left.1 ∙ length-append (packets_in (service_in s.turns)) (queue_of held'.queues left.0) in
@@ -460,9 +461,16 @@ module _ (p : ParamFields) (seed : Seed) where
       omega (arith, h.space, one_given served (service_in s.turns) s.answered.given, length-at held.queues.lists.queues left.0)
 
   -- what is kept says nothing of comparisons
-  pub kept_counted : (held : Held) (book : Book) (last room comparisons : ℕ) (closed : Bool) → IsBookKept p seed (state_of held last closed) held.room book room
-      → IsBookKept p seed (state_of (record held { comparisons = comparisons }) last closed) held.room book room
+  pub kept_counted : (held : Held) (book : Book) (last room comparisons : ℕ) (closed : Bool) → IsBookKept p seed (state_of held last closed) held.capacity book room
+      → IsBookKept p seed (state_of (record held { comparisons = comparisons }) last closed) held.capacity book room
   kept_counted held book last room comparisons closed h = h
+
+-- turns leave the recorder made for as many packets as it was
+pub kept_made_for : (limit : ℕ) {p : ParamFields} {held held' : Held} {book book' : Book} {moment turns : ℕ} {answer : Option Served} → MakesChain p moment held book turns answer held' book'
+    → IsMadeFor limit book.made_for → IsMadeFor limit book'.made_for
+kept_made_for limit s h =
+    let same = ap (λ (b : Book). b.made_for) s.answered.journal in
+    λ some. same ∙ h (omega (arith, some, same))
 
 -- what a scheduler's invariant says of the scheduler as callers see it
 pub seen_laws : {K : Type 0} (s : Inside K) (v : Scheduler) → scheduler_of s ≡ v → IsSchedulerKept s → JournalLaws (discipline_of v).flow_of v.standing.events
@@ -479,6 +487,12 @@ pub seen_number : {K : Type 0} (s : Inside K) (v : Scheduler) → scheduler_of s
 seen_number s v e h = rw (← e) (
     omega (arith, number_of_events s.journal.events h.book.history.closed_for_good, h.book.counts.accepted, h.book.counts.fates, ap (λ b. bool_byte b) h.book.history.close)
     )
+
+pub seen_balance : {K : Type 0} (s : Inside K) (v : Scheduler) → scheduler_of s ≡ v → IsSchedulerKept s
+    → let t = statistics v.standing.events in t.accepted ≡ t.sent + t.dropped_codel + t.dropped_overflow + t.queued
+seen_balance s v e h =
+    let counts = h.book.counts in
+    rw (← e) (omega (arith, h.book.history.left, h.book.accepted, counts.accepted, counts.fates, counts.sent, counts.dropped_codel, counts.dropped_overflow))
 
 pub seen_departures : {K : Type 0} (s : Inside K) (v : Scheduler) → scheduler_of s ≡ v → IsSchedulerKept s → s.journal.sent ≡ departed_packets v.standing.events
 seen_departures s v e h = rw (← e) h.book.sent

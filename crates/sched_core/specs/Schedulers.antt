@@ -1,4 +1,4 @@
-use Rattle.std.specs.Prelude.{◌≡◌, ℕ, ◌+◌, ◌-◌, ◌*◌, ◌≤◌, [], All, length, Option}
+use Rattle.std.specs.Prelude.{◌≡◌, ℕ, ◌+◌, ◌-◌, ◌*◌, ◌<◌, ◌≤◌, [], All, length, Option}
 use Rattle.packet_core.specs.declared.flow.Seed.{Seed}
 use Rattle.packet_core.specs.declared.params.ParamFields.{ParamFields}
 use Rattle.flow_core.specs.Winners.{IsLevels}
@@ -16,8 +16,8 @@ use Rattle.fair_core.specs.TurnBound.{turns_at_most}
 use Rattle.fair_core.specs.Turns.{service_in}
 
 -- A scheduler as callers see it: what it was made with, its state and its journal, the turns of the last dequeue that
--- wasn't refused, the comparisons of two flows' bytes in the last step that wasn't refused, and how many enqueues more
--- take no memory.
+-- wasn't refused, the comparisons of two flows' bytes in the last step that wasn't refused, how many enqueues more take
+-- no memory, and for how many packets its flows have memory.
 pub record Scheduler : Type 0 where
   pub params : ParamFields
   pub seed : Seed
@@ -25,6 +25,7 @@ pub record Scheduler : Type 0 where
   pub turns : ℕ
   pub comparisons : ℕ
   pub room : ℕ
+  pub capacity : ℕ
 
 -- before the first step
 abbrev pub new_scheduler : ParamFields → Seed → Scheduler
@@ -35,6 +36,7 @@ new_scheduler p seed = record {
   turns = 0;
   comparisons = 0;
   room = 0;
+  capacity = 0;
 }
 
 -- what it schedules by
@@ -45,12 +47,18 @@ discipline_of s = fq_codel s.params s.seed
 abbrev pub flows_of : Scheduler → FairQueues
 flows_of s = s.standing.state.queues
 
--- A step is made that is no dequeue. What the scheduler was made with stays, and so do the turns of the last dequeue.
+-- Where a recorder says for how many packets it was made, that is for `limit` and one more.
+abbrev pub IsMadeFor : ℕ → ℕ → Type 0
+IsMadeFor limit made_for = 0 < made_for → made_for ≡ limit + 1
+
+-- A step is made that is no dequeue. What the scheduler was made with stays, and so do the turns of the last dequeue
+-- and the memory that there is.
 pub record IsAdvanced (old : Scheduler) (step : Step) (answer : Answer) (new : Scheduler) : Type 0 where
   pub advances : Advances (discipline_of old) old.standing step answer new.standing
   pub params : new.params ≡ old.params
   pub seed : new.seed ≡ old.seed
   pub turns : new.turns ≡ old.turns
+  pub capacity : old.capacity ≤ new.capacity
 
 -- A dequeue is made: a serving chain, whose turns are told, and whose packet is answered. It has no more turns than the
 -- bound, which is three for each new flow and two for each old one where no packet so far was longer than a quantum;
@@ -66,6 +74,7 @@ pub record IsServed (old : Scheduler) (moment : ℕ) (sent : Option Sent) (new :
   pub params : new.params ≡ old.params
   pub seed : new.seed ≡ old.seed
   pub room : new.room ≡ old.room
+  pub capacity : new.capacity ≡ old.capacity
 
 -- A step compared the bytes of two flows at most as often, for each event of its own, as a tree over the flows has
 -- levels.

@@ -42,14 +42,15 @@ impl<K: Recorder, S: StepRecorder> Engine<K, S> {
     ghost use Rattle.journal_core.specs.JournalLaws.{JournalLaws, WaitWithoutFate};
     ghost use Rattle.journal_core.specs.Losses.{AreGivenBackOnce, departed_packets, lost_packets};
     ghost use Rattle.journal_core.specs.Runs.{IsRunOf, Takes, unless_refused};
-    ghost use Rattle.sched_core.specs.Schedulers.{ComparesFew, IsAdvanced, IsServed, discipline_of, flows_of};
+    ghost use Rattle.sched_core.specs.Schedulers.{ComparesFew, IsAdvanced, IsMadeFor, IsServed, discipline_of, flows_of};
     ghost use Rattle.fair_core.specs.Shown.{flow_shown};
     ghost use Rattle.journal_core.specs.State.{refusal_of, IsRefusal, Tests};
     ghost use Rattle.journal_core.specs.Statistics.{statistics};
     ghost use Rattle.journal_core.specs.declared.step.Step.TheVariants.{Enqueue, Dequeue, Close};
     ghost use Rattle.journal_core.specs.declared.outcome.Answer.TheVariants as answer;
 
-    /// An engine before its first step, over recorders of events and of steps that were told none.
+    /// An engine before its first step, over recorders of events and of steps that were told none. Where the one of
+    /// events says for how many packets it was made, that has to be for `limit` and one more.
     pub fn try_with_recorders(
         alloc: Global,
         params: Params,
@@ -60,6 +61,7 @@ impl<K: Recorder, S: StepRecorder> Engine<K, S> {
         requires events { K.told events ≡ [] }
         requires none_sent { K.sent events ≡ [] }
         requires no_loss { K.lost events ≡ [] }
+        requires made_for { IsMadeFor params.limit (K.made_for events) }
         requires steps { S.told steps ≡ [] }
         ensures { IfOk result (λ e. e ≡ new_engine params seed) }
     {
@@ -76,9 +78,11 @@ impl<K: Recorder, S: StepRecorder> Engine<K, S> {
         requires { steps ≤ MAX_ACCEPTED }
         ensures ok { OnOk result (self.new.room ≡ max self.old.room steps) }
         ensures rest { self.new ≡ record self.old {
-          sched = record self.old.sched { room = self.new.sched.room };
+          sched = record self.old.sched { room = self.new.sched.room; capacity = self.new.sched.capacity };
           room = self.new.room;
         } }
+        ensures capacity { OnOk result (self.new.sched.capacity ≤ max self.old.sched.capacity
+            (waiting_in (flows_of self.old.sched).lists + steps)) }
         ensures missing { OnErr result (self.old.room < steps) }
         ensures err { OnErr result (self.new ≡ self.old) }
     {

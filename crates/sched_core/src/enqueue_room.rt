@@ -1,6 +1,6 @@
 //! The memory for enqueues that are still to come.
 
-ghost use Rattle.std.specs.Prelude.{◌≡◌, ◌+◌, ◌-◌, ◌^◌, ◌<◌, ◌≤◌, max, OnErr, OnOk, length};
+ghost use Rattle.std.specs.Prelude.{◌≡◌, ◌+◌, ◌-◌, ◌^◌, ◌<◌, ◌≤◌, ◌⊎◌, max, OnErr, OnOk, length};
 ghost use Rattle.flow_core.specs.FlowLists.{waiting_in};
 ghost use Rattle.sched_core.specs.EnqueueRooms.{TakesMemory, room_of};
 
@@ -38,10 +38,16 @@ impl EnqueueRoom {
     ) -> Result<(), Memory>
         requires most { enqueues ≤ MAX_ACCEPTED }
         requires events { length journal.old.events + waiting_in fair_queue.old.queues.lists ≤ 2 ^ 42 }
+        requires held { waiting_in fair_queue.old.queues.lists + self.old.enqueues ≤ fair_queue.old.capacity }
         ensures room { OnOk result (room_of self.new ≡ max (room_of self.old) enqueues) }
+        ensures capacity { OnOk result (fair_queue.new.capacity
+            ≡ max fair_queue.old.capacity (waiting_in fair_queue.old.queues.lists + enqueues)) }
         ensures memory { TakesMemory self.old.enqueues fair_queue.old journal.old
             self.new.enqueues fair_queue.new journal.new }
         ensures missing { OnErr result (self.old.enqueues < enqueues) }
+        ensures short { OnErr result (K.can_refuse
+            ⊎ (fair_queue.old.capacity < waiting_in fair_queue.old.queues.lists + enqueues)) }
+        ensures flows { OnErr result (fair_queue.new ≡ fair_queue.old) }
         ensures err { OnErr result (self.new ≡ self.old) }
     {
         if enqueues <= self.enqueues {
@@ -63,9 +69,13 @@ impl EnqueueRoom {
         requires { length journal.old.events + waiting_in fair_queue.old.queues.lists ≤ 2 ^ 42 }
         ensures ok { OnOk result (0 < self.new.enqueues) }
         ensures room { room_of self.new ≡ room_of self.old }
+        ensures none_taken { 0 < self.old.enqueues → fair_queue.new ≡ fair_queue.old }
         ensures memory { TakesMemory self.old.enqueues fair_queue.old journal.old
             self.new.enqueues fair_queue.new journal.new }
         ensures missing { OnErr result (self.old.enqueues ≡ 0) }
+        ensures short { OnErr result (K.can_refuse
+            ⊎ (fair_queue.old.capacity < waiting_in fair_queue.old.queues.lists + 1)) }
+        ensures flows { OnErr result (fair_queue.new ≡ fair_queue.old) }
     {
         if self.enqueues > 0 {
             return Ok(());
@@ -87,6 +97,9 @@ impl EnqueueRoom {
         ensures room { room_of self.new ≡ room_of self.old }
         ensures memory { TakesMemory self.old.enqueues fair_queue.old journal.old
             self.new.enqueues fair_queue.new journal.new }
+        ensures short { OnErr result (K.can_refuse
+            ⊎ (fair_queue.old.capacity < waiting_in fair_queue.old.queues.lists + 1)) }
+        ensures flows { OnErr result (fair_queue.new ≡ fair_queue.old) }
     {
         if self.grow(TAKEN_AHEAD, fair_queue, journal).is_ok() {
             return Ok(());
@@ -105,9 +118,14 @@ impl EnqueueRoom {
         requires most { enqueues ≤ MAX_ACCEPTED }
         requires events { length journal.old.events + waiting_in fair_queue.old.queues.lists ≤ 2 ^ 42 }
         ensures ok { OnOk result (self.new.enqueues ≡ enqueues) }
+        ensures capacity { OnOk result (fair_queue.new.capacity
+            ≡ max fair_queue.old.capacity (waiting_in fair_queue.old.queues.lists + enqueues)) }
         ensures room { room_of self.new ≡ room_of self.old }
         ensures memory { TakesMemory self.old.enqueues fair_queue.old journal.old
             self.new.enqueues fair_queue.new journal.new }
+        ensures short { OnErr result (K.can_refuse
+            ⊎ (fair_queue.old.capacity < waiting_in fair_queue.old.queues.lists + enqueues)) }
+        ensures flows { OnErr result (fair_queue.new ≡ fair_queue.old) }
         ensures err { OnErr result (self.new ≡ self.old) }
     {
         // The fates of the packets that wait, the close, and each packet more with its fate.

@@ -1,6 +1,6 @@
 //! The scheduler: each call makes one step, or refuses it and changes nothing, and the journal keeps what came of it.
 
-ghost use Rattle.std.specs.Prelude.{◌≡◌, ◌≢◌, ◌+◌, ◌-◌, ◌<◌, ◌≤◌, [], max, All, Some, None, IfOk, IfErr, IsOk, MatchResult, OnOk, OnErr, length};
+ghost use Rattle.std.specs.Prelude.{◌≡◌, ◌≢◌, ◌+◌, ◌-◌, ◌<◌, ◌≤◌, ◌⊎◌, [], max, All, Some, None, IfOk, IfErr, IsOk, MatchResult, OnOk, OnErr, length};
 ghost use Rattle.journal_core.specs.State.{moment_fault_of, Tests};
 ghost use Rattle.journal_core.specs.declared.outcome.Answer.TheVariants as answer;
 ghost use Rattle.journal_core.specs.declared.step.Refusal.TheVariants as refusal;
@@ -86,14 +86,15 @@ impl<K: Recorder> Sched<K> {
     ghost use Rattle.journal_core.specs.JournalLaws.{JournalLaws, WaitWithoutFate};
     ghost use Rattle.journal_core.specs.Losses.{AreGivenBackOnce, departed_packets, lost_packets};
     ghost use Rattle.journal_core.specs.Runs.{Takes};
-    ghost use Rattle.sched_core.specs.Schedulers.{ComparesFew, IsAdvanced, IsServed, discipline_of, flows_of, new_scheduler};
+    ghost use Rattle.sched_core.specs.Schedulers.{ComparesFew, IsAdvanced, IsMadeFor, IsServed, discipline_of, flows_of, new_scheduler};
     ghost use Rattle.fair_core.specs.Shown.{flow_shown};
     ghost use Rattle.journal_core.specs.State.{enqueue_refusal_of, refusal_of, IsRefusal};
     ghost use Rattle.journal_core.specs.Statistics.{statistics};
     ghost use Rattle.journal_core.specs.declared.step.Step.TheVariants.{Enqueue, Dequeue, Close};
 
-    /// A scheduler before its first step, over a recorder that was told nothing. Room for the close,
-    /// for both lists of flows, for the credits, for CoDel's states and for flow numbers is taken here.
+    /// A scheduler before its first step, over a recorder that was told nothing. Where the recorder says for how many
+    /// packets it was made, that has to be for `limit` and one more. Room for the close, for both lists of flows, for
+    /// the credits, for CoDel's states and for flow numbers is taken here.
     pub fn try_with_recorder(
         alloc: Global,
         params: Params,
@@ -103,6 +104,7 @@ impl<K: Recorder> Sched<K> {
         requires untold { K.told recorder ≡ [] }
         requires none_sent { K.sent recorder ≡ [] }
         requires no_loss { K.lost recorder ≡ [] }
+        requires made_for { IsMadeFor params.limit (K.made_for recorder) }
         ensures { IfOk result (λ s. s ≡ new_scheduler params seed) }
     {
         let classifier = Classifier::try_new(alloc, &params, seed)?;
@@ -124,8 +126,12 @@ impl<K: Recorder> Sched<K> {
     pub fn reserve(&mut self, enqueues: u64) -> Result<(), Memory>
         requires { enqueues ≤ MAX_ACCEPTED }
         ensures ok { OnOk result (self.new.room ≡ max self.old.room enqueues) }
-        ensures rest { self.new ≡ record self.old { room = self.new.room } }
+        ensures rest { self.new ≡ record self.old { room = self.new.room; capacity = self.new.capacity } }
+        ensures capacity { OnOk result (self.new.capacity
+            ≡ max self.old.capacity (waiting_in (flows_of self.old).lists + enqueues)) }
         ensures missing { OnErr result (self.old.room < enqueues) }
+        ensures short { OnErr result (K.can_refuse
+            ⊎ (self.old.capacity < waiting_in (flows_of self.old).lists + enqueues)) }
         ensures err { OnErr result (self.new ≡ self.old) }
     {
         self.enqueue_room
@@ -135,7 +141,8 @@ impl<K: Recorder> Sched<K> {
     /// How many enqueues are reserved: the next ones that are accepted, so many, take no memory.
     #[inline(always)]
     pub fn room(&self) -> u64
-        ensures { result ≡ self.now.room }
+        ensures value { result ≡ self.now.room }
+        ensures within { waiting_in (flows_of self.now).lists + result ≤ self.now.capacity }
     {
         self.enqueue_room.reserved()
     }
@@ -161,6 +168,9 @@ impl<K: Recorder> Sched<K> {
         ensures refused { IfErr result (IsRefusal (refusal_of self.old.standing.state (Enqueue moment lane packet))) }
         ensures reserved { 0 < self.old.room
             → OnErr result (refusal_of self.old.standing.state (Enqueue moment lane packet) ≢ None) }
+        ensures capacity { 0 < self.old.room → OnOk result (self.new.capacity ≡ self.old.capacity) }
+        ensures short { refusal_of self.old.standing.state (Enqueue moment lane packet) ≡ None
+            → OnErr result (K.can_refuse ⊎ (self.old.capacity ≤ waiting_in (flows_of self.old).lists)) }
         ensures unchanged { OnErr result (self.new ≡ self.old) }
     {
         self.test_enqueue(moment)?;
@@ -182,7 +192,10 @@ impl<K: Recorder> Sched<K> {
         ensures room { OnOk result (self.new.room ≡ self.old.room - 1) }
         ensures few_comparisons { OnOk result (ComparesFew self.old self.new) }
         ensures compares { 2 ≤ self.old.params.flows → OnOk result (1 ≤ self.new.comparisons) }
+        ensures capacity { 0 < self.old.room → OnOk result (self.new.capacity ≡ self.old.capacity) }
         ensures missing { OnErr result (self.old.room ≡ 0) }
+        ensures short { OnErr result (K.can_refuse
+            ⊎ (self.old.capacity ≤ waiting_in (flows_of self.old).lists)) }
         ensures unchanged { OnErr result (self.new ≡ self.old) }
     {
         self.enqueue_room
@@ -251,6 +264,7 @@ impl<K: Recorder> Sched<K> {
     pub fn close(&mut self, moment: u64) -> Result<(), CloseFault>
         ensures made { OnOk result (IsAdvanced self.old (Close moment) answer.Closed self.new) }
         ensures room { self.new.room ≡ self.old.room }
+        ensures capacity { self.new.capacity ≡ self.old.capacity }
         ensures few_comparisons { OnOk result (ComparesFew self.old self.new) }
         ensures refused { IfErr result
             (λ fault. refusal_of self.old.standing.state (Close moment) ≡ Some (close_refusal fault)) }
@@ -266,6 +280,7 @@ impl<K: Recorder> Sched<K> {
         requires { refusal_of self.old.standing.state (Close moment) ≡ None }
         ensures made { IsAdvanced self.old (Close moment) answer.Closed self.new }
         ensures room { self.new.room ≡ self.old.room }
+        ensures capacity { self.new.capacity ≡ self.old.capacity }
         ensures few_comparisons { ComparesFew self.old self.new }
     {
         self.fair_queue.clear_comparisons();
@@ -373,6 +388,7 @@ impl<K: Recorder> Sched<K> {
         ensures sent { K.sent result.now ≡ departed_packets self.now.standing.events }
         ensures lost { K.lost result.now ≡ lost_packets self.now.standing.events }
         ensures once { AreGivenBackOnce (flows_of self.now).lists.queues (K.lost result.now) self.now.standing.events }
+        ensures made_for { IsMadeFor self.now.params.limit (K.made_for result.now) }
     {
         self.journal.recorder()
     }
@@ -406,10 +422,13 @@ impl<K: Recorder> Sched<K> {
 
     /// The laws of the journal at every moment, whether its events are stored or not. It does nothing when it runs: it
     /// is called for its clauses.
-    #[tactic(auto, using(crate::proofs::KeptScheduler::seen_waits))]
+    #[tactic(auto, using(crate::proofs::KeptScheduler::seen_waits, crate::proofs::KeptScheduler::seen_balance))]
     pub fn journal_laws(&self)
         ensures laws { JournalLaws (discipline_of self.now).flow_of self.now.standing.events }
         ensures waiting { WaitWithoutFate (queue_of (flows_of self.now)) self.now.standing.events }
+        ensures balance { (statistics self.now.standing.events).accepted
+            ≡ (statistics self.now.standing.events).sent + (statistics self.now.standing.events).dropped_codel
+            + (statistics self.now.standing.events).dropped_overflow + (statistics self.now.standing.events).queued }
     {
         let _ = &self.journal;
     }

@@ -1,6 +1,7 @@
 //! Queues of flows and their lists.
 
 ghost use Rattle.std.specs.Prelude.{◌≡◌, ◌<◌, true};
+ghost use Rattle.flow_core.specs.FlowLists.{waiting_in};
 
 use crate::calls::Memory::Takes;
 use crate::calls::{Answer, Calls, Row, Subject};
@@ -58,7 +59,7 @@ fn push_one(flows: &mut Flows, packet: Packet, calls: &mut Calls<'_>) {
 
 /// Takes room for a push, and reports whether there is.
 fn takes_room(flows: &mut Flows, calls: &mut Calls<'_>) -> bool
-    ensures { result ≡ true → 0 < flows.new.room }
+    ensures { result ≡ true → waiting_in flows.new.lists < flows.new.capacity }
 {
     if flows.reserve(1).is_ok() {
         return true;

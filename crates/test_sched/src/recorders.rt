@@ -1,5 +1,9 @@
 //! Schedulers over different recorders.
 
+ghost use Rattle.std.specs.Prelude.{◌<◌, IsTrue};
+ghost use Rattle.flow_core.specs.FlowLists.{waiting_in};
+ghost use Rattle.sched_core.specs.Schedulers.{flows_of};
+
 use crate::schedulers::{SEED, come, four_flows, packet, params_of, scheduler};
 use codel_core::Served;
 use packet_core::{Packet, Waiting};
@@ -134,6 +138,24 @@ fn unstored(rt: &(impl Abort + AllocGlobal)) -> Sched<NullRecorder> {
         rt,
         "a scheduler",
     )
+}
+
+/// Reserves one enqueue more than wait. Where nothing is stored and the flows have memory for it, none is refused.
+fn reserves_one(sched: &mut Sched<NullRecorder>) -> bool
+    requires { waiting_in (flows_of sched.old).lists < sched.old.capacity }
+    ensures { IsTrue result }
+{
+    sched.reserve(1).is_ok()
+}
+
+#[test]
+fn a_reserve_is_not_refused_where_there_is_memory(rt: HostRuntime) {
+    let mut sched = unstored(&rt);
+    assert!(rt; sched.reserve(5).is_ok());
+    assert!(rt; sched.room() == 5);
+    if sched.room() > 0 {
+        assert!(rt; reserves_one(&mut sched));
+    }
 }
 
 /// The totals after a million steps, with every event stored.

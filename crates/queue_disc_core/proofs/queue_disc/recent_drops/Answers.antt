@@ -1,12 +1,18 @@
 use Rattle.std.proofs.Common.{◌+◌, List, ap, length, sym, ◌∙◌}
 use Rattle.journal_core.specs.declared.event.Event.{Event}
 use Rattle.queue_disc_core.specs.Drops.{settled_drops}
+use Rattle.queue_disc_core.proofs.Memory.{few_recent}
 use Rattle.queue_disc_core.proofs.queue_disc.recent_drops.Goals as goal
+
+pub kept-requires : goal.kept-requires
+kept-requires c =
+    rw (c.recorder-drops.ensures.lost, c.recorder-drops.ensures.told, c.recorder-drops.ensures.made_for c.is_made_for_some.ensures)
+    (few_recent c.args.sched.now c.has_laws.ensures.laws c.has_laws.ensures.counted c.requires)
 
 pub returns-clause-lost : goal.returns-clause-lost
 returns-clause-lost c =
-    ap length (sym c.recorder.ensures.lost) ∙ c.kept.ensures ∙ ap (λ (es : List Event). c.kept.result + settled_drops es) c.recorder.ensures.told
+    ap length (sym c.recorder-drops.ensures.lost) ∙ c.kept.ensures ∙ ap (λ (es : List Event). c.kept.result + settled_drops es) c.recorder-drops.ensures.told
 
 pub returns-clause-causes : goal.returns-clause-causes
 returns-clause-causes c =
-    sym c.drops_have_causes.ensures ∙ ap length (sym c.recorder.ensures.lost) ∙ c.kept.ensures ∙ ap (λ (es : List Event). c.kept.result + settled_drops es) c.recorder.ensures.told
+    sym c.drops_have_causes.ensures ∙ ap length (sym c.recorder-drops.ensures.lost) ∙ c.kept.ensures ∙ ap (λ (es : List Event). c.kept.result + settled_drops es) c.recorder-drops.ensures.told

@@ -11,7 +11,7 @@ use Rattle.flow_core.proofs.flows.Flows.try_new.Goals as goal
 
 pub invariant_of-result : goal.invariant_of-result
 invariant_of-result c =
-    let queues = c.in_ok-try_new.ensures {u = tt} in
+    let queues = (c.in_ok-try_new.ensures {u = tt}).0 in
     let listed = c.in_ok-try_new-2.ensures {u = tt} in
     let winners = c.in_ok-try_new-3.ensures {u = tt} in
     let count = length-replicate {A = List Waiting} c.args.flows [] in

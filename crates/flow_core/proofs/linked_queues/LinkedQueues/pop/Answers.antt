@@ -18,7 +18,7 @@ gone : (c : After-index_mut-slot) → let f = c.self.inside in let chain = c.ind
       slots = with_value f.slots chain.first (record { waiting = link.waiting; next = f.free.first });
       chains = with_item f.chains c.args.flow (record { first = link.next; last = chain.last; len = chain.len - 1 });
       free = record { first = chain.first; len = f.free.len + 1 };
-      room = f.room;
+      capacity = f.capacity;
     })
     (set (queues_of f).queues c.args.flow (drop 1 queue))
     × (Some link.waiting ≡ slice_get queue 0)
@@ -44,4 +44,4 @@ returns-clause-head c = rw (← c.self.view_is) (gone (goal.at.returns-clause-he
 
 pub returns-clause-rest : goal.returns-clause-rest
 returns-clause-rest c =
-    rw (← c.self.view_is) (ap (λ (queues : List (List Waiting)). let left : Queues = record { queues = queues; room = c.self.inside.room } in left) (gone (goal.at.returns-clause-rest c).After-index_mut-slot).0.seen)
+    rw (← c.self.view_is) (ap (λ (queues : List (List Waiting)). let left : Queues = record { queues = queues; capacity = c.self.inside.capacity } in left) (gone (goal.at.returns-clause-rest c).After-index_mut-slot).0.seen)

@@ -1,4 +1,4 @@
-use Rattle.std.proofs.Common.{◌≡◌, ◌≢◌, ◌-◌, ◌+◌, ◌<◌, ◌∷◌, ◌++◌, Some, [], get_or, length, set, arith}
+use Rattle.std.proofs.Common.{◌≡◌, ◌≢◌, ◌+◌, ◌<◌, ◌∷◌, ◌++◌, Some, [], get_or, length, set, arith}
 use Rattle.std.specs.Vec.{with_item}
 use Rattle.slab.specs.Slab.{get, with_value}
 use Rattle.flow_core.specs.declared.linked_queues.Link.{Link}
@@ -15,7 +15,7 @@ added c = record { key = c.place-key.result; waiting = c.args.waiting }
 placed : (c : After-index_mut-chain) → Arrives c.self.inside c.self.invariant c.place-key.new.slots c.place-key.new.self (added c)
 placed c =
     arrives c.self.inside c.self.invariant c.place-key.new.slots c.place-key.new.self (added c) c.place-key.ensures.inserted c.place-key.ensures.reused
-    (rw (← c.self.view_is) at c.requires.size) (rw (← c.self.view_is) at c.requires.room)
+    (rw (← c.self.view_is) at c.requires.size) (rw (← c.self.view_is) at c.requires.capacity)
 
 within : (c : After-index_mut-chain) → c.args.flow < length (queues_of c.self.inside).queues
 within c = rw (← c.self.view_is) at c.requires.flow
@@ -43,7 +43,7 @@ behind : (c : After-index_mut-chain) (link : Link) → c.index_mut-chain.result.
       slots = with_value c.place-key.new.slots c.index_mut-chain.result.now.last (record { waiting = link.waiting; next = c.place-key.result });
       chains = with_item c.self.inside.chains c.args.flow (record { first = c.index_mut-chain.result.now.first; last = c.place-key.result; len = c.index_mut-chain.result.now.len + 1 });
       free = c.place-key.new.self;
-      room = c.self.inside.room - 1;
+      capacity = c.self.inside.capacity;
     })
     (set (queues_of c.self.inside).queues c.args.flow (get_or (queues_of c.self.inside).queues c.args.flow [] ++ c.args.waiting ∷ []))
 behind c link some found =
@@ -55,7 +55,7 @@ first : (c : After-index_mut-chain) → c.index_mut-chain.result.now.len ≡ 0
       slots = c.place-key.new.slots;
       chains = with_item c.self.inside.chains c.args.flow (record { first = c.place-key.result; last = c.place-key.result; len = 1 });
       free = c.place-key.new.self;
-      room = c.self.inside.room - 1;
+      capacity = c.self.inside.capacity;
     })
     (set (queues_of c.self.inside).queues c.args.flow (get_or (queues_of c.self.inside).queues c.args.flow [] ++ c.args.waiting ∷ []))
 first c empty =

@@ -16,10 +16,11 @@ invariant_of-result c =
       counted = rw (items, map-replicate (packets_of c.new.result) c.args.flows no_packets, c.new.ensures.empty) (omega (arith, sum_by-replicate (length {A = Waiting}) c.args.flows []));
       flows = omega (arith, c.in_ok-chains.ensures.len, c.requires);
       few = rw c.new.ensures.empty (omega arith);
-      room = rw c.new.ensures.empty (omega arith);
+      held = rw c.new.ensures.empty (omega arith);
+      fits = omega arith;
     }
 
 pub returns : goal.returns
 returns c =
     let items : c.in_ok-chains.chains.items ≡ replicate c.args.flows no_packets = c.in_ok-chains.ensures.items_if_clones_equal (λ y h. search rules) in
-    rw items (map-replicate (packets_of c.new.result) c.args.flows no_packets)
+    (rw items (map-replicate (packets_of c.new.result) c.args.flows no_packets), refl)

@@ -1,14 +1,22 @@
-use Rattle.std.proofs.Common.{◌<◌, sym, subst, arith}
-use Rattle.queue_disc_core.specs.Drops.{DropTale}
+use Rattle.std.proofs.Common.{[], ◌∷◌, ◌++◌, length, ◌∙◌, inl, inr}
+use Rattle.std.proofs.lemmas.Bool.{cases_lt}
+use Rattle.queue_disc_core.specs.declared.answers.Dropped.{Dropped as Drop}
 use Rattle.queue_disc_core.proofs.drops.DropsRecorder.lose.Goals as goal
-use Rattle.queue_disc_core.proofs.RecentDrops.{recent_lost}
+use Rattle.queue_disc_core.proofs.RecentDrops.{first_full, first_pushed, recent_lost}
 
 pub invariant_of-self : goal.invariant_of-self
 invariant_of-self c =
     let s = c.self.inside in
     let kept = c.self.invariant in
-    let room : 0 < s.told.room = subst (λ (t : DropTale). 0 < t.room) (sym c.self.view_is) c.requires in
+    let w = c.args.packet.now in
+    let d : Drop = record { tag = w.packet.tag; id = w.id; cause = c.args.cause } in
     record {
-      recent = rw (c.push_reserved.ensures.items, c.and.ensures.items, c.and-2.ensures.items, c.loss.ensures, c.tag.ensures) (recent_lost s.drops.items s.told.items s.lost.items kept.recent c.args.packet.now c.args.moment c.args.cause);
-      fit = omega (arith, room, kept.fit, c.and.ensures.room, c.push_reserved.ensures.len, c.push_reserved.ensures.capacity);
+      all = kept.all ++ d ∷ [];
+      recent = rw (c.and.ensures.items, c.and-2.ensures.items, c.loss.ensures) (recent_lost kept.all s.told.items s.lost.items kept.recent w c.args.moment c.args.cause);
+      first = elim (cases_lt (length s.drops.items) s.most) [
+        | inl place ↦ c.keep.ensures.pushed place ∙ rw c.tag.ensures (first_pushed s.most s.drops.items kept.all d kept.first place)
+        | inr full ↦ c.keep.ensures.full full ∙ first_full s.most s.drops.items kept.all d kept.first full
+      ];
+      some = kept.some;
+      fit = c.keep.ensures.fit;
     }

@@ -1,10 +1,11 @@
-use Rattle.std.proofs.Common.{◌≡◌, ℕ, ◌-◌, ◌+◌, ◌<◌, ◌^◌, [], ◌∷◌, ◌++◌, ap, arith, length, refl, subst, sym, ◌∙◌}
+use Rattle.std.proofs.Common.{◌≡◌, ℕ, ◌+◌, ◌<◌, ◌^◌, [], ◌∷◌, ◌++◌, ap, arith, length, refl, subst, sym, ◌∙◌}
 use Rattle.journal_core.specs.declared.step.Admitted.{Admitted}
 use Rattle.journal_core.proofs.RefusalLemmas.{enqueue_open}
 use Rattle.sched_core.specs.Schedulers.{Scheduler, discipline_of}
 use Rattle.queue_disc_core.specs.declared.answers.Enqueued.{Enqueued}
 use Rattle.queue_disc_core.specs.QueueDiscKept.{disc_state_of}
 use Rattle.queue_disc_core.specs.QueueDiscs.{IsDiscAccepted, DiscState}
+use Rattle.queue_disc_core.proofs.Memory.{memory_accepts}
 use Rattle.queue_disc_core.proofs.SoundSteps.{accept_sound}
 use Rattle.queue_disc_core.proofs.QueueDiscSteps.{advanced_with_room}
 use Rattle.queue_disc_core.proofs.StepDrops.{enqueue_settles}
@@ -15,6 +16,15 @@ overflow_add-id c =
     let old : Scheduler = c.self.inside.sched in
     let few : old.standing.state.next_id < 2 ^ 40 = (enqueue_open old.standing.state c.args.moment 0 c.args.packet c.in_ok-admitted.ensures.made.advances.fits).1 in
     omega (arith, few, c.self.invariant.few, ap (λ (a : Admitted). a.id) c.in_ok-admitted.ensures.admitted)
+
+pub keep_room-requires : goal.keep_room-requires
+keep_room-requires c =
+    memory_accepts c.self.inside.sched c.enqueue.new.self c.args.moment c.args.packet c.has_laws-2.ensures.counted c.self.invariant.memory (c.in_ok-admitted.ensures.capacity c.self.invariant.reserved) c.in_ok-admitted.ensures.made
+
+pub recent_drops-self-inside-requires : goal.recent_drops-self-inside-requires
+recent_drops-self-inside-requires c =
+    let memory = memory_accepts c.self.inside.sched c.enqueue.new.self c.args.moment c.args.packet c.has_laws-2.ensures.counted c.self.invariant.memory (c.in_ok-admitted.ensures.capacity c.self.invariant.reserved) c.in_ok-admitted.ensures.made in
+    rw c.keep_room.ensures.rest (record { waits = memory.waits; recent = memory.recent; held = memory.held })
 
 abbrev new_of : goal.After-accept → DiscState
 new_of c = record {
@@ -48,6 +58,8 @@ made_of c read =
       unread = refl;
       drops = omega (arith, settles.settled, c.recent_drops-self-inside.ensures.lost, c.drops_have_causes.ensures);
       room = omega (arith, c.in_ok-admitted.ensures.room, c.keep_room.ensures.room);
+      reserved = c.keep_room.ensures.reserved;
+      capacity = ap (λ (s : Scheduler). s.capacity) c.keep_room.ensures.rest ∙ c.in_ok-admitted.ensures.capacity c.self.invariant.reserved;
       rest = λ i. record (disc_state_of c.self.inside) {
         sched = new;
         unread = c.recent_drops-self-inside.result;
@@ -60,7 +72,7 @@ made_of c read =
 pub invariant_of-self-2 : goal.invariant_of-self-2
 invariant_of-self-2 c =
     let read : c.self.inside.unread ≡ 0 = subst (λ (t : DiscState). t.unread ≡ 0) (sym c.self.view_is) c.requires in
-    accept_sound (disc_state_of c.self.inside) (new_of c) c.args.moment c.args.packet (said_of c) c.has_laws.ensures.laws c.has_laws-2.ensures.laws c.self.invariant (made_of c read)
+    accept_sound (disc_state_of c.self.inside) (new_of c) c.args.moment c.args.packet (said_of c) c.has_laws.ensures.laws c.has_laws-3.ensures.laws c.has_laws-3.ensures.counted c.self.invariant (made_of c read)
 
 pub returns-clause-made : goal.returns-clause-made
 returns-clause-made c =

@@ -3,10 +3,17 @@ use Rattle.sched_core.specs.Schedulers.{Scheduler, discipline_of}
 use Rattle.queue_disc_core.specs.declared.answers.Dequeued.{Dequeued}
 use Rattle.queue_disc_core.specs.QueueDiscKept.{disc_state_of}
 use Rattle.queue_disc_core.specs.QueueDiscs.{IsDiscDequeued, DiscState}
+use Rattle.queue_disc_core.proofs.Memory.{memory_serves}
 use Rattle.queue_disc_core.proofs.SoundSteps.{dequeue_sound}
 use Rattle.queue_disc_core.proofs.QueueDiscCalls.{sent_accepted, sent_fits}
 use Rattle.queue_disc_core.proofs.StepDrops.{dequeue_settles}
 use Rattle.queue_disc_core.proofs.queue_disc.QueueDisc.dequeue.Goals as goal
+
+pub recent_drops-before-requires : goal.recent_drops-before-requires
+recent_drops-before-requires c = c.self.invariant.memory
+
+pub recent_drops-requires : goal.recent_drops-requires
+recent_drops-requires c = memory_serves c.self.inside.sched c.dequeue.new.self c.args.moment c.in_ok-sent.sent c.self.invariant.memory c.in_ok-sent.ensures.made
 
 pub overflow_sub-drops : goal.overflow_sub-drops
 overflow_sub-drops c =

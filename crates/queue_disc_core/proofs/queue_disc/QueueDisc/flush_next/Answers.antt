@@ -7,9 +7,17 @@ use Rattle.queue_disc_core.specs.QueueDiscKept.{disc_state_of}
 use Rattle.queue_disc_core.specs.QueueDiscTotals.{more_flushed}
 use Rattle.queue_disc_core.specs.QueueDiscs.{FlushesOne, KeepsSent, DiscState, flushed_by, totals_of}
 use Rattle.queue_disc_core.proofs.QueueDiscCalls.{kept_sent, one_sound, sent_accepted, sent_fits, taken_one}
+use Rattle.queue_disc_core.proofs.Memory.{memory_serves}
 use Rattle.queue_disc_core.proofs.StepDrops.{dequeue_settles}
 use Rattle.queue_disc_core.proofs.StepMoves.{served_grows}
 use Rattle.queue_disc_core.proofs.queue_disc.QueueDisc.flush_next.Goals as goal
+
+pub recent_drops-drops-requires : goal.recent_drops-drops-requires
+recent_drops-drops-requires c = c.self.invariant.memory
+
+pub recent_drops-requires : goal.recent_drops-requires
+recent_drops-requires c =
+    memory_serves c.self.inside.sched c.dequeue_at_last-sent.new.sched c.self.inside.sched.standing.state.last c.dequeue_at_last-sent.result c.self.invariant.memory c.dequeue_at_last-sent.ensures
 
 pub overflow_sub-self : goal.overflow_sub-self
 overflow_sub-self c =

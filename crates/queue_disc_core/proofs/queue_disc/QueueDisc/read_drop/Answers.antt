@@ -7,8 +7,14 @@ use Rattle.queue_disc_core.specs.Drops.{IsDropAt}
 use Rattle.queue_disc_core.specs.QueueDiscKept.{disc_state_of}
 use Rattle.queue_disc_core.specs.QueueDiscs.{IsRead, DiscState, lost_of}
 use Rattle.queue_disc_core.proofs.Handles.{drop_below, drop_known}
+use Rattle.queue_disc_core.proofs.Memory.{few_recent}
 use Rattle.queue_disc_core.proofs.SoundSteps.{read_sound}
 use Rattle.queue_disc_core.proofs.queue_disc.QueueDisc.read_drop.Goals as goal
+
+pub dropped-dropped-requires-clause-few : goal.dropped-dropped-requires-clause-few
+dropped-dropped-requires-clause-few c =
+    rw (c.recorder-drops.ensures.lost, c.recorder-drops.ensures.told, c.recorder-drops.ensures.made_for c.is_made_for_some.ensures)
+    (few_recent c.self.inside.sched c.has_laws.ensures.laws c.has_laws.ensures.counted c.self.invariant.memory)
 
 pub overflow_add-dropped : goal.overflow_add-dropped
 overflow_add-dropped c =
@@ -16,8 +22,8 @@ overflow_add-dropped c =
     let events : List Event = s.sched.standing.events in
     let n : ℕ = length (lost_of s) - s.unread in
     let drop : IsDropAt events (lost_packets events) n c.dropped-dropped.result =
-    subst (λ (es : List Event). IsDropAt es (lost_packets events) n c.dropped-dropped.result) c.recorder.ensures.told
-    (subst (λ (ws : List Waiting). IsDropAt c.recorder.result.now.events ws (length ws - s.unread) c.dropped-dropped.result) c.recorder.ensures.lost c.dropped-dropped.ensures) in
+    subst (λ (es : List Event). IsDropAt es (lost_packets events) n c.dropped-dropped.result) c.recorder-drops.ensures.told
+    (subst (λ (ws : List Waiting). IsDropAt c.recorder-drops.result.now.events ws (length ws - s.unread) c.dropped-dropped.result) c.recorder-drops.ensures.lost c.dropped-dropped.ensures) in
     omega (arith, drop_below events n c.dropped-dropped.result c.has_laws.ensures.laws.laws.ids_in_order drop, c.self.invariant.counted, c.has_laws.ensures.ids, c.self.invariant.few)
 
 abbrev new_of : goal.After-read → DiscState
@@ -32,8 +38,8 @@ made_of c =
     let events : List Event = s.sched.standing.events in
     let n : ℕ = length (lost_of s) - s.unread in
     let drop : IsDropAt events (lost_packets events) n c.dropped-dropped.result =
-    subst (λ (es : List Event). IsDropAt es (lost_packets events) n c.dropped-dropped.result) c.recorder.ensures.told
-    (subst (λ (ws : List Waiting). IsDropAt c.recorder.result.now.events ws (length ws - s.unread) c.dropped-dropped.result) c.recorder.ensures.lost c.dropped-dropped.ensures) in
+    subst (λ (es : List Event). IsDropAt es (lost_packets events) n c.dropped-dropped.result) c.recorder-drops.ensures.told
+    (subst (λ (ws : List Waiting). IsDropAt c.recorder-drops.result.now.events ws (length ws - s.unread) c.dropped-dropped.result) c.recorder-drops.ensures.lost c.dropped-dropped.ensures) in
     let some : 0 < s.unread = subst (λ (t : DiscState). 0 < t.unread) (sym c.self.view_is) c.requires in
     record {
       drop = record { packet = drop_known s.past.accepted (lost_of s) n c.dropped-dropped.result drop.packet; cause = drop.cause };

@@ -13,7 +13,7 @@ invariant_of-self c =
     let balance = subst (λ (t : QueueDiscTotals). t.accepted ≡ t.sent + t.dropped_codel + t.dropped_overflow + t.flushed + t.queued) total c.totals-totals.ensures.balance in
     let sched : c.in_ok-sched.sched ≡ open_scheduler old.sched.params old.sched.seed = c.in_ok-sched.ensures ∙ (λ i. open_scheduler (c.params-params.ensures i) (c.seed.ensures i)) in
     subst IsSoundDisc (λ i. record old { sched = sym sched i; flushed_counts = sym c.none-self-inside.ensures i; past = sym total i })
-    (renewed_sound old due c.self.invariant balance (c.has_laws.ensures.queued ∙ due.idle))
+    (renewed_sound old due c.self.invariant balance (c.has_laws.ensures.counted.queued ∙ due.idle))
 
 pub returns-clause-made : goal.returns-clause-made
 returns-clause-made c =

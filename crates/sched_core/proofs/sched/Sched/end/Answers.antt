@@ -8,6 +8,7 @@ invariant_of-self g c =
     record {
       book = rw (c.clear_comparisons.ensures, c.close.ensures) (kept_closes _ _ c.args.moment (rw (← c.self.view_is) at c.requires) c.self.invariant.book);
       classifier = c.self.invariant.classifier;
+      made_for = rw c.close.ensures c.self.invariant.made_for;
     }
 
 pub returns-clause-few_comparisons : goal.returns-clause-few_comparisons

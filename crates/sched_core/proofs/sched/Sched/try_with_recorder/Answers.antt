@@ -52,4 +52,5 @@ invariant_of-result g c =
         credits = rw (held.0, book.0) (opening_credits _ 1 c.flows.result (omega arith));
       };
       classifier = c.in_ok-classifier.ensures {u = tt};
+      made_for = rw book.5 c.requires.made_for;
     }
