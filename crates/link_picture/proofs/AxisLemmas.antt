@@ -1,6 +1,8 @@
 -- The width of bins, turn by turn, and the last moment of packets.
-use Rattle.std.proofs.Common.{◌≡◌, ◌∙◌, ℕ, zero, suc, ◌+◌, ◌-◌, ◌*◌, ◌<◌, ◌≤◌, Some, None, ap, arith}
+use Rattle.std.proofs.Common.{◌≡◌, ◌∙◌, ℕ, zero, suc, ◌+◌, ◌-◌, ◌*◌, ◌/◌, ◌%◌, ◌<◌, ◌≤◌, min, Some, None, ap, arith}
 use Rattle.std.specs.Prelude.{unwrap_or}
+use Rattle.std.proofs.Math.Nat.{le_trans, mul-le-mul_right}
+use Rattle.std.proofs.lemmas.Grind.{div_ceil_times}
 use Rattle.link_picture.specs.Axes.{in_64, width_after, width_near}
 
 -- a turn that finds none
@@ -25,3 +27,7 @@ turns_over turn width from upto over =
     ap (λ n. width_after n width from upto) is
 
 pub ruleset turns = (turn_none, turn_some, turns_over)
+
+-- Where a length, divided by a step and rounded up, is so much at most, so many steps reach it.
+pub reached : (length steps step : ℕ) → 0 < step → length / step + min 1 (length % step) ≤ steps → length ≤ steps * step
+reached length steps step some few = le_trans (div_ceil_times length step some).0 (mul-le-mul_right step few)

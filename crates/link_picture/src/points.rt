@@ -54,7 +54,9 @@ pub fn bin_x(count: u64, place: u64) -> u64
 }
 
 /// Where a time is that so many microseconds have passed from the start of the first bin, from the left edge.
-pub fn time_x(axis: &Axis, time: u64) -> u64 {
+pub fn time_x(axis: &Axis, time: u64) -> u64
+    ensures { result ≤ PANEL_LEFT + PANEL_WIDTH }
+{
     let length = axis.count.saturating_sub(1).saturating_mul(axis.width);
     PANEL_LEFT + part_of(u128::from(time), length.max(1), PANEL_WIDTH)
 }

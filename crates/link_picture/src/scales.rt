@@ -1,6 +1,6 @@
 //! The scales of a picture's panels.
 
-ghost use Rattle.std.specs.Prelude.{◌≡◌, ◌<◌, ◌≤◌, ◌^◌, ◌+◌, IfOk};
+ghost use Rattle.std.specs.Prelude.{◌≡◌, ◌<◌, ◌≤◌, ◌^◌, ◌*◌, ◌+◌, IfOk, IsTrue};
 
 use crate::octaves::octave;
 use journal_core::Memory;
@@ -74,7 +74,9 @@ pub struct RateScale {
 
 impl RateScale {
     /// The scale on which that rate is at or near the top, with at most five lines above 0.
-    pub fn upto(most: u64) -> RateScale {
+    pub fn upto(most: u64) -> RateScale
+        ensures { most ≤ 5 * result.step }
+    {
         let step = round_step(most, 5);
         RateScale {
             top: most.div_ceil(step).saturating_mul(step).max(step),
@@ -85,17 +87,27 @@ impl RateScale {
 
 /// The least of 1, 2, 5, 10, 20, 50 .. of which so many reach a length.
 pub fn round_step(length: u64, steps: u64) -> u64
-    ensures { 0 < result }
+    ensures some { 0 < result }
+    ensures reach { 0 < steps → length ≤ steps * result }
 {
     let mut tens = 1u64;
     for _turn in 0..20 {
         for times in [1, 2, 5] {
             let step = tens.saturating_mul(times).max(1);
-            if length.div_ceil(step) <= steps {
+            if reaches(length, steps, step) {
                 return step;
             }
         }
         tens = tens.saturating_mul(10);
     }
     u64::MAX
+}
+
+/// Whether so many steps reach a length.
+#[tactic(auto, using(crate::proofs::AxisLemmas::reached))]
+fn reaches(length: u64, steps: u64, step: u64) -> bool
+    requires { 0 < step }
+    ensures { IsTrue result → length ≤ steps * step }
+{
+    length.div_ceil(step) <= steps
 }
