@@ -6,6 +6,7 @@ ghost use Rattle.codel_core.specs.Schedule.{IsStateInRange, StaysInRange};
 ghost use Rattle.codel_core.specs.Verdict.{ServesLine};
 
 use crate::heads::{judge_heads, serve_heads};
+use crate::limits::MAX_WAITING;
 use crate::line::{DropSink, Held, Peek, Pull};
 use crate::served::Served;
 use crate::state::CodelState;
@@ -70,7 +71,7 @@ impl Codel {
         sink: &mut S,
     ) -> Option<Served>
         requires room { length (L.items line.old) ≤ S.room sink.old }
-        requires size { length (L.items line.old) ≤ 2 ^ 40 }
+        requires size { length (L.items line.old) ≤ MAX_WAITING }
         requires moment { now < 2 ^ 60 }
         requires numbers { IsStateInRange self.old }
         ensures none { IsNone result ↔ (L.items line.old ≡ []) }
@@ -92,7 +93,7 @@ impl Codel {
         sink: &mut S,
     ) -> Option<Served>
         requires room { length (L.items line.old) ≤ S.room sink.old }
-        requires size { length (L.items line.old) ≤ 2 ^ 40 }
+        requires size { length (L.items line.old) ≤ MAX_WAITING }
         requires moment { now < 2 ^ 60 }
         requires numbers { IsStateInRange self.old }
         ensures none { IsNone result ↔ (L.items line.old ≡ []) }
@@ -114,7 +115,7 @@ fn serve_held<L: Pull, S: DropSink>(
     sink: &mut S,
 ) -> Option<Served>
     requires room { length (L.items line.old) ≤ S.room sink.old }
-    requires size { length (L.items line.old) ≤ 2 ^ 40 }
+    requires size { length (L.items line.old) ≤ MAX_WAITING }
     requires moment { now < 2 ^ 60 }
     requires numbers { IsStateInRange state.old }
     ensures none { IsNone result ↔ (L.items line.old ≡ []) }

@@ -9,6 +9,7 @@ ghost use Rattle.codel_core.specs.Heads.{DropsHead, JudgesLine, MarksHead};
 
 use crate::control_law::spacing;
 use crate::judge::{enter, may_mark, passes, should_drop};
+use crate::limits::MAX_WAITING;
 use crate::line::{DropSink, Judged, Peek, take_head};
 use crate::served::{Mark, Served, mark_by_threshold};
 use crate::state::CodelState;
@@ -24,7 +25,7 @@ pub(crate) fn serve_heads<L: Peek, S: DropSink>(
     sink: &mut S,
 ) -> Option<Served>
     requires room { length (L.items line.old) ≤ S.room sink.old }
-    requires size { length (L.items line.old) ≤ 2 ^ 40 }
+    requires size { length (L.items line.old) ≤ MAX_WAITING }
     requires moment { now < 2 ^ 60 }
     requires numbers { IsStateInRange state.old }
     ensures none { IsNone result ↔ (L.items line.old ≡ []) }
@@ -53,7 +54,7 @@ pub(crate) fn judge_heads<L: Judged, S: DropSink>(
     sink: &mut S,
 ) -> Mark
     requires room { length (L.judged line.old) ≤ S.room sink.old }
-    requires size { length (L.judged line.old) ≤ 2 ^ 40 }
+    requires size { length (L.judged line.old) ≤ MAX_WAITING }
     requires moment { now < 2 ^ 60 }
     requires numbers { IsStateInRange state.old }
     ensures judges { JudgesLine L.judged L.advanced S.taken params.now now
@@ -85,7 +86,7 @@ fn judge_droppable_head<L: Judged, S: DropSink>(
     sink: &mut S,
 ) -> Mark
     requires room { length (L.judged line.old) ≤ S.room sink.old }
-    requires size { length (L.judged line.old) ≤ 2 ^ 40 }
+    requires size { length (L.judged line.old) ≤ MAX_WAITING }
     requires moment { now < 2 ^ 60 }
     requires numbers { IsStateInRange state.old }
     requires droppable { IsDroppable params.now now (L.judged line.old) state.old.first_above 0 }
@@ -139,7 +140,7 @@ fn head_of<L: Judged>(line: &L) -> &Waiting
 /// Whether the head of a line that isn't empty is droppable. It keeps `first_above`.
 fn judge_head<L: Judged>(state: &mut CodelState, line: &L, now: u64, params: &Params) -> bool
     requires some { 0 < length (L.judged line.now) }
-    requires size { length (L.judged line.now) ≤ 2 ^ 40 }
+    requires size { length (L.judged line.now) ≤ MAX_WAITING }
     requires moment { now < 2 ^ 60 }
     ensures droppable { IsTrue result ↔ IsDroppable params.now now (L.judged line.now) state.old.first_above 0 }
     ensures first_above { FirstAbove (IsLate params.now now (L.judged line.now) 0) params.now.interval now

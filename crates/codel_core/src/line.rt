@@ -4,6 +4,7 @@ ghost use Rattle.std.specs.Prelude.{◌≡◌, Some, ℕ, ◌+◌, ◌^◌, ◌<
 ghost use Rattle.packet_core.specs.declared.packet.Waiting.{Waiting};
 ghost use Rattle.codel_core.specs.Queue.{bytes_of};
 
+use crate::limits::MAX_WAITING;
 use packet_core::Waiting;
 
 /// A line of waiting packets that CoDel takes from the head of.
@@ -22,7 +23,7 @@ pub trait Pull {
 
     /// The lengths of the packets that wait, added up.
     fn bytes_left(&self) -> u64
-        requires { length (items self.now) ≤ 2 ^ 40 }
+        requires { length (items self.now) ≤ MAX_WAITING }
         ensures { result ≡ bytes_of (items self.now) };
 
     ghost pulled_none: { (a : Self) → pulled a 0 a };
@@ -39,7 +40,7 @@ pub trait Peek: Pull {
     /// The lengths of the packets behind the head, added up. The head is handed in, since the caller has it.
     fn bytes_behind(&self, head: &Waiting) -> u64
         requires head { Some head.now ≡ slice_get (Self.items self.now) 0 }
-        requires size { length (Self.items self.now) ≤ 2 ^ 40 }
+        requires size { length (Self.items self.now) ≤ MAX_WAITING }
         ensures { result ≡ bytes_of (drop 1 (Self.items self.now)) };
 }
 
@@ -58,7 +59,7 @@ pub(crate) trait Judged {
     /// The lengths of the packets behind the head, added up. The head is handed in, since the caller has it.
     fn behind(&self, head: &Waiting) -> u64
         requires head { Some head.now ≡ slice_get (judged self.now) 0 }
-        requires size { length (judged self.now) ≤ 2 ^ 40 }
+        requires size { length (judged self.now) ≤ MAX_WAITING }
         ensures { result ≡ bytes_of (drop 1 (judged self.now)) };
 
     /// Takes the head. None where nothing waits.

@@ -88,7 +88,7 @@ then the rows 'totals' and 'tuple' of 'fqsim trace --help', and
 
 Which thread comes first is up to the machine, so two runs of one trace may
 write different journals: in the order of acceptance between senders, in the
-moments of the steps, and so in what is dropped, marked or left behind the
+moments of the steps, and so in what is dropped, marked or left after the
 close. Always the packets of one sender are accepted in their order, each packet
 that was accepted is sent or dropped, SUBMITTED is ACCEPTED and LEFT together,
 and the ACCEPTED of all senders are that of the totals.
@@ -121,20 +121,20 @@ The moments of 'enq' rows aren't used. The device makes the 'deq' and 'close'
 rows in their order, while the senders run. Its moment starts at 0, and grows to
 that of each of these rows where that is greater. At a 'deq' row the device
 first pumps each lane, by rising number: at most 64 of its packets are accepted,
-at the device's moment. Then it asks for a packet. Behind the close no lane is
+at the device's moment. Then it asks for a packet. After the close no lane is
 pumped.
 
-Behind the last row the device waits until all senders are done, and pumps each
+After the last row the device waits until all senders are done, and pumps each
 lane, by rising number, until it is empty. Then the scheduler is closed where no
 row closed it, and packets are taken at the last moment until none waits.
 
 Of a row 'sender', SUBMITTED counts the packets that the sender submitted,
 ACCEPTED those of its lane that were accepted, and LEFT those that stand in the
-lane at the end, behind the close.
+lane at the end, after the close.
 
 With M above 0 the device publishes its statistics at each 'deq' row and at the
 end. Each monitor, a thread of its own, reads without a lock what was published
-last, until the run has ended, and the last thing that it saw is told on
+last, until the run has ended, and the last thing that it saw is printed on
 standard error, by rising number:
 
   monitor I EVENTS ACCEPTED SENT DROPPED QUEUED
@@ -144,7 +144,7 @@ standard error, by rising number:
 
 How many packets stand in a lane when it is pumped is up to the machine, so two
 runs of one trace may write different journals: in which packets of a lane are
-accepted at which 'deq' row, and so in what is dropped, marked or left behind
+accepted at which 'deq' row, and so in what is dropped, marked or left after
 the close. Always the packets of one sender are accepted in their order, each
 once, SUBMITTED is ACCEPTED and LEFT together, each packet that was accepted is
 sent or dropped, and the ACCEPTED of all senders are that of the totals.
@@ -282,10 +282,23 @@ Exit status:
      'fqsim: parameter word PLACE: NAME' (places count the parameter words from
      1) or 'fqsim: row ROW: NAME' (rows count from 1).
 
+Common mistakes, each with what it gives and what to write in its place:
+
+  fqsim trace FILE     word 1: UnknownWord  fqsim trace < FILE
+  --limit 1000         unexpected argument  limit 1000
+  limit 10240p         NotANumber           limit 10240
+  memory_limit 32Mb    NotANumber           memory_limit 33554432
+  target 5.0ms         NotANumber           target 5ms
+  a row of names       row 1: BadKind       rows of steps alone
+  enq, 0, 17, ..       BadNumber            enq,0,17,..
+  2001:db8::1          BadAddress           20010db8000000000000000000000001 and
+                                            'version,2' in the first row
+  --version            unexpected argument  the file VERSION has it
+
 Faults of a parameter word, at their place:
 
   UnknownWord        the word names no parameter, or no way to classify
-  MissingValue       no word stands behind a parameter that wants a value
+  MissingValue       no word stands after a parameter that needs a value
   NotANumber         the value isn't written as a number or a time is
   OutOfRange         the value is outside its range
 

@@ -13,7 +13,7 @@ ghost use Rattle.fair_core.specs.FairQueues.{AreSound, flow_state_at, emptied_li
 use crate::flow_state::FlowState;
 use crate::flow_view::FlowView;
 use codel_core::{Codel, Served};
-use flow_core::Flows;
+use flow_core::{Flows, MAX_WAITING};
 use journal_core::{Cause, Event, Journal, JournalSink, Memory, Recorder};
 use packet_core::{Params, Waiting};
 use std::alloc::Global;
@@ -83,7 +83,7 @@ impl FairQueue {
 
     /// Takes memory for so many packets more than wait, into whatever flows. It fails only where there is less.
     pub fn reserve(&mut self, arrivals: u64) -> Result<(), Memory>
-        requires { arrivals ≤ 2 ^ 40 }
+        requires { arrivals ≤ MAX_WAITING }
         ensures queues { self.new.queues ≡ self.old.queues }
         ensures arrived { self.new.arrived ≡ self.old.arrived }
         ensures capacity { self.old.capacity ≤ self.new.capacity }
@@ -132,7 +132,7 @@ impl FairQueue {
     /// How many packets wait.
     pub fn waiting(&self) -> u64
         ensures value { result ≡ waiting_in self.now.queues.lists }
-        ensures size { result ≤ 2 ^ 40 }
+        ensures size { result ≤ MAX_WAITING }
     {
         self.flows.total_len()
     }
@@ -179,7 +179,7 @@ impl FairQueue {
     pub fn arrive(&mut self, flow: u32, waiting: Waiting, params: &Params)
         requires flow { flow < length self.old.queues.lists.queues }
         requires capacity { waiting_in self.old.queues.lists < self.old.capacity }
-        requires few { self.old.arrived < 2 ^ 40 }
+        requires few { self.old.arrived < MAX_WAITING }
         ensures queues { self.new.queues ≡ with_arrival_listed params.now self.old.queues flow waiting }
         ensures arrived { self.new.arrived ≡ self.old.arrived + 1 }
         ensures capacity { self.new.capacity ≡ self.old.capacity }
@@ -321,8 +321,7 @@ impl FairQueue {
     }
 
     /// The flow at the head of the lists goes to the end of the list of old flows.
-    // Kept out of a dequeue, and `move_emptied` too: most turns serve a flow.
-    #[inline(never)]
+    #[inline(always)]
     fn move_to_old(&mut self, head: Head)
         requires { head_of self.old.queues ≡ Some head }
         ensures { self.new ≡ with_lists self.old (to_old self.old.queues.lists head) }
@@ -334,6 +333,7 @@ impl FairQueue {
     }
 
     /// The flow at the head of the lists has no packet: a new flow becomes an old one, and an old flow leaves.
+    // Kept out of a dequeue: most turns serve a flow.
     #[inline(never)]
     fn move_emptied(&mut self, head: Head)
         requires { head_of self.old.queues ≡ Some head }

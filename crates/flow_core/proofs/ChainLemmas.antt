@@ -8,7 +8,7 @@ use Rattle.std.proofs.lemmas.List.Sums.{sum_by-set}
 use Rattle.packet_core.specs.declared.packet.Waiting.{Waiting}
 use Rattle.slab.specs.Slab.{ContainsKey, Slab, Updates, get, slab_len, with_value}
 use Rattle.slab.proofs.SlabLemmas.{ContainsKey-within, Updates-with_value}
-use Rattle.flow_core.specs.declared.limits.TheConstants.{MAX_WAITING}
+use Rattle.codel_core.specs.declared.limits.TheConstants.{MAX_WAITING}
 use Rattle.flow_core.specs.declared.linked_queues.Chain.{Chain}
 use Rattle.flow_core.specs.declared.linked_queues.LinkedQueues.TheInside.{Inside}
 use Rattle.flow_core.specs.declared.linked_queues.FreeSlots.{FreeSlots}

@@ -1,9 +1,11 @@
 pub mod ByteLemmas
 pub mod ChainLemmas
 pub mod FlowNumberLemmas
+pub mod MoveLemmas
 pub mod NodeLemmas
 pub mod PlacedLemmas
 pub mod ReadLemmas
+pub mod RingLemmas
 pub mod SeenLemmas
 pub mod TopLemmas
 pub mod WinnerLemmas

@@ -6,7 +6,8 @@ use Rattle.flow_core.specs.declared.linked_queues.Chain.{Chain}
 use Rattle.flow_core.specs.declared.linked_queues.LinkedQueues.TheInside.{Inside}
 use Rattle.flow_core.specs.declared.linked_queues.FreeSlots.{FreeSlots}
 use Rattle.flow_core.specs.declared.linked_queues.Link.{Link}
-use Rattle.flow_core.specs.declared.limits.TheConstants.{MAX_FLOWS, MAX_WAITING}
+use Rattle.codel_core.specs.declared.limits.TheConstants.{MAX_WAITING}
+use Rattle.flow_core.specs.declared.limits.TheConstants.{MAX_FLOWS}
 use Rattle.flow_core.specs.Queues.{Queues}
 
 -- the packet of a slot, and the key of the one behind it

@@ -3,7 +3,8 @@ use Rattle.std.specs.Prelude.{◌≡◌, ◌≤◌, All, length, map, sum_by}
 use Rattle.packet_core.specs.Packets.{IsLengthInRange}
 use Rattle.codel_core.specs.Queue.{bytes_of}
 use Rattle.flow_core.specs.declared.flows.Flows.TheInside.{Inside}
-use Rattle.flow_core.specs.declared.limits.TheConstants.{MAX_FLOWS, MAX_WAITING}
+use Rattle.codel_core.specs.declared.limits.TheConstants.{MAX_WAITING}
+use Rattle.flow_core.specs.declared.limits.TheConstants.{MAX_FLOWS}
 use Rattle.flow_core.specs.FlowLists.{Holding}
 
 -- the flows as callers see them

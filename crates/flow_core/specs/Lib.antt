@@ -6,6 +6,7 @@ pub mod Listed
 pub mod ListedFlows
 pub mod Pulling
 pub mod Queues
+pub mod Rings
 pub mod WinnerNodes
 pub mod Winners
 pub mod WinnersKept

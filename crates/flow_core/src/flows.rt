@@ -7,11 +7,11 @@ ghost use Rattle.flow_core.specs.Fattest.{IsFattest, bytes_at};
 ghost use Rattle.flow_core.specs.FlowLists.{AreListed, bytes_in, no_flows, queue_at, waiting_in, with_queue};
 ghost use Rattle.flow_core.specs.Winners.{CountsFew, IsLevels};
 
-use crate::limits::{MAX_FLOWS, MAX_WAITING, Memory};
+use crate::limits::{MAX_FLOWS, Memory};
 use crate::linked_queues::LinkedQueues;
 use crate::listed_flows::ListedFlows;
 use crate::winner_tree::WinnerTree;
-use codel_core::{Peek, Pull};
+use codel_core::{MAX_WAITING, Peek, Pull};
 use packet_core::Waiting;
 use std::alloc::Global;
 use std::marker::Model;

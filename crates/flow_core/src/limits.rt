@@ -1,4 +1,4 @@
-//! How many flows there are and how many packets wait, at most, and the name of a refused growth.
+//! How many flows there are at most, and the name of a refused growth.
 
 use std::alloc::AllocError;
 
@@ -7,6 +7,3 @@ pub type Memory = AllocError;
 
 /// The most flows.
 pub const MAX_FLOWS: u32 = 65_536;
-
-/// The most packets that wait at once, in all flows together.
-pub const MAX_WAITING: u64 = 1 << 40;

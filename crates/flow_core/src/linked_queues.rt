@@ -3,7 +3,8 @@
 ghost use Rattle.std.specs.Prelude.{◌≡◌, ◌+◌, ◌-◌, ◌^◌, ◌<◌, ◌≤◌, [], ◌∷◌, ◌++◌, IfOk, OnErr, OnOk, drop, get_or, length, max, option_copied, replicate, set, slice_get, sum_by};
 ghost use Rattle.slab.specs.Slab.{ContainsKey, HasRoomFor};
 
-use crate::limits::{MAX_FLOWS, MAX_WAITING, Memory};
+use crate::limits::{MAX_FLOWS, Memory};
+use codel_core::MAX_WAITING;
 use packet_core::Waiting;
 use slab::Slab;
 use std::alloc::Global;

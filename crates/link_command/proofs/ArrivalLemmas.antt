@@ -13,12 +13,11 @@ use Rattle.row_core.specs.declared.faults.TraceFaultKind.{TraceFaultKind}
 use Rattle.link_core.specs.Arrivals.{AreArrivals, arrival_moment}
 use Rattle.link_core.specs.declared.arrival.Arrival.{Arrival}
 use Rattle.link_core.specs.declared.arrival.TheConstants.{MAX_ARRIVALS, MAX_ARRIVAL_MOMENT}
-use Rattle.link_command.specs.ArrivalTexts.{HasItsRow, IsItsRow, IsOwnFault, IsOwnRow, IsPlaceFault, IsRowOfStep, IsStepFault, IsTextFault, arrival_step, last_arrival_of, step_fault, without_lane}
+use Rattle.link_command.specs.ArrivalTexts.{IsOwnFault, IsOwnRow, IsPlaceFault, IsRowFault, IsRowOfStep, IsStepFault, IsTextFault, arrival_step, last_arrival_of, step_fault, without_lane}
 use Rattle.link_command.specs.declared.arrivals.NoArrivals.{NoArrivals}
 use Rattle.link_command.specs.declared.arrivals.NoArrivals.TheVariants as no_arrivals
 use Rattle.link_command.specs.declared.faults.RowFault.{RowFault}
 use Rattle.link_command.specs.declared.faults.RowFault.TheVariants.{Trace, NotAnArrival, TooLate, Backwards}
-use Rattle.link_command.proofs.InputLemmas.{row_of_place}
 
 -- one that comes at the last moment or later
 pub arrivals_push : (arrivals : List Arrival) (a : Arrival) (last : ℕ) → AreArrivals arrivals → All (λ (b : Arrival). b.moment ≤ last) arrivals → last ≤ a.moment → a.moment < MAX_ARRIVAL_MOMENT → length arrivals < MAX_ARRIVALS
@@ -108,21 +107,17 @@ step_fault_stays steps step place what h = record {
 
 -- which stays the first one, whatever step follows
 pub fault_stays : (steps : List Step) (step : Step) (place : ℕ) (what : RowFault) → IsPlaceFault steps place what → IsPlaceFault (steps ++ step ∷ []) place what
-fault_stays steps step place (Trace what) h = (h.0, omega (arith, h.1, length_push steps step))
+fault_stays steps step place (Trace what) h = absurd h
 fault_stays steps step place NotAnArrival h = step_fault_stays steps step place NotAnArrival h
 fault_stays steps step place TooLate h = step_fault_stays steps step place TooLate h
 fault_stays steps step place Backwards h = step_fault_stays steps step place Backwards h
 
 -- and has its row
-its_row : (text : List ℕ) (row place : ℕ) (steps : List Step) (what : RowFault) → trace_of text ≡ Ok steps → IsPlaceFault steps place what → IsRowOfStep text row place → IsItsRow text row what
-its_row text row place steps (Trace what) read fault row_is = tt
+its_row : (text : List ℕ) (row place : ℕ) (steps : List Step) (what : RowFault) → trace_of text ≡ Ok steps → IsPlaceFault steps place what → IsRowOfStep text row place → IsRowFault text row what
+its_row text row place steps (Trace what) read fault row_is = absurd fault
 its_row text row place steps NotAnArrival read fault row_is = record { steps = steps; read = read; place = place; fault = fault; row_is = row_is }
 its_row text row place steps TooLate read fault row_is = record { steps = steps; read = read; place = place; fault = fault; row_is = row_is }
 its_row text row place steps Backwards read fault row_is = record { steps = steps; read = read; place = place; fault = fault; row_is = row_is }
-
-pub has_its_row : (text : List ℕ) (place : ℕ) (steps : List Step) (own : NoArrivals) → trace_of text ≡ Ok steps → IsOwnFault steps place own → IsOwnRow text place own → HasItsRow text own
-has_its_row text place steps (no_arrivals.Row row what) read fault row_is = its_row text row place steps what read fault row_is
-has_its_row text place steps no_arrivals.Memory read fault row_is = tt
 
 -- the fault of a row, or no row's, stays the first one too
 pub own_stays : (steps : List Step) (step : Step) (place : ℕ) (own : NoArrivals) → IsOwnFault steps place own → IsOwnFault (steps ++ step ∷ []) place own
@@ -130,9 +125,9 @@ own_stays steps step place (no_arrivals.Row row what) h = fault_stays steps step
 own_stays steps step place no_arrivals.Memory h = tt
 
 -- and is the text's
-pub text_fault : (text : List ℕ) (steps : List Step) (place : ℕ) (own : NoArrivals) → trace_of text ≡ Ok steps → IsOwnFault steps place own → IsTextFault text own
-text_fault text steps place (no_arrivals.Row row what) read fault = row_of_place text row what steps place read fault
-text_fault text steps place no_arrivals.Memory read fault = (steps, read)
+pub text_fault : (text : List ℕ) (steps : List Step) (place : ℕ) (own : NoArrivals) → trace_of text ≡ Ok steps → IsOwnFault steps place own → IsOwnRow text place own → IsTextFault text own
+text_fault text steps place (no_arrivals.Row row what) read fault row_is = its_row text row place steps what read fault row_is
+text_fault text steps place no_arrivals.Memory read fault row_is = (steps, read)
 
 -- a step that is no arrival is no want of memory
 pub no_memory : (last : ℕ) (step : Step) (what : RowFault) → step_fault last step ≡ Some what → what ≡ Trace kind.Memory → ⊥

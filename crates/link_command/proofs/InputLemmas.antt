@@ -1,17 +1,14 @@
 -- The faults of an input, by the row that they are told at.
-use Rattle.std.proofs.Common.{◌≡◌, ℕ, List, Option, Some, None, Ok, inr, subst}
+use Rattle.std.proofs.Common.{◌≡◌, ℕ, List, Option, Some, None, subst}
 use Rattle.std.specs.Prelude.{IfSome}
-use Rattle.journal_core.specs.declared.step.Step.{Step}
-use Rattle.row_core.specs.Traces.{trace_of}
 use Rattle.link_core.specs.declared.arrival.Arrival.{Arrival}
-use Rattle.link_command.specs.ArrivalTexts.{IsArrivalText, IsPlaceFault, IsRowFault, IsTextFault}
+use Rattle.link_command.specs.ArrivalTexts.{IsArrivalText, IsRowFault, IsTextFault}
 use Rattle.link_command.specs.InputFaults.{IsInputFault, IsToldAs, IsToldAt}
 use Rattle.link_command.specs.declared.arrivals.NoArrivals.{NoArrivals}
 use Rattle.link_command.specs.declared.arrivals.NoArrivals.TheVariants as no_arrivals
 use Rattle.link_command.specs.declared.faults.ProgramFault.{ProgramFault}
 use Rattle.link_command.specs.declared.faults.ProgramFault.TheVariants.{CommandLine, NotUtf8, Value, Seed, Params, Row, Memory, Write}
 use Rattle.link_command.specs.declared.faults.RowFault.{RowFault}
-use Rattle.link_command.specs.declared.faults.RowFault.TheVariants.{Trace, NotAnArrival, TooLate, Backwards}
 
 -- the fault of a row
 pub told_at : (known : Option (List ℕ)) (row : ℕ) (what : RowFault) (f : ProgramFault) → IsToldAt row what f → IfSome known (λ bytes. IsRowFault bytes row what)
@@ -29,14 +26,6 @@ told_at known row what Write h g = h
 pub told_as : (text : List ℕ) (none : NoArrivals) (f : ProgramFault) → IsToldAs none f → IsTextFault text none → IsInputFault (Some text) f
 told_as text (no_arrivals.Row row what) f h g = told_at (Some text) row what f h g
 told_as text no_arrivals.Memory f h g = rw h tt
-
--- a step that is no arrival, by its row
-pub row_of_place : (bytes : List ℕ) (row : ℕ) (what : RowFault) (steps : List Step) (place : ℕ) → trace_of bytes ≡ Ok steps → IsPlaceFault steps place what
-    → IsRowFault bytes row what
-row_of_place bytes row (Trace what) steps place read fault = inr (record { steps = steps; read = read; place = place; fault = fault })
-row_of_place bytes row NotAnArrival steps place read fault = record { steps = steps; read = read; place = place; fault = fault }
-row_of_place bytes row TooLate steps place read fault = record { steps = steps; read = read; place = place; fault = fault }
-row_of_place bytes row Backwards steps place read fault = record { steps = steps; read = read; place = place; fault = fault }
 
 unknown : (text : List ℕ) (f : ProgramFault) → IsInputFault (Some text) f → IsInputFault None f
 unknown text (Row number is found) h = tt

@@ -1,11 +1,13 @@
 -- The faults of a run, by the step that they come from.
-use Rattle.std.proofs.Common.{◌≡◌, ◌≢◌, ◌≤◌, ◌⊎◌, ℕ, Bool, List, Option, Some, None, Result, Ok, Err, true, String, Global, inl, inr, refl, ap, length, arith, ◌*◌}
+use Rattle.std.proofs.Common.{◌≡◌, ◌≢◌, ◌≤◌, ◌⊎◌, ℕ, Bool, List, Option, Some, None, Result, Ok, Err, true, false, String, Global, inl, inr, refl, ap, length, subst, sym, arith, ◌*◌, ◌∙◌}
 use Rattle.std.specs.Prelude.{IfErr, IfSome, IsErrAnd, option_map}
 use Rattle.journal_core.specs.declared.event.Event.{Event}
 use Rattle.journal_core.specs.declared.step.Step.{Step}
+use Rattle.journal_core.specs.JournalLaws.{JournalLaws}
 use Rattle.journal_core.specs.Runs.{Made, journal_of}
 use Rattle.journal_core.specs.State.{State}
 use Rattle.packet_core.specs.declared.flow.Seed.{Seed as SeedOfRun}
+use Rattle.packet_core.specs.declared.packet.FiveTuple.{FiveTuple}
 use Rattle.packet_core.specs.declared.params.ParamFields.{ParamFields}
 use Rattle.fair_core.specs.FairQueues.{FairQueues}
 use Rattle.link_core.specs.declared.arrival.Arrival.{Arrival}
@@ -17,7 +19,9 @@ use Rattle.link_report.specs.FlowTables.{flows_text, known_flows_text}
 use Rattle.link_report.specs.Packets.{Known, known_of}
 use Rattle.link_report.specs.declared.summary.TheConstants.{MAX_EVENTS}
 use Rattle.link_report.proofs.PacketLemmas.{few_packets}
-use Rattle.link_report.specs.SeriesTables.{series_text}
+use Rattle.link_report.specs.Binnings.{AreToldInOrder}
+use Rattle.link_report.specs.SeriesTables.{queue_text, series_text}
+use Rattle.link_report.specs.declared.table.Queue.{Queue}
 use Rattle.link_report.specs.StepTables.{steps_text}
 use Rattle.link_command.specs.CommandLine.{AsksForLink, IsLinkMistake, Texts}
 use Rattle.link_command.specs.FaultsOn.{IsWordsFault}
@@ -116,10 +120,20 @@ pub beside_fifo : (has_fifo : Bool) (run : RunParts) (arrivals : List Arrival) (
     → IsBeside has_fifo run arrivals (Some fifo)
 beside_fifo has_fifo run arrivals fifo asked is = rw asked is
 
+-- and none where it isn't
+pub beside_none : (has_fifo : Bool) (run : RunParts) (arrivals : List Arrival) → has_fifo ≡ false → IsBeside has_fifo run arrivals None
+beside_none has_fifo run arrivals alone = rw alone tt
+
 -- a table of bins
 pub bins_table : (table : TableName) (has_fifo : Bool) (run : RunParts) (arrivals : List Arrival) (steps : List Step) (events : List Event) (fifo : Option (List Event)) (text : List ℕ)
     → table ≡ Series → IsBeside has_fifo run arrivals fifo → text ≡ series_text run.every events fifo → IsTable table has_fifo run arrivals steps events text
 bins_table table has_fifo run arrivals steps events fifo text same beside told = rw same (record { fifo = fifo; beside = beside; journals = told })
+
+-- A recorder of bins was told a run's events in order, so it has their part of the table.
+pub rows_told : (queue : Queue) (every : ℕ) (flow_of : FiveTuple → ℕ) (events told : List Event) (text : List ℕ) → told ≡ events → JournalLaws flow_of events → (AreToldInOrder told → text ≡ queue_text queue every told) → text ≡ queue_text queue every events
+rows_told queue every flow_of events told text same laws is =
+    let order : AreToldInOrder events = record { ids = laws.ids_in_order; follow = laws.fates_follow } in
+    is (subst AreToldInOrder (sym same) order) ∙ ap (queue_text queue every) same
 
 -- the tables of packets are those of the journals whose packets they are
 pub flows_of_packets : {B : Type 0} (journal : B → List Event) (events : List Event) (fifo : Option B)

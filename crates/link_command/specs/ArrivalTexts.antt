@@ -1,5 +1,5 @@
 -- The arrivals that a trace has, and what is wrong with one that has others.
-use Rattle.std.specs.Prelude.{◌≡◌, ◌⊎◌, ℕ, ◌+◌, ◌-◌, ◌<◌, List, [], ◌∷◌, ◌++◌, Option, Some, None, Ok, get_or, length, map, nat_le, nat_lt, take, if◌then◌else◌}
+use Rattle.std.specs.Prelude.{◌≡◌, ℕ, ◌+◌, ◌-◌, ◌<◌, List, [], ◌∷◌, ◌++◌, Option, Some, None, Ok, get_or, length, map, nat_le, nat_lt, take, if◌then◌else◌}
 use Rattle.journal_core.specs.declared.step.Step.{Step}
 use Rattle.journal_core.specs.declared.step.Step.TheVariants.{Enqueue, Dequeue, Close}
 use Rattle.row_core.specs.Traces.{HasTaken, IsFaultOf, next_number, trace_of}
@@ -7,7 +7,7 @@ use Rattle.row_core.specs.declared.reader.TraceRows.{TraceRows}
 use Rattle.row_core.specs.declared.faults.TraceFaultKind.TheVariants as kind
 use Rattle.link_core.specs.Arrivals.{AreArrivals, moment_at}
 use Rattle.link_core.specs.declared.arrival.Arrival.{Arrival}
-use Rattle.link_core.specs.declared.arrival.TheConstants.{MAX_ARRIVALS, MAX_ARRIVAL_MOMENT}
+use Rattle.link_core.specs.declared.arrival.TheConstants.{MAX_ARRIVAL_MOMENT}
 use Rattle.link_command.specs.declared.arrivals.NoArrivals.{NoArrivals}
 use Rattle.link_command.specs.declared.arrivals.NoArrivals.TheVariants as no_arrivals
 use Rattle.link_command.specs.declared.faults.RowFault.{RowFault}
@@ -50,29 +50,6 @@ pub record IsStepFault (steps : List Step) (place : ℕ) (what : RowFault) : Typ
   pub before : map without_lane (take place steps) ≡ map arrival_step arrivals
   pub fault : step_fault (last_arrival_of arrivals) (get_or steps place (Close 0)) ≡ Some what
 
--- The same, of a place at which there are more arrivals than a link takes, too.
-abbrev pub IsPlaceFault : List Step → ℕ → RowFault → Type 0
-IsPlaceFault steps place (Trace what) = (what ≡ kind.TooLarge) × (MAX_ARRIVALS < length steps)
-IsPlaceFault steps place NotAnArrival = IsStepFault steps place NotAnArrival
-IsPlaceFault steps place TooLate = IsStepFault steps place TooLate
-IsPlaceFault steps place Backwards = IsStepFault steps place Backwards
-
--- The bytes are a trace, and a step of it is the first one that is no arrival. Nothing is said of the number of its row.
-pub record HasPlaceFault (bytes : List ℕ) (what : RowFault) : Type 0 where
-  pub steps : List Step
-  pub read : trace_of bytes ≡ Ok steps
-  pub place : ℕ
-  pub fault : IsPlaceFault steps place what
-
--- The fault of a row, which is counted from 1. It is the first fault of the grammar of traces, or that of the first step
--- that is no arrival.
-abbrev pub IsRowFault : List ℕ → ℕ → RowFault → Type 0
-IsRowFault bytes row (Trace what) =
-    IsFaultOf bytes (record { row = row; what = what }) ⊎ HasPlaceFault bytes (Trace what)
-IsRowFault bytes row NotAnArrival = HasPlaceFault bytes NotAnArrival
-IsRowFault bytes row TooLate = HasPlaceFault bytes TooLate
-IsRowFault bytes row Backwards = HasPlaceFault bytes Backwards
-
 -- The rows before this one ask for as many steps as stand before the place. This row asks for one more: the step at the
 -- place.
 pub record IsRowOfStep (text : List ℕ) (row place : ℕ) : Type 0 where
@@ -95,6 +72,14 @@ pub record IsNoArrivalAt (text : List ℕ) (row : ℕ) (what : RowFault) : Type 
   pub fault : IsStepFault steps place what
   pub row_is : IsRowOfStep text row place
 
+-- The fault of a row, which is counted from 1. It is the first fault of the grammar of traces, or that of the first step
+-- that is no arrival, where the text has no fault of the grammar.
+abbrev pub IsRowFault : List ℕ → ℕ → RowFault → Type 0
+IsRowFault text row (Trace what) = IsFaultOf text (record { row = row; what = what })
+IsRowFault text row NotAnArrival = IsNoArrivalAt text row NotAnArrival
+IsRowFault text row TooLate = IsNoArrivalAt text row TooLate
+IsRowFault text row Backwards = IsNoArrivalAt text row Backwards
+
 -- The text is a trace.
 abbrev pub IsTrace : List ℕ → Type 0
 IsTrace text = (steps : List Step) × (trace_of text ≡ Ok steps)
@@ -104,21 +89,17 @@ abbrev pub IsTextFault : List ℕ → NoArrivals → Type 0
 IsTextFault text (no_arrivals.Row row what) = IsRowFault text row what
 IsTextFault text no_arrivals.Memory = IsTrace text
 
--- The number of a row that is no arrival. `IsRowFault` says that of a fault of traces.
-abbrev pub IsItsRow : List ℕ → ℕ → RowFault → Type 0
-IsItsRow text row (Trace what) = Unit {0}
-IsItsRow text row NotAnArrival = IsNoArrivalAt text row NotAnArrival
-IsItsRow text row TooLate = IsNoArrivalAt text row TooLate
-IsItsRow text row Backwards = IsNoArrivalAt text row Backwards
-
-abbrev pub HasItsRow : List ℕ → NoArrivals → Type 0
-HasItsRow text (no_arrivals.Row row what) = IsItsRow text row what
-HasItsRow text no_arrivals.Memory = Unit {0}
-
 -- Memory was wanting at a row.
 abbrev pub IsMemoryOfRow : NoArrivals → Type 0
 IsMemoryOfRow (no_arrivals.Row row what) = what ≡ Trace kind.Memory
 IsMemoryOfRow no_arrivals.Memory = ⊥
+
+-- The fault is that of the step at this place. It is none of the grammar.
+abbrev pub IsPlaceFault : List Step → ℕ → RowFault → Type 0
+IsPlaceFault steps place (Trace what) = ⊥
+IsPlaceFault steps place NotAnArrival = IsStepFault steps place NotAnArrival
+IsPlaceFault steps place TooLate = IsStepFault steps place TooLate
+IsPlaceFault steps place Backwards = IsStepFault steps place Backwards
 
 -- The row's own fault is that of the step at this place, if it is a row's.
 abbrev pub IsOwnFault : List Step → ℕ → NoArrivals → Type 0

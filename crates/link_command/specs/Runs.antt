@@ -12,8 +12,9 @@ use Rattle.link_core.specs.LinkRuns.{IsLinkRun}
 use Rattle.link_core.specs.declared.arrival.Arrival.{Arrival}
 use Rattle.link_report.specs.FlowTables.{flows_text}
 use Rattle.link_report.specs.PacketTables.{packets_text}
-use Rattle.link_report.specs.SeriesTables.{series_text}
+use Rattle.link_report.specs.SeriesTables.{queue_text, series_text}
 use Rattle.link_report.specs.StepTables.{steps_text}
+use Rattle.link_report.specs.declared.table.Queue.TheVariants.{FqCodel, Fifo}
 use Rattle.link_command.specs.ArrivalTexts.{IsArrivalText}
 use Rattle.link_command.specs.CommandLine.{AsksForLink, AsksForText, IsLinkMistake, Texts}
 use Rattle.link_command.specs.FaultsOn.{IsWordsFault}
@@ -60,6 +61,19 @@ IsTable Packets has_fifo run arrivals steps events text = IsComparedText Packets
 IsTable Series has_fifo run arrivals steps events text = IsComparedText Series has_fifo run arrivals events text
 IsTable Steps has_fifo run arrivals steps events text = text ≡ steps_text steps
 IsTable Svg has_fifo run arrivals steps events text = IsComparedText Svg has_fifo run arrivals events text
+
+-- The rows are the header and those of the bins of the journal of the link's run of these arrivals before FQ-CoDel.
+pub record HasRunRows (run : RunParts) (arrivals : List Arrival) (rows : List ℕ) : Type 0 where
+  pub steps : List Step
+  pub events : List Event
+  pub journal : IsJournalOf run arrivals steps events
+  pub text : rows ≡ queue_text FqCodel run.every events
+
+-- The rows are those of the bins of the journal of a FIFO's run of these arrivals.
+pub record HasFifoRows (run : RunParts) (arrivals : List Arrival) (rows : List ℕ) : Type 0 where
+  pub events : List Event
+  pub fifo : IsFifoJournal run.params run.seed run.link arrivals events
+  pub text : rows ≡ queue_text Fifo run.every events
 
 -- The text is the trace of the steps of a run of these arrivals.
 pub record IsTraceOf (run : RunParts) (arrivals : List Arrival) (text : List ℕ) : Type 0 where

@@ -3,7 +3,7 @@
 ghost use Rattle.std.specs.Prelude.{◌≡◌, ◌<◌, ◌≤◌, [], ℕ, List, IfErr, IfOk, IfSome, Some, length, vec_len};
 ghost use Rattle.row_core.specs.Traces.{HasFailed, HasTaken, IsFaultOf};
 ghost use Rattle.link_core.specs.Arrivals.{AreArrivals};
-ghost use Rattle.link_command.specs.ArrivalTexts.{HasItsRow, IsArrivalText, IsMemoryOfRow, IsOwnFault, IsOwnRow, IsTextFault, arrival_step, step_fault, without_lane};
+ghost use Rattle.link_command.specs.ArrivalTexts.{IsArrivalText, IsMemoryOfRow, IsOwnFault, IsOwnRow, IsTextFault, arrival_step, step_fault, without_lane};
 ghost use Rattle.link_command.specs.InputFaults.{IsInputFault, IsToldAs, IsToldAt};
 
 use crate::faults::{Found, ProgramFault, RowFault};
@@ -166,7 +166,6 @@ fn arrivals_of(alloc: Global, rows: &mut TraceRows<'_>) -> Result<Vec<Arrival>, 
     ensures text { IfOk result (λ arrivals. (text : List ℕ)
         → HasTaken text rows.old 0 [] → IsArrivalText text arrivals.items) }
     ensures fault { IfErr result (λ why. (text : List ℕ) → HasTaken text rows.old 0 [] → IsTextFault text why) }
-    ensures row { IfErr result (λ why. (text : List ℕ) → HasTaken text rows.old 0 [] → HasItsRow text why) }
 
     // Want of memory is that of a row only where the reader of rows has failed.
     ensures memory { IfErr result (λ why. IsMemoryOfRow why → HasFailed rows.new) }
@@ -205,9 +204,7 @@ fn arrivals_of(alloc: Global, rows: &mut TraceRows<'_>) -> Result<Vec<Arrival>, 
 fn first_fault(rows: &mut TraceRows<'_>, mut steps: GhostList<Step>, own: NoArrivals) -> NoArrivals
     requires { IsMemoryOfRow own → ⊥ }
     ensures fault { (text : List ℕ) (turns place : ℕ) → HasTaken text rows.old turns steps.items
-        → IsOwnFault steps.items place own → IsTextFault text result }
-    ensures row { (text : List ℕ) (turns place : ℕ) → HasTaken text rows.old turns steps.items
-        → IsOwnFault steps.items place own → IsOwnRow text place own → HasItsRow text result }
+        → IsOwnFault steps.items place own → IsOwnRow text place own → IsTextFault text result }
     ensures memory { IsMemoryOfRow result → HasFailed rows.new }
 {
     // A record takes a byte or more, so the text ends before the turns do.

@@ -8,9 +8,11 @@ ghost use Rattle.link_core.specs.LinkRuns.{HasRunLink};
 ghost use Rattle.link_command.specs.CommandLine.{texts_of};
 ghost use Rattle.link_command.specs.Faults.{status_of};
 ghost use Rattle.link_command.specs.declared.faults.ProgramFault.{ProgramFault};
-ghost use Rattle.link_command.specs.Runs.{Answers, FailsBy, IsAsked, IsFaultOn, IsJournalText, IsComparedText, IsRunFault, IsTableFor, IsTableOf, IsTraceOf};
+ghost use Rattle.link_command.specs.Runs.{Answers, FailsBy, HasFifoRows, HasRunRows, IsAsked, IsFaultOn, IsJournalText, IsComparedText, IsRunFault, IsTableFor, IsTableOf, IsTraceOf};
 ghost use Rattle.link_command.specs.RunsSaid.{run_parts_of};
+ghost use Rattle.link_report.specs.Binnings.{AreToldInOrder};
 ghost use Rattle.link_report.specs.Packets.{known_of};
+ghost use Rattle.link_report.specs.SeriesTables.{queue_text};
 ghost use Rattle.sched_core.specs.Schedulers.{IsMadeFor};
 
 use crate::arrivals::read_arrivals;
@@ -20,16 +22,15 @@ use crate::notes::{Stage, Terminals, note_input, note_stage};
 use crate::values::{Run, run_of};
 use link_core::laws::few_events;
 use link_core::{
-    Arrival, fifo_few_events, run_fifo, run_fifo_with_recorder, run_link_with_recorders,
+    Arrival, fifo_fates, fifo_few_events, run_fifo_with_recorder, run_link_with_recorders,
 };
 use link_picture::picture_text_of;
 use link_report::{
-    Gathered, MAX_EVENTS, Packets, flows_text_of, packets_text_of, series_text_with_seed,
-    steps_text,
+    Binned, Gathered, MAX_EVENTS, Packets, Queue, flows_text_of, packets_text_of, steps_text,
 };
 use packet_core::Seed;
 use row_core::MAX_ROWS;
-use sched_core::{Engine, EventList, Memory, NullRecorder, Recorder, StepList, StepRecorder};
+use sched_core::{Engine, Memory, NullRecorder, Recorder, StepList, StepRecorder};
 use std::alloc::{AllocError, Global};
 use std::io::{Read, Write};
 use trace_core::write_text;
@@ -219,8 +220,8 @@ fn trace_text<F: Write>(
     Ok(steps_text(alloc, engine.steps())?)
 }
 
-/// The table of bins of a run of these arrivals, beside those of a FIFO where that is asked for. It reads the events in
-/// their order.
+/// The table of bins of a run of these arrivals, beside those of a FIFO where that is asked for. The rows are made as the
+/// events are told, so no journal is stored. The packets of the run go before the FIFO's come.
 #[inline(never)]
 fn bins_text<F: Write>(
     alloc: Global,
@@ -236,15 +237,53 @@ fn bins_text<F: Write>(
     ensures fault { IfErr result (λ fault. fault ≡ ProgramFault.Memory) }
     ensures quiet { terminals.faults ≡ false → Keeps (F.contents notes.old) (F.contents notes.new) }
 {
-    let events = EventList::new(alloc);
-    let engine = run_told(alloc, run, arrivals, events, NullRecorder::new())?;
+    let mut text = run_rows(alloc, run, arrivals)?;
     note_stage(notes, terminals, Stage::Run, arrivals.len());
     if !request.has_fifo {
-        return Ok(series_text_with_seed(alloc, &run.seed, run.every, engine.events(), None)?);
+        return Ok(text);
     }
-    let fifo = run_fifo(alloc, run.params, run.seed, &run.link, arrivals)?;
+    let rows = fifo_rows(alloc, run, arrivals)?;
     note_stage(notes, terminals, Stage::Compared, arrivals.len());
-    Ok(series_text_with_seed(alloc, &run.seed, run.every, engine.events(), Some(&fifo))?)
+    text.extend_from_slice(&rows)?;
+    Ok(text)
+}
+
+/// The header and the rows of bins of a run of these arrivals.
+#[inline(never)]
+fn run_rows(alloc: Global, run: &Run, arrivals: &[Arrival]) -> Result<Vec<u8>, Memory>
+    requires { AreArrivals arrivals.now }
+    ensures { IfOk result (λ rows. HasRunRows (run_parts_of run.now) arrivals.now rows.items) }
+{
+    let events = Binned::try_new(alloc, &run.seed, Queue::FqCodel, run.every)?;
+    let engine = run_told(alloc, run, arrivals, events, NullRecorder::new())?;
+    engine.journal_laws();
+    let (left, _) = engine.give_up();
+    rows_of_bins(left.recorder, Queue::FqCodel, run.every)
+}
+
+/// The rows of bins of a FIFO's run of these arrivals.
+#[inline(never)]
+fn fifo_rows(alloc: Global, run: &Run, arrivals: &[Arrival]) -> Result<Vec<u8>, Memory>
+    requires { AreArrivals arrivals.now }
+    ensures { IfOk result (λ rows. HasFifoRows (run_parts_of run.now) arrivals.now rows.items) }
+{
+    let events = Binned::try_new(alloc, &run.seed, Queue::Fifo, run.every)?;
+    let told = run_fifo_with_recorder(alloc, run.params, run.seed, &run.link, arrivals, events)?;
+    // Each fate of the journal comes behind its acceptance.
+    fifo_fates();
+    rows_of_bins(told, Queue::Fifo, run.every)
+}
+
+/// The text of a recorder of that queue with bins of that width. Runs say of a recorder only what it was told, so the queue
+/// and the width are looked at. They are always these.
+fn rows_of_bins(binned: Binned, queue: Queue, every: u64) -> Result<Vec<u8>, Memory>
+    ensures { IfOk result (λ text. AreToldInOrder binned.events → text.items ≡ queue_text queue every binned.events) }
+{
+    if binned.queue() == queue && binned.every() == every {
+        binned.into_text()
+    } else {
+        Err(AllocError)
+    }
 }
 
 /// The table of a run's packets, beside that of a FIFO's where one is asked for.

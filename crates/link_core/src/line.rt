@@ -5,7 +5,7 @@ ghost use Rattle.std.specs.Prelude.{◌≡◌, ◌<◌, ◌≤◌, ◌^◌, ◌+
 use crate::arrival::{Arrival, MAX_ARRIVALS};
 use crate::free_at::FreeAt;
 use crate::link::Link;
-use codel_core::{Mark, Served};
+use codel_core::{MAX_WAITING, Mark, Served};
 use journal_core::{Cause, Event, GhostList, Memory, Recorder};
 use packet_core::{Params, Seed, Waiting};
 use std::alloc::Global;
@@ -108,7 +108,7 @@ impl Line {
         arrival: &Arrival,
         flow: u32,
     ) -> Result<(), Memory>
-        requires few { self.old.arrived < 2 ^ 40 }
+        requires few { self.old.arrived < MAX_WAITING }
         requires flow { HasFlow self.old.params self.old.seed flow arrival.now }
         requires told { AreTold (K.told recorder.old) (K.sent recorder.old) (K.lost recorder.old) self.old }
         ensures taken { OnOk result (HasTakenIn self.old arrival.now self.new) }

@@ -236,7 +236,7 @@ abbrev IsTable : List Event → Type 0
 IsTable events = (known_of events).packets ≡ map (record_of events) (acceptances events)
 
 -- what is known with an event more
-known_push : (before : List Event) (e : Event) → known_of (before ++ e ∷ []) ≡ known_with_event (known_of before) e
+pub known_push : (before : List Event) (e : Event) → known_of (before ++ e ∷ []) ≡ known_with_event (known_of before) e
 known_push before e = fold-append known_with_event nothing_known before (e ∷ [])
 
 -- a packet is accepted, whose id no fate names so far
@@ -301,7 +301,7 @@ table_closes before moment table =
 -- ALL EVENTS
 
 -- the ids accepted before a point are in order
-ids_before : (before behind : List Event) → IdsInOrder (before ++ behind) → map id_of (acceptances before) ≡ range_with_len 0 (length (acceptances before))
+pub ids_before : (before behind : List Event) → IdsInOrder (before ++ behind) → map id_of (acceptances before) ≡ range_with_len 0 (length (acceptances before))
 ids_before before behind ids =
     front_ids 0 (length (acceptances (before ++ behind))) (acceptances before) (acceptances behind) (sym (ap (map id_of) (filter_map-append acceptance_of before behind)) ∙ ids)
 

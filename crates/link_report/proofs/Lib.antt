@@ -5,3 +5,4 @@ pub mod PercentileLemmas
 pub mod GroupLemmas
 pub mod SummaryLemmas
 pub mod SeriesLemmas
+pub mod BinLemmas

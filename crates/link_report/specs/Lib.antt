@@ -12,3 +12,4 @@ pub mod FlowTables
 pub mod SummaryFields
 pub mod Series
 pub mod SeriesTables
+pub mod Binnings

@@ -166,6 +166,10 @@ later (suc count) walk = let last = later count walk in record (ended last) { bi
 abbrev pub on_to : ℕ → Walk → Walk
 on_to bin walk = record (later (bin - walk.bin) walk) { bin = bin }
 
+-- The same with room for so many five-tuples. Nothing happened to those that are new.
+abbrev pub widened : ℕ → Walk → Walk
+widened tuples walk = record walk { happenings = walk.happenings ++ replicate (tuples - length walk.happenings) nothing }
+
 -- an event of that packet happened in the bin
 abbrev pub noted : PacketRecord → Walk → Event → Walk
 noted p walk event = record walk {
@@ -191,10 +195,13 @@ walk_with_event packets walk (Closed moment) = walk
 abbrev pub walked : Queue → ℕ → ℕ → List PacketRecord → List Event → Walk
 walked queue every tuples packets events = fold (walk_with_event packets) (begun queue every tuples) events
 
+-- the walk over a queue's journal
+abbrev pub journal_walk : Queue → ℕ → List Event → Walk
+journal_walk queue every events = walked queue every (length (known_of events).tuples) (known_of events).packets events
+
 -- the rows of a queue's journal: those of the bins of its events, the last one's too
 abbrev pub series_lines : Queue → ℕ → List Event → List ℕ
-series_lines queue every events =
-    (ended (walked queue every (length (known_of events).tuples) (known_of events).packets events)).text
+series_lines queue every events = (ended (journal_walk queue every events)).text
 
 -- The table: its header, the rows of the scheduler's journal, by bin and then by five-tuple, and then those of the
 -- journal of the other queue, where there is one.
@@ -202,6 +209,16 @@ abbrev pub series_text : ℕ → List Event → Option (List Event) → List ℕ
 series_text every events None = line_of series_header ++ series_lines FqCodel every events
 series_text every events (Some fifo) =
     (line_of series_header ++ series_lines FqCodel every events) ++ series_lines Fifo every fifo
+
+-- what stands before a queue's rows: the header stands once, before those of the scheduler
+abbrev pub heading : Queue → List ℕ
+heading FqCodel = line_of series_header
+heading Fifo = []
+
+-- A queue's part of the table: the scheduler's begins with the header. The table is the scheduler's part, and then that of
+-- the other queue, where there is one.
+abbrev pub queue_text : Queue → ℕ → List Event → List ℕ
+queue_text queue every events = heading queue ++ series_lines queue every events
 
 -- how often a number is among some
 abbrev pub times : List ℕ → ℕ → ℕ

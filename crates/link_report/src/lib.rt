@@ -2,6 +2,7 @@
 //! packets, with the delays of those that were sent.
 #![tactic(auto)]
 
+mod binned;
 mod flows;
 mod gathered;
 mod groups;
@@ -14,6 +15,7 @@ mod steps;
 mod summary;
 mod table;
 
+pub use binned::Binned;
 pub use flows::{flows_text, flows_text_of};
 pub use gathered::Gathered;
 pub use laws::one_fate_each;

@@ -16,7 +16,7 @@ use text_core::Digits;
 
 /// What happened to the packets of a five-tuple in a bin, and what waits. Lengths are in bytes, delays in microseconds.
 #[derive(Clone, Copy)]
-struct Happenings {
+pub(crate) struct Happenings {
     /// Packets that arrived, and their lengths, added up.
     packets: u64,
     bytes: u64,
@@ -172,7 +172,7 @@ fn beside(mean: Option<u64>, delay: u64) -> Option<u64>
 
 /// The bin that events fall in, as they come.
 #[derive(Drop)]
-struct Series {
+pub(crate) struct Series {
     alloc: Global,
     queue: Queue,
     /// The width of a bin, in microseconds.
@@ -235,7 +235,7 @@ fn write_series(
 }
 
 /// The header.
-fn header(table: &mut Table) -> Result<(), Memory>
+pub(crate) fn header(table: &mut Table) -> Result<(), Memory>
     ensures { OnOk result (Tables.AddsToTable table.old table.new (Tables.line_of series_header)) }
 {
     table.row(&[
@@ -276,7 +276,12 @@ fn queue_rows(
 
 impl Series {
     /// The first bin, where nothing happened yet, with room for so many five-tuples.
-    fn new(alloc: Global, queue: Queue, every: u64, tuples: usize) -> Result<Series, Memory>
+    pub(crate) fn new(
+        alloc: Global,
+        queue: Queue,
+        every: u64,
+        tuples: usize,
+    ) -> Result<Series, Memory>
         ensures { IfOk result (λ series. IsIn series (Spec.begun queue every tuples)) }
     {
         Ok(Series {
@@ -289,13 +294,40 @@ impl Series {
         })
     }
 
+    /// The queue whose events it takes.
+    pub(crate) fn queue(&self) -> Queue
+        ensures { result ≡ self.now.queue }
+    {
+        self.queue
+    }
+
+    /// The width of a bin, in microseconds.
+    pub(crate) fn every(&self) -> u64
+        ensures { result ≡ self.now.every }
+    {
+        self.every
+    }
+
+    /// Makes room for so many five-tuples. Nothing happened to those that are new.
+    pub(crate) fn widen(&mut self, tuples: usize) -> Result<(), Memory>
+        ensures queue { self.new.queue ≡ self.old.queue }
+        ensures every { self.new.every ≡ self.old.every }
+        ensures walk { OnOk result ((walk : Walk) → IsIn self.old walk → IsIn self.new (Spec.widened tuples walk)) }
+    {
+        for _number in self.happenings.len()..tuples {
+            self.happenings.push(Happenings::none())?;
+        }
+        Ok(())
+    }
+
     /// Takes an event, of one of those packets, into its bin. The bins before are written.
-    fn take(
+    pub(crate) fn take(
         &mut self,
         table: &mut Table,
         packets: &[PacketRecord],
         event: &Event,
     ) -> Result<(), Memory>
+        ensures queue { self.new.queue ≡ self.old.queue }
         ensures every { self.new.every ≡ self.old.every }
         ensures bin { OnOk result (self.new.bin ≡ bin_after self.old.every self.old.bin event.now) }
         ensures walk { OnOk result ((before : List ℕ) (walk : Walk) → HasRowsBefore before self.old table.old walk
@@ -316,6 +348,7 @@ impl Series {
 
     /// Goes on to a later bin, and writes those that have rows up to there.
     fn go_on(&mut self, table: &mut Table, bin: u64) -> Result<(), Memory>
+        ensures queue { self.new.queue ≡ self.old.queue }
         ensures every { self.new.every ≡ self.old.every }
         ensures bin { OnOk result (self.new.bin ≡ bin) }
         ensures walk { OnOk result ((before : List ℕ) (walk : Walk) → HasRowsBefore before self.old table.old walk
@@ -334,6 +367,7 @@ impl Series {
 
     /// Notes an event of a packet in the bin.
     fn note(&mut self, packet: &PacketRecord, event: &Event) -> Result<(), Memory>
+        ensures queue { self.new.queue ≡ self.old.queue }
         ensures every { self.new.every ≡ self.old.every }
         ensures bin { self.new.bin ≡ self.old.bin }
         ensures walk { OnOk result ((walk : Walk) → IsIn self.old walk
@@ -351,7 +385,8 @@ impl Series {
     }
 
     /// Writes the rows of the bin, by five-tuple, and leaves those with a packet that waits for the next one.
-    fn write(&mut self, table: &mut Table) -> Result<(), Memory>
+    pub(crate) fn write(&mut self, table: &mut Table) -> Result<(), Memory>
+        ensures queue { self.new.queue ≡ self.old.queue }
         ensures every { self.new.every ≡ self.old.every }
         ensures bin { self.new.bin ≡ self.old.bin }
         ensures walk { OnOk result ((before : List ℕ) (walk : Walk) → HasRowsBefore before self.old table.old walk

@@ -15,8 +15,8 @@ use Rattle.run_core.specs.declared.senders_fault.SendersFault.{SendersFault}
 use Rattle.run_core.specs.declared.senders_fault.SendersFault.TheVariants as senders_fault
 use Rattle.command_core.specs.declared.command_line.CommandFault.{CommandFault}
 use Rattle.command_core.specs.declared.command_line.CommandFault.TheVariants as command_fault
-use Rattle.program_core.specs.declared.program_run.ProgramFault.{ProgramFault}
-use Rattle.program_core.specs.declared.program_run.ProgramFault.TheVariants as program_fault
+use Rattle.program_core.specs.declared.faults.ProgramFault.{ProgramFault}
+use Rattle.program_core.specs.declared.faults.ProgramFault.TheVariants as program_fault
 
 -- the status for a fault of the trace: 1 where the machine failed, and 2 where the trace is wrong
 abbrev pub trace_status : TraceFaultKind → ℕ

@@ -5,11 +5,12 @@ ghost use Rattle.command_core.specs.declared.command_line.TheConstants.{MAX_MONI
 ghost use Rattle.program_core.specs.Faults.{IsLanesFault, IsOfWords};
 ghost use Rattle.program_core.specs.Runs.{IsSendersRunFor};
 ghost use Rattle.program_core.specs.Watched.{TellsSeenOf, TellsSome};
-ghost use Rattle.program_core.specs.declared.program_run.ProgramFault.TheVariants as program_fault;
+ghost use Rattle.program_core.specs.declared.faults.ProgramFault.TheVariants as program_fault;
 ghost use Rattle.run_core.specs.Journals.{AreLanesJournal};
 
+use crate::faults::ProgramFault;
 use crate::monitors::tell_seen;
-use crate::program_run::{ProgramFault, seed_given};
+use crate::program_run::seed_given;
 use command_core::{LanesRequest, MAX_MONITORS, MAX_SENDERS};
 use packet_core::read_params;
 use run_core::run_lanes;

@@ -2,13 +2,15 @@
 //! journal of its run by senders that are threads, or help.
 #![tactic(auto)]
 
+mod faults;
 mod lanes;
 mod locked;
 mod monitors;
 mod program_run;
 
+pub use faults::{ProgramFault, tell};
 pub use lanes::simulate_lanes;
 pub use locked::simulate_locked;
-pub use program_run::{ProgramFault, program, tell};
+pub use program_run::program;
 pub use run_core::{Ending, SendersFault, read_on};
 pub use sender_core::{lists_of, start_lanes, start_locked};

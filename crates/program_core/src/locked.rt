@@ -4,10 +4,11 @@ ghost use Rattle.std.specs.Io.KnownBytes.{Appends, Keeps};
 ghost use Rattle.command_core.specs.declared.command_line.TheConstants.{MAX_SENDERS};
 ghost use Rattle.program_core.specs.Faults.{IsLockedFault, IsOfWords};
 ghost use Rattle.program_core.specs.Runs.{IsSendersRunFor};
-ghost use Rattle.program_core.specs.declared.program_run.ProgramFault.TheVariants as program_fault;
+ghost use Rattle.program_core.specs.declared.faults.ProgramFault.TheVariants as program_fault;
 ghost use Rattle.run_core.specs.Journals.{AreLockedJournal};
 
-use crate::program_run::{ProgramFault, seed_given};
+use crate::faults::ProgramFault;
+use crate::program_run::seed_given;
 use command_core::{MAX_SENDERS, SendersRequest};
 use packet_core::read_params;
 use run_core::run_locked;

@@ -6,8 +6,8 @@ use crate::journals::{closed_journal, crowd, journal, late_journal};
 use codel_core::Served;
 use journal_core::{Event, Recorder, Step};
 use link_report::{
-    Gathered, MAX_EVENTS, Packets, flows_text, flows_text_of, packets_text, packets_text_of,
-    percentile, series_text, steps_text,
+    Binned, Gathered, MAX_EVENTS, Packets, Queue, flows_text, flows_text_of, packets_text,
+    packets_text_of, percentile, series_text, steps_text,
 };
 use packet_core::{Ecn, FiveTuple, Ip, Packet, Seed, Waiting};
 use std::process::Abort;
@@ -183,8 +183,8 @@ fn tables_of_a_closed_journal(rt: HostRuntime) {
 }
 
 /// The recorder is told that event. A packet that leaves is any that has the field which it is sent with.
-fn tell<R: Abort>(rt: &R, gathered: &mut Gathered, event: &Event)
-    requires { 0 < gathered.old.room }
+fn tell<R: Abort, K: Recorder>(rt: &R, recorder: &mut K, event: &Event)
+    requires { 0 < K.room recorder.old }
 {
     match *event {
         Event::Accepted {
@@ -193,7 +193,7 @@ fn tell<R: Abort>(rt: &R, gathered: &mut Gathered, event: &Event)
             moment,
             flow,
             packet,
-        } => gathered.accept(&waiting(id, moment, packet), lane, flow),
+        } => recorder.accept(&waiting(id, moment, packet), lane, flow),
         Event::Sent {
             id,
             moment,
@@ -204,16 +204,16 @@ fn tell<R: Abort>(rt: &R, gathered: &mut Gathered, event: &Event)
                 waiting: waiting(id, moment, any_packet(rt, ecn)),
                 mark,
             };
-            gathered.send(&served, moment);
+            recorder.send(&served, moment);
         }
         Event::Dropped { id, moment, cause } => {
-            gathered.lose(
+            recorder.lose(
                 &waiting(id, moment, any_packet(rt, Ecn::NotEct)),
                 moment,
                 cause,
             );
         }
-        Event::Closed { moment } => gathered.close(moment),
+        Event::Closed { moment } => recorder.close(moment),
     }
 }
 
@@ -278,6 +278,42 @@ fn tables_of_a_recorder(rt: HostRuntime) {
     let rows = packets_text(rt.alloc(), &events, Some(&events[..3])).expect(&rt, "memory");
     let same = packets_text_of(rt.alloc(), packets, Some(&first)).expect(&rt, "memory");
     assert_eq!(rt; same.as_slice(), rows.as_slice());
+}
+
+/// The text of a recorder of bins of `every` microseconds that was told these events of that queue.
+fn binned<R: Abort + AllocGlobal>(rt: &R, queue: Queue, every: u64, events: &[Event]) -> Vec<u8> {
+    let made = Binned::try_new(rt.alloc(), &Seed([7; 16]), queue, every);
+    let mut binned = made.expect(rt, "memory");
+    for event in events {
+        binned.reserve(1).expect(rt, "memory");
+        tell(rt, &mut binned, event);
+    }
+    assert!(rt; binned.queue() == queue && binned.every() == every && !binned.is_short());
+    binned.into_text().expect(rt, "memory")
+}
+
+/// A recorder that is told a journal makes the same rows of bins, whether five-tuples or bins are few or many. The rows of
+/// the FIFO have no header.
+#[test]
+fn series_of_a_recorder(rt: HostRuntime) {
+    let (some, late, closed) = (journal(&rt), late_journal(&rt), closed_journal(&rt));
+    let many = crowd(&rt, 300);
+    for events in [&some[..], &late[..], &closed[..], &many[..]] {
+        for every in [0, 1, 1_000, u64::MAX] {
+            let mut text = binned(&rt, Queue::FqCodel, every, events);
+            let whole = series_text(rt.alloc(), every, events, None).expect(&rt, "memory");
+            assert_eq!(&rt; text.as_slice(), whole.as_slice(), "bins of {every}");
+            let front = &events[..events.len() / 2];
+            let rest = binned(&rt, Queue::Fifo, every, front);
+            text.extend_from_slice(&rest).expect(&rt, "memory");
+            let whole = series_text(rt.alloc(), every, events, Some(front)).expect(&rt, "memory");
+            assert_eq!(&rt;
+                text.as_slice(),
+                whole.as_slice(),
+                "of two, bins of {every}"
+            );
+        }
+    }
 }
 
 /// The nearest rank: of ten delays the 50th percentile is the fifth, the 91st the tenth, and the 0th the first.

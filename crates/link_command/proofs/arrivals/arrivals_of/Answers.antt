@@ -1,4 +1,4 @@
-use Rattle.std.proofs.Common.{◌≡◌, ◌∙◌, ◌+◌, ◌++◌, ◌∷◌, [], Some, ap, inl, length, refl, sym, arith}
+use Rattle.std.proofs.Common.{◌≡◌, ◌∙◌, ◌+◌, ◌++◌, ◌∷◌, [], Some, ap, length, refl, sym, arith}
 use Rattle.std.proofs.lemmas.Bool.{le-ltb}
 use Rattle.std.proofs.lemmas.List.{length_push}
 use Rattle.row_core.proofs.RecordLemmas.{few_turns, rows_fault}
@@ -14,7 +14,7 @@ loop-turn-init c = λ text start. rw (c.new-steps.ensures.items, c.new-arrivals.
 pub returns-in-Err-clause-fault : goal.returns-in-Err-clause-fault
 returns-in-Err-clause-fault c = λ text start.
     let stops = c.in-Err.ensures.fault text _ _ (c.loop-turn.invariant text start).taken in
-    rw c.fault_at.ensures (inl (rows_fault (Some text) text (reader_of c.next.new.self) c.in-Err.fault refl stops start.small))
+    rw c.fault_at.ensures (rows_fault (Some text) text (reader_of c.next.new.self) c.in-Err.fault refl stops start.small)
 
 pub returns-in-Err-clause-memory : goal.returns-in-Err-clause-memory
 returns-in-Err-clause-memory c = λ memory. c.in-Err.ensures.memory (of_trace c.in-Err.fault.what (rw c.fault_at.ensures at memory))
@@ -35,14 +35,6 @@ pub returns-in-Err-arrival_of-clause-fault : goal.returns-in-Err-arrival_of-clau
 returns-in-Err-arrival_of-clause-fault c = λ text start.
     let before = c.loop-turn.invariant text start in
     let steps = c.loop-turn.steps.items in
-    let taken = (rw c.in-Row.is at c.in-Ok.ensures.taken) text _ _ before.taken in
-    let fault = place_fault steps c.in-Row.step c.in-Err-arrival_of.what c.loop-turn.arrivals.items c.loop-turn.last before.are before.same before.last_is c.in-Err-arrival_of.ensures.fault in
-    (rw c.and-steps.ensures.items at c.first_fault.ensures.fault) text _ (length steps) taken fault
-
-pub returns-in-Err-arrival_of-clause-row : goal.returns-in-Err-arrival_of-clause-row
-returns-in-Err-arrival_of-clause-row c = λ text start.
-    let before = c.loop-turn.invariant text start in
-    let steps = c.loop-turn.steps.items in
     let step = c.in-Row.step in
     let taken = (rw c.in-Row.is at c.in-Ok.ensures.taken) text _ _ before.taken in
     let counted = rw c.in-Row.is at c.in-Ok.ensures.number in
@@ -59,17 +51,12 @@ returns-in-Err-arrival_of-clause-row c = λ text start.
       asked = taken;
       counted = counted ∙ ap (λ n. n + 1) (sym c.row_number-row.ensures);
     } in
-    (rw c.and-steps.ensures.items at c.first_fault.ensures.row) text _ (length steps) taken fault row_is
+    (rw c.and-steps.ensures.items at c.first_fault.ensures.fault) text _ (length steps) taken fault row_is
 
 pub returns-then-is_err-clause-fault : goal.returns-then-is_err-clause-fault
 returns-then-is_err-clause-fault c = λ text start.
     let taken = (rw c.in-Row.is at c.in-Ok.ensures.taken) text _ _ (c.loop-turn.invariant text start).taken in
-    (rw c.and-steps.ensures.items at c.first_fault-then-is_err.ensures.fault) text _ 0 taken tt
-
-pub returns-then-is_err-clause-row : goal.returns-then-is_err-clause-row
-returns-then-is_err-clause-row c = λ text start.
-    let taken = (rw c.in-Row.is at c.in-Ok.ensures.taken) text _ _ (c.loop-turn.invariant text start).taken in
-    (rw c.and-steps.ensures.items at c.first_fault-then-is_err.ensures.row) text _ 0 taken tt tt
+    (rw c.and-steps.ensures.items at c.first_fault-then-is_err.ensures.fault) text _ 0 taken tt tt
 
 pub loop-turn-preserved : goal.loop-turn-preserved
 loop-turn-preserved c = λ text start.

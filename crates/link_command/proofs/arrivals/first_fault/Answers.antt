@@ -1,16 +1,16 @@
-use Rattle.std.proofs.Common.{◌≡◌, ◌+◌, ◌++◌, ◌∷◌, [], ℕ, Some, inl, length, refl, subst, arith}
+use Rattle.std.proofs.Common.{◌≡◌, ◌+◌, ◌++◌, ◌∷◌, [], ℕ, Some, length, refl, subst, arith}
 use Rattle.std.proofs.lemmas.Bool.{le-ltb}
 use Rattle.row_core.proofs.RecordLemmas.{few_turns, rows_fault}
 use Rattle.row_core.specs.Traces.{HasTaken, reader_of}
-use Rattle.link_command.proofs.ArrivalLemmas.{has_its_row, of_trace, own_stays, text_fault}
+use Rattle.link_command.proofs.ArrivalLemmas.{of_trace, own_stays, text_fault}
 use Rattle.link_command.proofs.arrivals.first_fault.Goals as goal
 use Rattle.link_command.proofs.arrivals.first_fault.Goals.{in-NoStep, in-Row}
 
 pub returns-in-Err-clause-fault : goal.returns-in-Err-clause-fault
-returns-in-Err-clause-fault c = λ text turns place taken fault.
+returns-in-Err-clause-fault c = λ text turns place taken fault row_is.
     let now = c.loop-turn.invariant text turns place taken fault in
     let stops = c.in-Err.ensures.fault text _ _ now.0 in
-    rw c.fault_at.ensures (inl (rows_fault (Some text) text (reader_of c.next.new.self) c.in-Err.fault refl stops taken.small))
+    rw c.fault_at.ensures (rows_fault (Some text) text (reader_of c.next.new.self) c.in-Err.fault refl stops taken.small)
 
 pub returns-in-Err-clause-memory : goal.returns-in-Err-clause-memory
 returns-in-Err-clause-memory c = λ memory. c.in-Err.ensures.memory (of_trace c.in-Err.fault.what (rw c.fault_at.ensures at memory))
@@ -19,16 +19,10 @@ pub returns-in-End-clause-memory : goal.returns-in-End-clause-memory
 returns-in-End-clause-memory c = λ memory. absurd (c.requires memory)
 
 pub returns-in-End-clause-fault : goal.returns-in-End-clause-fault
-returns-in-End-clause-fault c = λ text turns place taken fault.
+returns-in-End-clause-fault c = λ text turns place taken fault row_is.
     let now = c.loop-turn.invariant text turns place taken fault in
     let read = (rw c.in-End.is at c.in-Ok.ensures.taken) text _ _ now.0 in
-    text_fault text c.loop-turn.steps.items place c.args.own (rw (le-ltb 134217728 (length text) taken.small) read) now.1
-
-pub returns-in-End-clause-row : goal.returns-in-End-clause-row
-returns-in-End-clause-row c = λ text turns place taken fault row_is.
-    let now = c.loop-turn.invariant text turns place taken fault in
-    let read = (rw c.in-End.is at c.in-Ok.ensures.taken) text _ _ now.0 in
-    has_its_row text place c.loop-turn.steps.items c.args.own (rw (le-ltb 134217728 (length text) taken.small) read) now.1 row_is
+    text_fault text c.loop-turn.steps.items place c.args.own (rw (le-ltb 134217728 (length text) taken.small) read) now.1 row_is
 
 pub loop-turn-preserved : goal.loop-turn-preserved
 loop-turn-preserved c = λ text turns place taken fault.
@@ -44,6 +38,6 @@ loop-turn-preserved c = λ text turns place taken fault.
     ]
 
 pub returns-clause-fault : goal.returns-clause-fault
-returns-clause-fault c = λ text turns place taken fault.
+returns-clause-fault c = λ text turns place taken fault row_is.
     let now = c.loop-turn.invariant text turns place taken fault in
     absurd (omega (arith, few_turns text _ _ _ now.0))

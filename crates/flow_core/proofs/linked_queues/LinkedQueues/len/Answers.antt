@@ -1,5 +1,5 @@
 use Rattle.std.proofs.Common.{◌≡◌, ◌≤◌, [], get_or, length, arith}
-use Rattle.flow_core.specs.declared.limits.TheConstants.{MAX_WAITING}
+use Rattle.codel_core.specs.declared.limits.TheConstants.{MAX_WAITING}
 use Rattle.flow_core.specs.Chains.{queues_of}
 use Rattle.flow_core.proofs.ChainLemmas.{ends_read, few_held, length_seen}
 use Rattle.flow_core.proofs.PlacedLemmas.{ends_len}

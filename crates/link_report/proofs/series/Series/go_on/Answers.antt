@@ -14,6 +14,7 @@ loop-turn-preserved c =
     let kept : c.write.new.self.bin ≡ turn = told.bin ∙ c.loop-turn.invariant.bin in
     let next : c.saturating_add-self.result ≡ turn + 1 = omega (arith, c.saturating_add-self.ensures, c.ranges.bin.fits, c.loop-turn-test.true) in
     record {
+      queue = told.queue ∙ c.loop-turn.invariant.queue;
       every = told.every ∙ c.loop-turn.invariant.every;
       bin = next;
       most = omega (arith, c.loop-turn-test.true);

@@ -2,9 +2,10 @@ use Rattle.std.proofs.Common.{◌≡◌, ◌≤◌, ℕ, ◌-◌, List, max}
 use Rattle.link_report.specs.SeriesTables.{HasRowsBefore, Walk, later}
 use Rattle.link_report.proofs.series.Series.go_on.Given as goal
 
--- the width of bins stays the same, and the walk is at the start of this bin
+-- the queue and the width of bins stay the same, and the walk is at the start of this bin
 abbrev pub invariant-loop-turn : goal.invariant-loop-turn
 invariant-loop-turn l = record {
+  queue : l.self.queue ≡ l.initial.self.queue;
   every : l.self.every ≡ l.initial.self.every;
   bin : l.self.bin ≡ l._turn;
   most : l._turn ≤ max l.initial.self.bin l.bin;

@@ -1,0 +1,46 @@
+-- What a recorder that makes the rows of bins shows: the events that it was told.
+use Rattle.std.specs.Prelude.{◌≡◌, ℕ, Bool, true, false, List}
+use Rattle.packet_core.specs.declared.packet.Waiting.{Waiting}
+use Rattle.journal_core.specs.JournalLaws.{FatesFollow, IdsInOrder}
+use Rattle.journal_core.specs.declared.event.Event.{Event}
+use Rattle.link_report.specs.declared.binned.Binned.TheInside.{Inside}
+use Rattle.link_report.specs.declared.table.Queue.{Queue}
+use Rattle.link_report.specs.SeriesTables.{HasRowsBefore, heading, journal_walk}
+
+-- The queue whose events it is told, and the width of its bins. Then the events, the packets sent and the packets lost that
+-- it was told, and how many events more it can be told. Then whether memory was refused as it was told of one.
+pub record Binning : Type 0 where
+  pub queue : Queue
+  pub every : ℕ
+  pub events : List Event
+  pub sent : List Waiting
+  pub lost : List Waiting
+  pub room : ℕ
+  pub is_short : Bool
+
+abbrev pub binning_of : Inside → Binning
+binning_of b = record {
+  queue = b.series.queue;
+  every = b.series.every;
+  events = b.gathered.events;
+  sent = b.gathered.sent;
+  lost = b.gathered.lost;
+  room = b.gathered.room;
+  is_short = b.is_short;
+}
+
+-- The ids are 0, 1, 2 and so on, and each fate names a packet that was accepted before it. So it is in every run.
+pub record AreToldInOrder (events : List Event) : Type 0 where
+  pub ids : IdsInOrder events
+  pub follow : FatesFollow events
+
+-- The queue stays, and the width of bins, and what memory was refused for stays missing.
+pub record GoesOn (old new : Binning) : Type 0 where
+  pub queue : new.queue ≡ old.queue
+  pub every : new.every ≡ old.every
+  pub still : old.is_short ≡ true → new.is_short ≡ true
+
+-- Where no memory was refused, the series is at the end of the walk over the events, and the rows before are written.
+abbrev pub IsBinned : Inside → Type 0
+IsBinned b = b.is_short ≡ false → AreToldInOrder b.gathered.events
+    → HasRowsBefore (heading b.series.queue) b.series b.table (journal_walk b.series.queue b.series.every b.gathered.events)
