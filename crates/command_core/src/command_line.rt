@@ -11,13 +11,13 @@ use clap::error::ErrorKind;
 use clap::{Arg, ArgAction, ArgMatches, Command, Error};
 use std::alloc::{AllocError, Global};
 
-/// At most so many senders.
+/// At most so many senders, each a thread of its own.
 pub const MAX_SENDERS: u32 = 64;
 
 /// So many senders where the words don't say.
 pub const STANDARD_SENDERS: u32 = 2;
 
-/// At most so many monitors.
+/// At most so many monitors, each a thread of its own.
 pub const MAX_MONITORS: u32 = 64;
 
 /// The run of a trace, as it was asked for.

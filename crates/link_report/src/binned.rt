@@ -88,7 +88,7 @@ impl Binned {
     }
 
     /// The queue's part of the table `series`: the scheduler's begins with the header. It fails for want of memory alone,
-    /// also for that of an event. Each fate must have come behind the acceptance that it is of, as in every run.
+    /// also for that of an event. Each fate must have come after the acceptance that it is of, as in every run.
     pub fn into_text(self) -> Result<Vec<u8>, Memory>
         ensures text { IfOk result (λ text. AreToldInOrder self.events
             → text.items ≡ queue_text self.queue self.every self.events) }

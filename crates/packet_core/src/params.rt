@@ -46,7 +46,7 @@ pub enum ParamName {
     /// The time before the first drop.
     #[error("interval")]
     Interval,
-    /// The wait behind which a packet is marked that CoDel doesn't mark.
+    /// The wait above which a packet is marked that CoDel doesn't mark.
     #[error("ce_threshold")]
     CeThreshold,
     /// The most bytes that wait.
@@ -229,7 +229,7 @@ impl Params {
         self.fields.interval
     }
 
-    /// The wait, in microseconds, up to 1,000 seconds, behind which a packet is marked when it is sent, if it is ECT(0)
+    /// The wait, in microseconds, up to 1,000 seconds, above which a packet is marked when it is sent, if it is ECT(0)
     /// or ECT(1) and CoDel doesn't mark it. None where no wait is too long for that.
     pub fn ce_threshold(&self) -> Option<u64>
         ensures value { result ≡ self.now.ce_threshold }

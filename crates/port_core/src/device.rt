@@ -11,10 +11,11 @@ use sched_core::{
 };
 use std::marker::Model;
 
-/// At most so many lanes.
+/// At most so many lanes. Each belongs to a thread, and few machines run more threads at once.
 pub const MAX_LANES: u32 = 64;
 
-/// A pump takes at most so many packets.
+/// A pump takes at most so many packets. Memory for all of them is taken before the first, and the device sends nothing
+/// meanwhile.
 pub const MAX_BURST: u64 = 1024;
 
 /// An engine with the device's end of each lane, and what shows its statistics to monitors. At every moment the packets

@@ -5,7 +5,7 @@ ghost use Rattle.std.specs.Prelude.{◌≡◌, ℕ, IsTrue, false};
 use sched_core::Refusal;
 use std::thread;
 
-/// A sender asks its gate so often for one call.
+/// A sender asks its gate so often for one call, and then stalls. So each thread ends, even where a gate never opens.
 const MAX_ASKINGS: u32 = 1_000_000;
 
 /// What lets a sender make its calls, in the order that a test or a trace wants.

@@ -21,10 +21,11 @@ use sched_core::{Engine, EventList, Recorder, StepList, StepRecorder};
 use std::alloc::{AllocError, Global};
 use std::sync::Wait;
 
-/// A lane has room for at most so many packets.
+/// A lane has room for at most so many packets, which take 48 MiB. A ring takes all of its memory when it is made. The
+/// packets of a whole trace fit.
 pub const MAX_CAPACITY: u32 = 1 << 20;
 
-/// A device has at most so many monitors.
+/// A device has at most so many monitors. A publish may wait for each of them.
 pub const MAX_MONITORS: u32 = 64;
 
 /// How many lanes and monitors a device has.

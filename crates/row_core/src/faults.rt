@@ -2,7 +2,7 @@
 
 use thiserror::Error;
 
-/// The most bytes that a trace has.
+/// The most bytes that a trace has: 128 MiB. The whole text stands in memory.
 pub const MAX_BYTES: usize = 134_217_728;
 
 /// The most rows that a trace has.

@@ -5,7 +5,8 @@ ghost use Rattle.std.specs.declared.io.ErrorKind.TheVariants.{Interrupted};
 
 use std::io::{self, ErrorKind};
 
-/// So many interruptions are tried again over one reading, and as many over one writing. The next one is a fault.
+/// So many interruptions are tried again over one reading, and as many over one writing. The next one is a fault, so that
+/// a reading ends even where a stream does nothing but interrupt. Signals seldom come so often.
 pub const MAX_INTERRUPTIONS: u64 = 1_000;
 
 /// The interruptions of one reading, or of one writing.

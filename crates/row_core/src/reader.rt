@@ -14,10 +14,10 @@ use journal_core::Step;
 use std::alloc::Global;
 use std::io::Read;
 
-/// How many bytes are asked for at once.
+/// How many bytes are asked for at once: as many as a pipe of Linux holds (pipe(7)). They stand on the stack.
 const CHUNK: usize = 65_536;
 
-/// After so many calls there are too many bytes or too many interruptions.
+/// After so many calls there are too many bytes or too many interruptions: `MAX_BYTES` and `MAX_INTERRUPTIONS` together.
 const MAX_CALLS: usize = 134_218_728;
 
 /// The steps of the trace that a reader gives, one for each row that asks for one, in order. It refuses a trace whose
@@ -121,7 +121,7 @@ pub enum Next {
     End,
 }
 
-/// The rows of a text, as they are read one after the other. Behind the end and behind a fault nothing is said of them.
+/// The rows of a text, as they are read one after the other. After the end and after a fault nothing is said of them.
 #[derive(Drop)]
 pub struct TraceRows<'a> {
     records: csv::Reader<&'a [u8]>,

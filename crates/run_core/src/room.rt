@@ -8,7 +8,8 @@ use sender_core::Expected;
 use std::alloc::Global;
 
 /// At each dequeue of the trace at most so many packets are taken from each lane. An engine takes memory for all of them
-/// before the first, and a scheduler takes memory for as many ahead.
+/// before the first, and a scheduler takes memory for as many ahead. So memory is asked for once in many packets, and
+/// the dequeue after them comes soon.
 pub(crate) const BURST: u64 = 64;
 
 /// What stores the events and the steps of the run, with memory for all of them where packets are expected. Where memory

@@ -18,7 +18,7 @@ use packet_core::{Packet, Params, Seed, Waiting};
 use std::alloc::Global;
 use std::marker::Model;
 
-/// At most this many packets are accepted.
+/// At most this many packets are accepted. So neither a sum of their lengths nor a count of their events leaves 64 bits.
 pub const MAX_ACCEPTED: u64 = 1 << 40;
 
 /// Whether a step may be made at that moment, the last one being `last`.

@@ -10,7 +10,8 @@ ghost use Rattle.sender_core.specs.Interleavings.{CallsNext, Comes, IsInterleavi
 use packet_core::Packet;
 use sched_core::{Engine, Step};
 
-/// The most senders of a run.
+/// The most senders of a run. Each is a thread of its own, and few machines run more of them at once. A place for each
+/// stands on the stack.
 pub const MAX_SENDERS: u32 = 64;
 
 /// There is a place for each sender.

@@ -100,8 +100,8 @@ address of the kind of SRC; wanted is four numbers joined by dots, or after a ro
     }
 }
 
-/// A row that is no arrival has its number, empty lines aside, whatever comes behind it. A fault of the grammar in a row
-/// behind it comes before it.
+/// A row that is no arrival has its number, empty lines aside, whatever comes after it. A fault of the grammar in a later
+/// row comes before it.
 #[test]
 fn rows_that_are_no_arrivals(rt: HostRuntime) {
     let table = [

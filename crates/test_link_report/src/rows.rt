@@ -64,7 +64,7 @@ wanted is four numbers joined by dots, or after a row version,2 also 32 hexadeci
     }
 }
 
-/// A row behind 100,000 others is shown as any other.
+/// A row after 100,000 others is shown as any other.
 #[test]
 fn a_late_row_is_shown(rt: HostRuntime) {
     let mut input = String::new(rt.alloc());

@@ -6,7 +6,8 @@ use link_core::{
 };
 use link_picture::picture_text;
 use link_report::{
-    Gathered, MAX_EVENTS, Packets, flows_text, packets_text, series_text_with_seed, steps_text,
+    Binned, Gathered, MAX_EVENTS, Packets, Queue, flows_text, packets_text, series_text_with_seed,
+    steps_text,
 };
 use sched_core::{Event, NullRecorder};
 use std::process::Abort;
@@ -78,6 +79,16 @@ fn packets_as_they_are_told(rt: HostRuntime) {
     let link = the_link(&rt);
     for number in 0..SIZES {
         gathered(&rt, &link, first(&rt, &arrivals, size(number)));
+    }
+}
+
+/// What makes the rows of bins while a run tells its events has a text at the end.
+#[test]
+fn bins_as_they_are_told(rt: HostRuntime) {
+    let arrivals = arrivals(&rt);
+    let link = the_link(&rt);
+    for number in 0..SIZES {
+        binned(&rt, &link, first(&rt, &arrivals, size(number)));
     }
 }
 
@@ -164,4 +175,27 @@ fn gathered(rt: &(impl Abort + AllocGlobal), link: &Link, arrivals: &[Arrival]) 
 fn has_all(rt: &impl Abort, made: &Gathered, number: usize) {
     let packets = made.packets().expect(rt, "memory");
     assert_eq!(rt; packets.records().len(), number);
+}
+
+/// The same runs, of which rows of bins are made as they are told.
+fn binned(rt: &(impl Abort + AllocGlobal), link: &Link, arrivals: &[Arrival]) {
+    let alloc = rt.alloc();
+    assert!(rt; Arrival::may_come(arrivals));
+    let rows = Binned::try_new(alloc, &SEED, Queue::FqCodel, EVERY).expect(rt, "memory");
+    let steps = NullRecorder::new();
+    let engine = run_link_with_recorders(
+        alloc,
+        params(rt),
+        SEED,
+        link,
+        arrivals,
+        rows,
+        steps,
+    ).expect(rt, "memory");
+    assert!(rt; !engine.recorder().is_short());
+    let rows = Binned::try_new(alloc, &SEED, Queue::Fifo, EVERY).expect(rt, "memory");
+    let rows = run_fifo_with_recorder(alloc, params(rt), SEED, link, arrivals, rows).expect(
+        rt, "memory",
+    );
+    assert!(rt; rows.into_text().is_ok());
 }

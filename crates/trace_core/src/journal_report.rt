@@ -21,7 +21,7 @@ pub struct SenderRow {
     pub submitted: u64,
     /// Packets of these that were accepted.
     pub accepted: u64,
-    /// Packets of these that were left behind the close.
+    /// Packets of these that were left after the close.
     pub left: u64,
 }
 

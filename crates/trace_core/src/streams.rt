@@ -34,7 +34,7 @@ pub trait Sink {
     /// Nothing written changes nothing.
     ghost wrote_none: { (a : Self) → Wrote a [] a };
 
-    /// What is written behind what was written.
+    /// What is written after what was written.
     ghost wrote_more: { (a b c : Self) (first second : List ℕ)
         → Wrote a first b → Wrote b second c → Wrote a (first ++ second) c };
 }
