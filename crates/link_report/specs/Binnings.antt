@@ -20,13 +20,13 @@ pub record Binning : Type 0 where
 
 abbrev pub binning_of : Inside → Binning
 binning_of b = record {
-  queue = b.series.queue;
-  every = b.series.every;
+  queue = b.bins.value.series.queue;
+  every = b.bins.value.series.every;
   events = b.gathered.events;
   sent = b.gathered.sent;
   lost = b.gathered.lost;
   room = b.gathered.room;
-  is_short = b.is_short;
+  is_short = b.bins.value.is_short;
 }
 
 -- The ids are 0, 1, 2 and so on, and each fate names a packet that was accepted before it. So it is in every run.
@@ -42,5 +42,6 @@ pub record GoesOn (old new : Binning) : Type 0 where
 
 -- Where no memory was refused, the series is at the end of the walk over the events, and the rows before are written.
 abbrev pub IsBinned : Inside → Type 0
-IsBinned b = b.is_short ≡ false → AreToldInOrder b.gathered.events
-    → HasRowsBefore (heading b.series.queue) b.series b.table (journal_walk b.series.queue b.series.every b.gathered.events)
+IsBinned b = b.bins.value.is_short ≡ false → AreToldInOrder b.gathered.events
+    → HasRowsBefore (heading b.bins.value.series.queue) b.bins.value.series b.bins.value.table
+    (journal_walk b.bins.value.series.queue b.bins.value.series.every b.gathered.events)

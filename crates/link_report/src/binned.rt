@@ -24,6 +24,13 @@ use std::marker::Model;
 pub struct Binned {
     /// The packets of the events, and what proofs say of these.
     gathered: Gathered,
+    /// The bins of the events. The writer of their rows takes some 3 KiB, which each move of a recorder would copy.
+    bins: Box<Bins>,
+}
+
+/// The bins of some events, as rows are made of them.
+#[derive(Drop)]
+struct Bins {
     /// The bin that is open.
     series: Series,
     /// The rows of the bins before.
@@ -56,13 +63,15 @@ impl Binned {
         let series = Series::new(alloc, queue, every, 0)?;
         let mut table = Table::new(alloc);
         write_heading(&mut table, queue)?;
-        // The rows are of all packets, so none are left out.
-        let gathered = Gathered::new(alloc, seed, u64::MAX);
-        Ok(Binned {
-            gathered,
+        let bins = Bins {
             series,
             table,
             is_short: false,
+        };
+        Ok(Binned {
+            // The rows are of all packets, so none are left out.
+            gathered: Gathered::new(alloc, seed, u64::MAX),
+            bins: Box::new(alloc, bins)?,
         })
     }
 
@@ -70,21 +79,21 @@ impl Binned {
     pub fn queue(&self) -> Queue
         ensures { result ≡ self.now.queue }
     {
-        self.series.queue()
+        self.bins.series.queue()
     }
 
     /// The width of its bins, in microseconds.
     pub fn every(&self) -> u64
         ensures { result ≡ self.now.every }
     {
-        self.series.every()
+        self.bins.series.every()
     }
 
     /// Whether memory was refused as it was told an event. Then it has no text.
     pub fn is_short(&self) -> bool
         ensures { result ≡ self.now.is_short }
     {
-        self.is_short
+        self.bins.is_short
     }
 
     /// The queue's part of the table `series`: the scheduler's begins with the header. It fails for want of memory alone,
@@ -94,16 +103,11 @@ impl Binned {
             → text.items ≡ queue_text self.queue self.every self.events) }
         ensures whole { IfOk result (λ _. self.is_short ≡ false) }
     {
-        let Binned {
-            gathered: _,
-            series,
-            table,
-            is_short,
-        } = self;
-        if is_short {
+        let Binned { gathered: _, bins } = self;
+        if bins.is_short {
             return Err(AllocError);
         }
-        ended_text(series, table)
+        ended_text(bins)
     }
 }
 
@@ -117,25 +121,22 @@ fn write_heading(table: &mut Table, queue: Queue) -> Result<(), Memory>
     }
 }
 
-/// Takes the event that was told last into its bin, unless memory was refused before. Whether it was refused is answered.
-fn follow(
-    gathered: &Gathered,
-    series: &mut Series,
-    table: &mut Table,
-    was_short: bool,
-    event: &Event,
-) -> bool
-    ensures queue { series.new.queue ≡ series.old.queue }
-    ensures every { series.new.every ≡ series.old.every }
-    ensures short { was_short ≡ true → result ≡ true }
-    ensures walk { result ≡ false → (before : List ℕ) (earlier : List Event)
-        → gathered.now.events ≡ earlier ++ event.now ∷ [] → AreToldInOrder gathered.now.events
-        → (was_short ≡ false
-        → HasRowsBefore before series.old table.old (journal_walk series.old.queue series.old.every earlier))
-        → HasRowsBefore before series.new table.new
-        (journal_walk series.old.queue series.old.every gathered.now.events) }
-{
-    was_short || follow_event(gathered, series, table, event).is_err()
+impl Bins {
+    /// Takes the event that was told last into its bin, unless memory was refused before.
+    fn follow(&mut self, gathered: &Gathered, event: &Event)
+        ensures queue { self.new.series.queue ≡ self.old.series.queue }
+        ensures every { self.new.series.every ≡ self.old.series.every }
+        ensures short { self.old.is_short ≡ true → self.new.is_short ≡ true }
+        ensures walk { self.new.is_short ≡ false → (before : List ℕ) (earlier : List Event)
+            → gathered.now.events ≡ earlier ++ event.now ∷ [] → AreToldInOrder gathered.now.events
+            → (self.old.is_short ≡ false → HasRowsBefore before self.old.series self.old.table
+            (journal_walk self.old.series.queue self.old.series.every earlier))
+            → HasRowsBefore before self.new.series self.new.table
+            (journal_walk self.old.series.queue self.old.series.every gathered.now.events) }
+    {
+        self.is_short = self.is_short
+            || follow_event(gathered, &mut self.series, &mut self.table, event).is_err();
+    }
 }
 
 /// Takes the event that was told last into its bin. Its packet is one of those that are known then.
@@ -161,12 +162,17 @@ fn follow_event(
 }
 
 /// The text of the table, with the rows of the bin that is open.
-fn ended_text(series: Series, table: Table) -> Result<Vec<u8>, Memory>
+fn ended_text(bins: Box<Bins>) -> Result<Vec<u8>, Memory>
     ensures { IfOk result (λ text. (before : List ℕ) (events : List Event)
-        → HasRowsBefore before series table (journal_walk series.queue series.every events)
-        → text.items ≡ before ++ series_lines series.queue series.every events) }
+        → HasRowsBefore before bins.value.series bins.value.table
+        (journal_walk bins.value.series.queue bins.value.series.every events)
+        → text.items ≡ before ++ series_lines bins.value.series.queue bins.value.series.every events) }
 {
-    let (mut series, mut table) = (series, table);
+    let Bins {
+        mut series,
+        mut table,
+        is_short: _,
+    } = Box::into_inner(bins);
     series.write(&mut table)?;
     table.into_text()
 }
@@ -190,13 +196,7 @@ impl Recorder for Binned {
     {
         self.gathered.accept(packet, lane, flow);
         let event = Event::acceptance(packet, lane, flow);
-        self.is_short = follow(
-            &self.gathered,
-            &mut self.series,
-            &mut self.table,
-            self.is_short,
-            &event,
-        );
+        self.bins.follow(&self.gathered, &event);
     }
 
     fn send(&mut self, served: &Served, moment: u64)
@@ -209,13 +209,7 @@ impl Recorder for Binned {
     {
         self.gathered.send(served, moment);
         let event = Event::departure(served, moment);
-        self.is_short = follow(
-            &self.gathered,
-            &mut self.series,
-            &mut self.table,
-            self.is_short,
-            &event,
-        );
+        self.bins.follow(&self.gathered, &event);
     }
 
     fn lose(&mut self, packet: &Waiting, moment: u64, cause: Cause)
@@ -228,13 +222,7 @@ impl Recorder for Binned {
     {
         self.gathered.lose(packet, moment, cause);
         let event = Event::loss(packet, moment, cause);
-        self.is_short = follow(
-            &self.gathered,
-            &mut self.series,
-            &mut self.table,
-            self.is_short,
-            &event,
-        );
+        self.bins.follow(&self.gathered, &event);
     }
 
     fn close(&mut self, moment: u64)
@@ -247,13 +235,7 @@ impl Recorder for Binned {
     {
         self.gathered.close(moment);
         let event = Event::Closed { moment };
-        self.is_short = follow(
-            &self.gathered,
-            &mut self.series,
-            &mut self.table,
-            self.is_short,
-            &event,
-        );
+        self.bins.follow(&self.gathered, &event);
     }
 
     fn reserve(&mut self, more: usize) -> Result<(), Memory>

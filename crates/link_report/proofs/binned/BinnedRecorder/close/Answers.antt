@@ -5,5 +5,5 @@ use Rattle.link_report.proofs.binned.BinnedRecorder.close.Goals as goal
 pub invariant_of-self : goal.invariant_of-self
 invariant_of-self c =
     let old = c.self.inside in
-    let follow = c.follow-self-inside in
-    binned_still old.series follow.new.series old.table follow.new.table old.is_short follow.result old.gathered.events c.close.new.self.events (Closed c.args.moment) follow.ensures.queue follow.ensures.every c.close.ensures.told follow.ensures.walk c.self.invariant
+    let follow = c.follow in
+    binned_still old.bins.value.series follow.new.self.series old.bins.value.table follow.new.self.table old.bins.value.is_short follow.new.self.is_short old.gathered.events c.close.new.self.events (Closed c.args.moment) (rw c.deref_mut.ensures.value at follow.ensures.queue) (rw c.deref_mut.ensures.value at follow.ensures.every) c.close.ensures.told (rw c.deref_mut.ensures.value at follow.ensures.walk) c.self.invariant
