@@ -22,7 +22,7 @@ use crate::sending::times_sending;
 use crate::settling::{SETTLED, times_settling};
 use crate::times::Times;
 use crate::timing::{Fault, Measured, times_of_rounds};
-use crate::unstored::totals_of_passing;
+use crate::unstored::{PASSING, times_of_passing, totals_of_passing};
 use crate::workload::{Memory, Outgoing, ROUNDS, WORKLOADS, Workload};
 use std::env::{self, Env};
 use std::process::ExitCode;
@@ -132,7 +132,7 @@ fn bench<R: AllocGlobal + Clock + Env + Print + Threads + Wait + Sync + Clone + 
         }
     }
     if !is_asked {
-        return tell_workloads(rt);
+        return tell_words(rt);
     }
     Ok(())
 }
@@ -175,6 +175,9 @@ fn measure_threads<R: AllocGlobal + Clock + Print + Threads + Wait + Sync + Clon
     }
     if let Some(senders) = senders_of(name, "lanes_") {
         return tell_rate(rt, name, times_through_lanes(rt, senders)?);
+    }
+    if let Some(senders) = senders_of(name, "passing_") {
+        return tell_passing_rate(rt, name, times_of_passing(rt, senders)?);
     }
     measure_rounds(rt, name, settings)
 }
@@ -241,15 +244,23 @@ fn tell_tenths(
 
 /// Tells how many packets went through in a second: at the most, and in the median.
 fn tell_rate(rt: &impl Print, name: &str, times: Times) -> Result<(), Fault> {
-    let most = rate_of(times.least);
-    let median = rate_of(times.median);
+    let most = rate_of(u64::from(ROUNDS), times.least);
+    let median = rate_of(u64::from(ROUNDS), times.median);
     println!(rt; "{name},{ROUNDS},{most},{median}")?;
     Ok(())
 }
 
-/// How many packets went through in a second, where all took that time, in nanoseconds.
-fn rate_of(nanoseconds: u128) -> u128 {
-    u128::from(ROUNDS) * 1_000_000_000 / nanoseconds.max(1)
+/// Tells the same of the packets of a run that stores nothing.
+fn tell_passing_rate(rt: &impl Print, name: &str, times: Times) -> Result<(), Fault> {
+    let most = rate_of(PASSING, times.least);
+    let median = rate_of(PASSING, times.median);
+    println!(rt; "{name},{PASSING},{most},{median}")?;
+    Ok(())
+}
+
+/// How many packets went through in a second, where so many took that time, in nanoseconds.
+fn rate_of(packets: u64, nanoseconds: u128) -> u128 {
+    u128::from(packets) * 1_000_000_000 / nanoseconds.max(1)
 }
 
 /// Measures the settling of a locked port.
@@ -266,7 +277,7 @@ fn measure_settling<R: AllocGlobal + Clock + Print + Wait>(rt: &R) -> Result<(),
 
 /// Tells what became of the packets of a run through lanes that stores nothing.
 fn tell_passing<R: AllocGlobal + Print + Threads + Wait + Sync>(rt: &R) -> Result<(), Fault> {
-    let totals = totals_of_passing(rt)?;
+    let totals = totals_of_passing(rt, 2)?;
     println!(rt;
         "{UNSTORED},{},{},{}",
         totals.accepted, totals.sent, totals.queued
@@ -274,7 +285,7 @@ fn tell_passing<R: AllocGlobal + Print + Threads + Wait + Sync>(rt: &R) -> Resul
     Ok(())
 }
 
-/// The number of senders that the word asks for, behind those letters.
+/// The number of senders that the word asks for, after those letters.
 fn senders_of(name: &str, front: &str) -> Option<u32>
     ensures { IfSome result (λ n. (0 < n) × (n ≤ 4)) }
 {
@@ -297,7 +308,7 @@ fn lane_part_of(name: &str) -> Option<LanePart> {
     }
 }
 
-/// The number of new events behind which the word asks for publishes.
+/// The number of new events after which the word asks for publishes.
 fn events_of(name: &str) -> Option<u32> {
     match name {
         "publish_0" => Some(0),
@@ -334,7 +345,16 @@ fn named(name: &str) -> Option<&'static Workload> {
 }
 
 /// Says what each word measures.
-fn tell_workloads(rt: &impl Print) -> Result<(), Fault> {
+fn tell_words(rt: &impl Print) -> Result<(), Fault> {
+    tell_settings(rt)?;
+    for workload in &WORKLOADS {
+        println!(rt; "{}: {}", workload.name, workload.about)?;
+    }
+    tell_others(rt)
+}
+
+/// Says what the words mean that set something.
+fn tell_settings(rt: &impl Print) -> Result<(), Fault> {
     println!(rt;
         "bench [{COLD}] [{READ}] [{ROUNDS_ARE}N] NAME... prints name,rounds,least,median: nanoseconds per round, of some repetitions"
     )?;
@@ -350,9 +370,11 @@ fn tell_workloads(rt: &impl Print) -> Result<(), Fault> {
     println!(rt;
         "{ROUNDS_ARE}N: a workload has one repetition of N rounds, as to count its instructions"
     )?;
-    for workload in &WORKLOADS {
-        println!(rt; "{}: {}", workload.name, workload.about)?;
-    }
+    Ok(())
+}
+
+/// Says what the words measure that name no workload.
+fn tell_others(rt: &impl Print) -> Result<(), Fault> {
     println!(rt;
         "{SETTLE}: the settling of a locked port of 64 seats; it prints name,packets,least,median: milliseconds in all"
     )?;
@@ -364,16 +386,19 @@ fn tell_workloads(rt: &impl Print) -> Result<(), Fault> {
     )?;
     println!(rt; "lanes_1, lanes_2, lanes_4: the same through lanes")?;
     println!(rt;
-        "publish_0, publish_1, publish_1000: a publish behind so many new events, with a look at the clock"
+        "publish_0, publish_1, publish_1000: a publish after so many new events, with a look at the clock"
     )?;
     println!(rt;
         "monitor_alone, monitor_beside: a monitor's read, alone and while a device publishes all the time"
     )?;
     println!(rt;
-        "monitors_0, monitors_1, monitors_4: packets that a device takes out of a lane, with a publish behind each 64, while so many monitors read all the time; it prints name,packets,most,median: packets a second"
+        "monitors_0, monitors_1, monitors_4: packets that a device takes out of a lane, with a publish after each 64, while so many monitors read all the time; it prints name,packets,most,median: packets a second"
     )?;
     println!(rt;
         "{UNSTORED}: 5,000,000 packets through two lanes, where neither events nor steps are stored; it prints name,accepted,sent,queued"
+    )?;
+    println!(rt;
+        "passing_1, passing_2, passing_4: the same through so many lanes; it prints name,packets,most,median: packets a second"
     )?;
     Ok(())
 }

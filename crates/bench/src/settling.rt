@@ -49,13 +49,13 @@ fn settled_in<A: Ledger, S: Ledger, R: Clock + Wait>(
     port: LockedPort<A, S>,
     mut seats: Vec<PortSeat<A, S>>,
 ) -> Result<u128, Fault> {
-    let begun = begun_behind_use(rt, &port, &mut seats);
+    let begun = begun_after_use(rt, &port, &mut seats);
     let settled = port.settle(seats);
     nanoseconds_since(rt, begun, settled.is_ok())
 }
 
 /// The moment at which the seats have been used.
-fn begun_behind_use<A: Ledger, S: Ledger, R: Clock + Wait>(
+fn begun_after_use<A: Ledger, S: Ledger, R: Clock + Wait>(
     rt: &R,
     port: &LockedPort<A, S>,
     seats: &mut Vec<PortSeat<A, S>>,
@@ -64,7 +64,7 @@ fn begun_behind_use<A: Ledger, S: Ledger, R: Clock + Wait>(
     now(rt)
 }
 
-/// The seats send the packets in turn, and each takes one behind its own.
+/// The seats send the packets in turn, and each takes one after its own.
 fn use_in_turn<A: Ledger, S: Ledger, R: Wait>(
     rt: &R,
     port: &LockedPort<A, S>,

@@ -145,7 +145,7 @@ struct Timed {
 /// its own settings, on pages of 4 KiB:
 ///
 /// - 1,000,000 rounds: 35,000 to 36,600 in every repetition, which is all of the journal, 144 bytes a round. Its block
-///   grows past 32 MiB, where glibc maps a block of its own, moves it as it grows, and unmaps it behind. With three
+///   grows past 32 MiB, where glibc maps a block of its own, moves it as it grows, and unmaps it after. With three
 ///   steps a round, or an engine, which stores its steps too, there are 1.9 to 2.4 times as many.
 /// - 100,000 rounds: some 3,500 in each of the first two repetitions, and then hardly any: the block stays below
 ///   32 MiB, and once one of its size was freed, glibc takes the next from the heap.
