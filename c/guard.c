@@ -1,8 +1,42 @@
 /*
  * The calls of maltcove.h. Each answers null pointers, and then makes the proved call of the Rattle library, which
  * takes none. No other thing is decided here.
+ *
+ * The proved calls are no code that a sanitizer sees. So under one, or with -DMALTCOVE_CHECK, each call touches the
+ * struct here: it reads a byte of it where it only looks, and else reads it and writes it again. The thread sanitizer
+ * then reports two calls at once on one handle, and the address sanitizer a struct that is gone.
  */
 #include "maltcove.h"
+
+#if defined __SANITIZE_THREAD__ || defined __SANITIZE_ADDRESS__
+#define MALTCOVE_CHECK 1
+#elif defined __has_feature
+#if __has_feature(thread_sanitizer) || __has_feature(address_sanitizer)
+#define MALTCOVE_CHECK 1
+#endif
+#endif
+
+/* The call only looks at the scheduler. */
+static void reads(const maltcove *m)
+{
+#ifdef MALTCOVE_CHECK
+	(void)*(const volatile unsigned char *)&m->is_open;
+#else
+	(void)m;
+#endif
+}
+
+/* The call changes the scheduler. */
+static void changes(maltcove *m)
+{
+#ifdef MALTCOVE_CHECK
+	volatile unsigned char *byte = (volatile unsigned char *)&m->is_open;
+
+	*byte = *byte;
+#else
+	(void)m;
+#endif
+}
 
 /* The proved calls (crates/maltcove_c). A slice is its place, which is never null, and then its length. */
 int32_t maltcove_raw_open(maltcove *m, const char *words, size_t words_len, const uint8_t *seed, size_t seed_len,
@@ -30,20 +64,24 @@ int maltcove_open(maltcove *m, const char *words, size_t words_len, const uint8_
 
 	if (m == NULL || (words == NULL && words_len != 0) || (seed == NULL && seed_len != 0))
 		return MALTCOVE_NULL;
+	changes(m);
 	return maltcove_raw_open(m, words != NULL ? words : "", words_len, seed != NULL ? seed : none, seed_len,
 				 fault != NULL ? fault : &untold);
 }
 
 void maltcove_free(maltcove *m)
 {
-	if (m != NULL)
-		maltcove_raw_free(m);
+	if (m == NULL)
+		return;
+	changes(m);
+	maltcove_raw_free(m);
 }
 
 int maltcove_enqueue(maltcove *m, uint64_t now_us, const maltcove_packet *packet, maltcove_admitted *admitted)
 {
 	if (m == NULL || packet == NULL || admitted == NULL)
 		return MALTCOVE_NULL;
+	changes(m);
 	return maltcove_raw_enqueue(m, now_us, packet, admitted);
 }
 
@@ -52,6 +90,7 @@ int maltcove_enqueue_flow(maltcove *m, uint64_t now_us, uint32_t flow, uint32_t 
 {
 	if (m == NULL || admitted == NULL)
 		return MALTCOVE_NULL;
+	changes(m);
 	return maltcove_raw_enqueue_flow(m, now_us, flow, len, ecn, tag, admitted);
 }
 
@@ -59,6 +98,7 @@ int maltcove_dequeue(maltcove *m, uint64_t now_us, maltcove_sent *sent)
 {
 	if (m == NULL || sent == NULL)
 		return MALTCOVE_NULL;
+	changes(m);
 	return maltcove_raw_dequeue(m, now_us, sent);
 }
 
@@ -76,6 +116,7 @@ int64_t maltcove_dequeue_burst(maltcove *m, uint64_t now_us, maltcove_sent *sent
 
 	if (m == NULL || (sent == NULL && n != 0))
 		return MALTCOVE_NULL;
+	changes(m);
 	answer = maltcove_raw_dequeue_burst(m, now_us, sent != NULL ? sent : &none, n, &given);
 	return count_or(answer, given);
 }
@@ -88,6 +129,7 @@ int64_t maltcove_drops(maltcove *m, maltcove_dropped *dropped, size_t n)
 
 	if (m == NULL || (dropped == NULL && n != 0))
 		return MALTCOVE_NULL;
+	changes(m);
 	answer = maltcove_raw_drops(m, dropped != NULL ? dropped : &none, n, &read);
 	return count_or(answer, read);
 }
@@ -100,6 +142,7 @@ int64_t maltcove_flush(maltcove *m, maltcove_flushed *flushed, size_t n)
 
 	if (m == NULL || (flushed == NULL && n != 0))
 		return MALTCOVE_NULL;
+	changes(m);
 	answer = maltcove_raw_flush(m, flushed != NULL ? flushed : &none, n, &given);
 	return count_or(answer, given);
 }
@@ -108,6 +151,7 @@ int maltcove_close(maltcove *m, uint64_t now_us)
 {
 	if (m == NULL)
 		return MALTCOVE_NULL;
+	changes(m);
 	return maltcove_raw_close(m, now_us);
 }
 
@@ -118,6 +162,7 @@ int maltcove_is_closed(maltcove *m)
 
 	if (m == NULL)
 		return MALTCOVE_NULL;
+	reads(m);
 	answer = maltcove_raw_is_closed(m, &closed);
 	return answer < 0 ? answer : closed;
 }
@@ -129,6 +174,7 @@ int64_t maltcove_queued(maltcove *m)
 
 	if (m == NULL)
 		return MALTCOVE_NULL;
+	reads(m);
 	answer = maltcove_raw_queued(m, &queued);
 	return count_or(answer, queued);
 }
@@ -137,6 +183,7 @@ int maltcove_totals(maltcove *m, maltcove_totals_t *totals)
 {
 	if (m == NULL || totals == NULL)
 		return MALTCOVE_NULL;
+	reads(m);
 	return maltcove_raw_totals(m, totals);
 }
 
@@ -144,6 +191,7 @@ int maltcove_flow(maltcove *m, uint32_t flow, maltcove_flow_t *view)
 {
 	if (m == NULL || view == NULL)
 		return MALTCOVE_NULL;
+	reads(m);
 	return maltcove_raw_flow(m, flow, view);
 }
 
@@ -151,42 +199,69 @@ int maltcove_params(maltcove *m, maltcove_params_t *params)
 {
 	if (m == NULL || params == NULL)
 		return MALTCOVE_NULL;
+	reads(m);
 	return maltcove_raw_params(m, params);
 }
 
 const char *maltcove_strerror(int answer)
 {
 	switch (answer) {
-	case MALTCOVE_OK: return "the call was made";
-	case MALTCOVE_IDLE: return "no packet waits";
-	case MALTCOVE_NOT_OPEN: return "the scheduler is not open";
-	case MALTCOVE_TOO_LARGE: return "the moment is 2^60 microseconds or more";
-	case MALTCOVE_BACKWARDS: return "the moment is before that of the last call";
-	case MALTCOVE_CLOSED: return "the scheduler was closed";
-	case MALTCOVE_EXHAUSTED: return "there are no more ids";
-	case MALTCOVE_MEMORY: return "a growth was refused";
-	case MALTCOVE_BAD_PACKET: return "a field of the packet is out of its range";
-	case MALTCOVE_BAD_WORDS: return "a word is no parameter";
-	case MALTCOVE_UNREAD: return "drops of earlier calls were not read";
-	case MALTCOVE_ALREADY_OPEN: return "the scheduler is open already";
-	case MALTCOVE_BAD_SEED: return "the seed has another length than 16 bytes";
-	case MALTCOVE_BAD_FLOW: return "there is no flow of that number";
-	case MALTCOVE_HASHED: return "the scheduler chooses the flows by a hash";
-	case MALTCOVE_NULL: return "a pointer is null";
-	default: return "no answer of this library";
+	case MALTCOVE_OK:
+		return "the call was made";
+	case MALTCOVE_IDLE:
+		return "no packet waits";
+	case MALTCOVE_NOT_OPEN:
+		return "the scheduler is not open: maltcove_open wasn't called, or it failed, or the struct was never "
+		       "initialized by MALTCOVE_INIT";
+	case MALTCOVE_TOO_LARGE:
+		return "the moment is 2^60 microseconds or more";
+	case MALTCOVE_BACKWARDS:
+		return "the moment is before that of the last call";
+	case MALTCOVE_CLOSED:
+		return "the scheduler was closed";
+	case MALTCOVE_EXHAUSTED:
+		return "there are no more ids";
+	case MALTCOVE_MEMORY:
+		return "out of memory";
+	case MALTCOVE_BAD_PACKET:
+		return "a field of the packet is out of its range: len is 1 to 65535, ecn 0 to 3, version 4 or 6";
+	case MALTCOVE_BAD_WORDS:
+		return "a parameter word is wrong: the fault of maltcove_open says which one and why";
+	case MALTCOVE_UNREAD:
+		return "drops of earlier calls were not read: call maltcove_drops until it returns 0";
+	case MALTCOVE_ALREADY_OPEN:
+		return "the scheduler is open already, or the struct was never initialized by MALTCOVE_INIT";
+	case MALTCOVE_BAD_SEED:
+		return "the seed has another length than 16 bytes";
+	case MALTCOVE_BAD_FLOW:
+		return "there is no flow of that number";
+	case MALTCOVE_HASHED:
+		return "the scheduler finds the flow by a hash of the five-tuple: open it with the words classify dport "
+		       "to choose the flow";
+	case MALTCOVE_NULL:
+		return "a pointer is null";
+	default:
+		return "no answer of this library";
 	}
 }
 
 const char *maltcove_fault_text(int kind)
 {
 	switch (kind) {
-	case MALTCOVE_WORDS_FINE: return "no word is wrong";
-	case MALTCOVE_UNKNOWN_WORD: return "the word names no parameter";
-	case MALTCOVE_MISSING_VALUE: return "no value stands after the parameter";
-	case MALTCOVE_NOT_A_NUMBER: return "the value is not written as a number or a time is";
-	case MALTCOVE_OUT_OF_RANGE: return "the value is out of its range";
-	case MALTCOVE_NOT_UTF8: return "the text is not UTF-8";
-	default: return "no fault of this library";
+	case MALTCOVE_WORDS_FINE:
+		return "no word is wrong";
+	case MALTCOVE_UNKNOWN_WORD:
+		return "the word names no parameter, or no way to classify";
+	case MALTCOVE_MISSING_VALUE:
+		return "no value stands after the parameter";
+	case MALTCOVE_NOT_A_NUMBER:
+		return "the value is not written as a number or a time is";
+	case MALTCOVE_OUT_OF_RANGE:
+		return "the value is out of its range, which stands at maltcove_open in maltcove.h";
+	case MALTCOVE_NOT_UTF8:
+		return "the text is not UTF-8";
+	default:
+		return "no fault of this library";
 	}
 }
 

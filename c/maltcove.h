@@ -2,15 +2,19 @@
  * maltcove.h: a packet scheduler by FQ-CoDel (RFC 8290), for C11 and C++17.
  *
  * A scheduler decides which packet goes next, which one is dropped and which one is marked. It holds no packet: the
- * caller has the buffers, and gives each packet a tag of 64 bits, as the address of its buffer. Each tag that is handed
- * in comes back once: as sent (maltcove_dequeue), as dropped (maltcove_drops) or as flushed (maltcove_flush).
+ * caller has the buffers, and gives each packet a tag of 64 bits, as the address of its buffer. Each tag that is
+ * accepted comes back once: as sent (maltcove_dequeue), as dropped (maltcove_drops) or as flushed (maltcove_flush). The
+ * tag of a packet that is refused stays the caller's, who frees its buffer or tries again.
  *
  *     maltcove m = MALTCOVE_INIT;
  *     maltcove_open(&m, "flows 1024", 10, seed, 16, NULL);
- *     maltcove_enqueue(&m, now, &packet, &admitted);      then maltcove_drops, where admitted.drops > 0
+ *     maltcove_enqueue(&m, now, &packet, &admitted);      not MALTCOVE_OK: the buffer is still the caller's
+ *                                                         then maltcove_drops, where admitted.drops > 0
  *     maltcove_dequeue(&m, now, &sent);                   then maltcove_drops, where sent.drops > 0
  *     maltcove_flush(&m, flushed, 64);                    until it answers 0, then maltcove_drops
  *     maltcove_free(&m);
+ *
+ * examples/loop.c is the whole loop of a router, and examples/threads.c has a scheduler per thread.
  *
  * Link with -lmaltcove. The library needs malloc, realloc, free, memcpy, memmove and memset, and nothing else.
  *
@@ -18,21 +22,35 @@
  * one nothing has changed: neither the scheduler nor what the other pointers point to, but for the fault of
  * maltcove_open.
  *
- * Units. Moments are whole microseconds below 2^60, of a clock that the caller chooses. Lengths are bytes.
+ * Units. Moments are whole microseconds below 2^60, of a clock that the caller chooses. Lengths are bytes. With
+ * nanoseconds in place of microseconds every wait looks a thousand times as long. A flow of which some packets always
+ * wait then has nearly all of them marked or dropped.
  *
  * Clocks. A moment may equal the last one, and must not be before it: else the answer is MALTCOVE_BACKWARDS. So use a
- * clock that doesn't step back, as CLOCK_MONOTONIC. Where moments come from the clocks of several processors, which may
+ * clock that doesn't step back, as CLOCK_MONOTONIC. After one moment far in the future all later calls are refused as
+ * MALTCOVE_BACKWARDS until that moment comes. Where moments come from the clocks of several processors, which may
  * differ by a little, pass the later of the moment and the last one that was passed.
+ *
+ * The link. Make the calls in the order of their moments. Where the link becomes free before the next packet comes, or
+ * at the same moment, call maltcove_dequeue for it first.
  *
  * Owners. The caller owns the struct maltcove, and the library owns its 16 bytes: no one else may copy or change them
  * while the scheduler is open. The library keeps no pointer that is passed to a call.
+ *
+ * Cache lines. Each call that changes the scheduler writes these bytes. So where several threads have a handle each,
+ * give each handle a cache line of its own, as by alignas(64) (_Alignas(64) in C11) before the handle in a struct per
+ * thread. Handles side by side in an array share a line, and slow each other down.
  *
  * Memory. maltcove_open takes all memory, and no other call takes any but an enqueue at a renewal, once in 2^39 packets
  * at most (see maltcove_enqueue). maltcove_free gives it back. heap.c has the three functions that the library takes
  * memory by; a program that defines all three itself replaces them.
  *
  * Threads. A scheduler may go from thread to thread, one call at a time: the caller orders the calls, by a lock or by a
- * thread's start or end. A call takes and gives back memory on the thread that makes it. Two schedulers share nothing,
+ * thread's start or end. Calls that only look are calls, too: maltcove_totals, maltcove_queued, maltcove_flow,
+ * maltcove_params and maltcove_is_closed. Beside a call that changes the scheduler they lose nothing, but they may be
+ * refused as MALTCOVE_NOT_OPEN, read numbers that don't belong together, or end the program. Two calls at once that
+ * change a scheduler may lose it with all its tags. To show statistics on another thread, let the owner copy them
+ * (examples/threads.c). A call takes and gives back memory on the thread that makes it. Two schedulers share nothing,
  * so each thread may have its own. No call may come from a signal handler.
  */
 #ifndef MALTCOVE_H
@@ -63,19 +81,19 @@ typedef struct maltcove {
 enum {
 	MALTCOVE_OK = 0,            /* the call was made */
 	MALTCOVE_IDLE = 1,          /* the dequeue was made, and no packet waits */
-	MALTCOVE_NOT_OPEN = -1,     /* there is no scheduler */
+	MALTCOVE_NOT_OPEN = -1,     /* there is no scheduler, or the struct was never MALTCOVE_INIT */
 	MALTCOVE_TOO_LARGE = -2,    /* the moment is 2^60 or more */
 	MALTCOVE_BACKWARDS = -3,    /* the moment is before that of the last call that was made */
 	MALTCOVE_CLOSED = -4,       /* the scheduler was closed */
 	MALTCOVE_EXHAUSTED = -5,    /* there are no more ids: see maltcove_enqueue */
-	MALTCOVE_MEMORY = -6,       /* a growth was refused */
-	MALTCOVE_BAD_PACKET = -7,   /* a field of the packet is out of its range */
+	MALTCOVE_MEMORY = -6,       /* out of memory */
+	MALTCOVE_BAD_PACKET = -7,   /* len, ecn or version of the packet is out of its range */
 	MALTCOVE_BAD_WORDS = -8,    /* a word is no parameter: the fault says which and why */
-	MALTCOVE_UNREAD = -9,       /* drops of earlier calls were not read */
-	MALTCOVE_ALREADY_OPEN = -10,
+	MALTCOVE_UNREAD = -9,       /* drops of earlier calls were not read: see maltcove_drops */
+	MALTCOVE_ALREADY_OPEN = -10, /* there is a scheduler, or the struct was never MALTCOVE_INIT */
 	MALTCOVE_BAD_SEED = -11,    /* the seed has another length than 16 bytes */
 	MALTCOVE_BAD_FLOW = -12,    /* there is no flow of that number */
-	MALTCOVE_HASHED = -13,      /* the scheduler chooses the flows itself: the words lack classify dport */
+	MALTCOVE_HASHED = -13,      /* the scheduler finds the flow: to choose it, open with the words classify dport */
 	MALTCOVE_NULL = -14         /* a pointer is null */
 };
 
@@ -89,10 +107,11 @@ enum {
 	MALTCOVE_NOT_UTF8 = 5       /* the text is not UTF-8; no place is named */
 };
 
-/* Which parameter word is wrong. */
+/* Which parameter word is wrong, and where it stands in the text of the words. All are 0 where no word is named. */
 typedef struct maltcove_fault {
-	uint64_t place;             /* of the word, from 1; 0 where none is named */
+	uint64_t place;             /* which word it is, from 1 */
 	int32_t kind;               /* MALTCOVE_UNKNOWN_WORD and so on */
+	uint64_t offset, len;       /* its bytes: the first is words[offset], and there are len of them */
 } maltcove_fault;
 
 /* A packet that comes. */
@@ -147,7 +166,7 @@ typedef struct maltcove_flushed {
 } maltcove_flushed;
 
 /* What became of the packets. accepted = sent + dropped_codel + dropped_overflow + flushed + queued. */
-typedef struct maltcove_totals {
+typedef struct maltcove_totals_t {
 	uint64_t accepted, accepted_bytes;
 	uint64_t sent, sent_bytes;
 	uint64_t dropped_codel, dropped_overflow, dropped_bytes;
@@ -159,7 +178,7 @@ typedef struct maltcove_totals {
 } maltcove_totals_t;
 
 /* What is kept of a flow, as tc -s class shows it. */
-typedef struct maltcove_flow {
+typedef struct maltcove_flow_t {
 	uint64_t queued, queued_bytes;
 	int64_t credits;            /* bytes that it may send before the next flow's turn */
 	uint64_t first_above;       /* CoDel: when packets will have been late for an interval; see has_first_above */
@@ -170,7 +189,7 @@ typedef struct maltcove_flow {
 } maltcove_flow_t;
 
 /* The parameters, in the units of tc-fq_codel(8): packets, flows, bytes, microseconds. */
-typedef struct maltcove_params {
+typedef struct maltcove_params_t {
 	uint64_t target, interval;
 	uint64_t ce_threshold;      /* 0 where has_ce_threshold is false */
 	uint64_t memory_limit;      /* 0 where has_memory_limit is false */
@@ -198,8 +217,10 @@ typedef struct maltcove_params {
  * seed has seed_len bytes, which have to be 16. Senders who don't know it can't choose flows that collide; so take it
  * from a source of random bytes.
  *
- * fault may be NULL. Else *fault says which word is wrong, after MALTCOVE_BAD_WORDS; after MALTCOVE_ALREADY_OPEN and
- * MALTCOVE_NULL it is left as it was, and after all else it names none.
+ * fault may be NULL. Else *fault says which word is wrong and where it stands, after MALTCOVE_BAD_WORDS; after
+ * MALTCOVE_ALREADY_OPEN and MALTCOVE_NULL it is left as it was, and after all else it names none. A message for a user:
+ *
+ *     printf("'%.*s': %s\n", (int)fault.len, words + fault.offset, maltcove_fault_text(fault.kind));
  *
  * Answers MALTCOVE_OK, MALTCOVE_NULL, MALTCOVE_ALREADY_OPEN, MALTCOVE_BAD_WORDS, MALTCOVE_BAD_SEED or MALTCOVE_MEMORY:
  * where more than one applies, the first of these.
@@ -216,7 +237,8 @@ void maltcove_free(maltcove *m);
 /*
  * Accepts a packet at the moment now_us. The scheduler finds its flow by the words' classify. Where more packets or
  * bytes wait then than limit or memory_limit allow, the flow that has most bytes loses packets from its head, as many
- * as drop_batch at once. admitted->drops says how many, and they have to be read before the next enqueue.
+ * as drop_batch at once. admitted->drops says how many, and they have to be read before the next enqueue. The packet
+ * that was handed in may be one of them. After a refusal the packet and its tag are still the caller's.
  *
  * Answers MALTCOVE_OK, MALTCOVE_NULL, MALTCOVE_NOT_OPEN, MALTCOVE_BAD_PACKET (len, ecn or version), MALTCOVE_UNREAD,
  * MALTCOVE_TOO_LARGE, MALTCOVE_BACKWARDS, MALTCOVE_CLOSED or MALTCOVE_EXHAUSTED: the first that applies. It never
@@ -231,16 +253,25 @@ void maltcove_free(maltcove *m);
 int maltcove_enqueue(maltcove *m, uint64_t now_us, const maltcove_packet *packet, maltcove_admitted *admitted);
 
 /*
- * The same for a packet whose flow the caller has chosen, as by a hash that a network card made: flow modulo the number
- * of flows. The words at maltcove_open have to say classify dport, else the answer is MALTCOVE_HASHED; it comes after
- * MALTCOVE_NOT_OPEN in the order of answers.
+ * The same for a packet whose flow the caller has chosen: flow modulo the number of flows. The words at maltcove_open
+ * have to say classify dport, else the answer is MALTCOVE_HASHED; it comes after MALTCOVE_NOT_OPEN in the order of
+ * answers.
+ *
+ * From a hash of 32 bits that a network card made, as for receive-side scaling, take the flow by its high bits:
+ *
+ *     flow = (uint32_t)((uint64_t)hash * flows >> 32);    with flows as maltcove_params tells it
+ *
+ * Don't pass the hash itself. The card has chosen the queue by the low bits, so all packets of a queue have the same
+ * ones, and the hash modulo flows leaves most flows empty. Behind 16 queues, 22 per cent of 100 five-tuples would have
+ * one of 1024 flows to themselves, and behind 64 queues none. By the high bits some 90 per cent have, always.
  */
 int maltcove_enqueue_flow(maltcove *m, uint64_t now_us, uint32_t flow, uint32_t len, uint8_t ecn, uint64_t tag,
 			  maltcove_admitted *admitted);
 
 /*
  * Gives the packet that is next at the moment now_us. CoDel may have dropped packets before it: sent->drops says how
- * many. They can be read at any time before the next enqueue. Write sent->ecn into the packet's header.
+ * many. They can be read at any time before the next enqueue. Write sent->ecn into the packet's header, and where that
+ * changes a header of IPv4, mend its checksum (RFC 1624).
  *
  * Answers MALTCOVE_OK; MALTCOVE_IDLE where nothing waits, and then all of *sent is 0 but drops; MALTCOVE_NULL,
  * MALTCOVE_NOT_OPEN, MALTCOVE_TOO_LARGE or MALTCOVE_BACKWARDS.

@@ -3,9 +3,9 @@
 A scheduler holds no packet. Each packet has a tag, a number of the caller's own, that comes back once: as ``Sent``,
 ``Dropped`` or ``Flushed``. Moments are whole microseconds below 2**60, and must not step back.
 
-    with Scheduler("limit 1000 target 5ms", seed) as scheduler:
+    with Scheduler("limit 1000 target 5ms") as scheduler:
         admitted = scheduler.enqueue(0, Packet(tag=42, len=1000, src="10.0.0.1", dst="10.0.0.2"))
-        lost = list(scheduler.drops())
+        lost = scheduler.drops()
         sent = scheduler.dequeue(1500)
 
 The shared library is the one that the variable ``MALTCOVE_LIBRARY`` names, else ``../c/build/libmaltcove.so`` beside
@@ -18,11 +18,11 @@ import ctypes
 import ctypes.util
 import enum
 import ipaddress
+import operator
 import os
 import pathlib
-from collections.abc import Iterator
 from dataclasses import dataclass
-from typing import NamedTuple, Optional, Union
+from typing import NamedTuple, NoReturn, Optional, Union
 
 __all__ = [
     "Admitted", "Cause", "Dropped", "Error", "Flow", "Flushed", "Mark", "Packet", "Params", "Scheduler", "Sent",
@@ -81,7 +81,9 @@ class _Maltcove(ctypes.Structure):
 
 
 class _Fault(ctypes.Structure):
-    _fields_ = [("place", ctypes.c_uint64), ("kind", ctypes.c_int32)]
+    _fields_ = [
+        ("place", ctypes.c_uint64), ("kind", ctypes.c_int32), ("offset", ctypes.c_uint64), ("len", ctypes.c_uint64),
+    ]
 
 
 class _Packet(ctypes.Structure):
@@ -141,7 +143,7 @@ class _Params(ctypes.Structure):
 
 # The sizes that the library has for them.
 _SIZES = {
-    _Maltcove: 16, _Fault: 16, _Packet: 56, _Admitted: 24, _Sent: 32, _Dropped: 24, _Flushed: 16, _Totals: 112,
+    _Maltcove: 16, _Fault: 32, _Packet: 56, _Admitted: 24, _Sent: 32, _Dropped: 24, _Flushed: 16, _Totals: 112,
     _Flow: 64, _Params: 56,
 }
 
@@ -197,12 +199,12 @@ class Error(Exception):
 
 
 class WordError(Error):
-    """A parameter word is wrong: its place, from 1, and in what way."""
+    """A parameter word is wrong: its place, from 1, in what way, and the word itself."""
 
-    def __init__(self, place: int, fault: WordFault) -> None:
+    def __init__(self, place: int, fault: WordFault, word: str) -> None:
         super().__init__(Status.BAD_WORDS)
-        self.args = (f"parameter word {place}: {fault.name}",)
-        self.place, self.fault = place, fault
+        self.args = (f"parameter word {place}, {word!r}: {fault.name}",)
+        self.place, self.fault, self.word = place, fault, word
 
 
 def _made(answer: int) -> int:
@@ -212,11 +214,31 @@ def _made(answer: int) -> int:
     return answer
 
 
-def _in_range(name: str, number: int, below: int) -> int:
+def _in_range(name: str, value: int, below: int) -> int:
     """A number that C's type has. ctypes would cut it off."""
+    try:
+        number = operator.index(value)
+    except TypeError:
+        raise TypeError(f"{name} is a {type(value).__name__}, and has to be an int") from None
     if not 0 <= number < below:
         raise ValueError(f"{name} is {number}, and has to be from 0 to {below - 1}")
     return number
+
+
+def _moment(now_us: int) -> int:
+    """A moment as C's type has it. Which moments are accepted, the library decides."""
+    return _in_range("now_us", now_us, 1 << 64)
+
+
+def _seed(seed: Optional[bytes]) -> bytes:
+    """The bytes of a seed: random ones where none is given."""
+    if seed is None:
+        return os.urandom(16)
+    if not isinstance(seed, (bytes, bytearray, memoryview)):
+        raise TypeError(f"seed is a {type(seed).__name__}, and has to be bytes")
+    if len(bytes(seed)) != 16:
+        raise ValueError(f"seed has {len(bytes(seed))} bytes, and has to have 16")
+    return bytes(seed)
 
 
 Address = Union[str, ipaddress.IPv4Address, ipaddress.IPv6Address]
@@ -301,7 +323,8 @@ class Totals(NamedTuple):
     closed: bool
 
 
-class Flow(NamedTuple):
+@dataclass(frozen=True)
+class Flow:
     """What is kept of a flow. ``first_above`` is None where the last packet wasn't late."""
 
     queued: int
@@ -335,26 +358,43 @@ def _sent(record: _Sent) -> Sent:
 
 
 class Scheduler:
-    """A scheduler with the parameters that words say, those of tc-fq_codel(8). ``free`` or the end of a ``with``
-    block gives its memory back; what waits then is forgotten. Threads that share it need a lock around each call."""
+    """A scheduler with the parameters that words say, those of tc-fq_codel(8), and a seed of 16 bytes for the hash that
+    chooses flows: random bytes where none is given. ``free`` or the end of a ``with`` block gives its memory back; what
+    waits then is forgotten. It can't be copied. Threads that share it need a lock around each call.
 
-    def __init__(self, words: str = "", seed: bytes = bytes(16)) -> None:
+    Raises ``WordError`` where a word is wrong, and ``Error`` where there is no memory."""
+
+    def __init__(self, words: str = "", seed: Optional[bytes] = None) -> None:
+        if not isinstance(words, str):
+            raise TypeError(f"words is a {type(words).__name__}, and has to be a str")
+        text, bytes_of_seed, fault = words.encode(), _seed(seed), _Fault()
         self._m = _Maltcove()
-        fault = _Fault()
-        text = words.encode()
-        answer = _library.maltcove_open(self._m, text, len(text), seed, len(seed), fault)
+        answer = _library.maltcove_open(self._m, text, len(text), bytes_of_seed, len(bytes_of_seed), fault)
         if answer == Status.BAD_WORDS:
-            raise WordError(fault.place, WordFault(fault.kind))
+            word = text[fault.offset:fault.offset + fault.len].decode()
+            raise WordError(fault.place, WordFault(fault.kind), word)
         _made(answer)
 
-    def __enter__(self) -> "Scheduler":
+    def __enter__(self) -> Scheduler:
         return self
 
     def __exit__(self, *_: object) -> None:
         self.free()
 
     def __del__(self) -> None:
-        self.free()
+        # Where the constructor raised an error there may be nothing to free.
+        if hasattr(self, "_m"):
+            self.free()
+
+    def __copy__(self) -> NoReturn:
+        # Two handles of one scheduler would both free it.
+        raise TypeError("a Scheduler can't be copied")
+
+    def __deepcopy__(self, _: object) -> NoReturn:
+        raise TypeError("a Scheduler can't be copied")
+
+    def __reduce__(self) -> NoReturn:
+        raise TypeError("a Scheduler can't be pickled")
 
     def free(self) -> None:
         """Gives all memory back. A later call but this one is refused."""
@@ -362,48 +402,52 @@ class Scheduler:
 
     def enqueue(self, now_us: int, packet: Packet) -> Admitted:
         """Accepts a packet. Read ``drops`` before the next one, where there are any."""
+        if not isinstance(packet, Packet):
+            raise TypeError(f"packet is a {type(packet).__name__}, and has to be a Packet")
         admitted = _Admitted()
-        moment = _in_range("now_us", now_us, 1 << 64)
-        _made(_library.maltcove_enqueue(self._m, moment, packet._record(), admitted))
+        _made(_library.maltcove_enqueue(self._m, _moment(now_us), packet._record(), admitted))
         return Admitted(admitted.id, admitted.flow, admitted.drops)
 
     def enqueue_flow(self, now_us: int, flow: int, length: int, ecn: int = 0, tag: int = 0) -> Admitted:
         """Accepts a packet into a flow, modulo their number, where the words say ``classify dport``."""
         admitted = _Admitted()
         _made(_library.maltcove_enqueue_flow(
-            self._m, _in_range("now_us", now_us, 1 << 64), _in_range("flow", flow, 1 << 32),
-            _in_range("length", length, 1 << 32), _in_range("ecn", ecn, 256), _in_range("tag", tag, 1 << 64), admitted,
+            self._m, _moment(now_us), _in_range("flow", flow, 1 << 32), _in_range("length", length, 1 << 32),
+            _in_range("ecn", ecn, 256), _in_range("tag", tag, 1 << 64), admitted,
         ))
         return Admitted(admitted.id, admitted.flow, admitted.drops)
 
     def dequeue(self, now_us: int) -> Optional[Sent]:
         """Gives the next packet, or None where none waits."""
         record = _Sent()
-        answer = _made(_library.maltcove_dequeue(self._m, _in_range("now_us", now_us, 1 << 64), record))
+        answer = _made(_library.maltcove_dequeue(self._m, _moment(now_us), record))
         return None if answer == Status.IDLE else _sent(record)
 
     def dequeue_burst(self, now_us: int, most: int) -> list[Sent]:
         """Gives up to so many packets at one moment."""
-        records = (_Sent * most)()
-        given = _made(_library.maltcove_dequeue_burst(self._m, _in_range("now_us", now_us, 1 << 64), records, most))
+        # No more can come than wait. The one record more lets the last dequeue find nothing, as a greater number does.
+        records = (_Sent * min(_in_range("most", most, 1 << 64), self.queued() + 1))()
+        given = _made(_library.maltcove_dequeue_burst(self._m, _moment(now_us), records, len(records)))
         return [_sent(record) for record in records[:given]]
 
-    def drops(self) -> Iterator[Dropped]:
-        """The drops that weren't read yet, in their order. Each is read as the iterator gives it."""
-        record = _Dropped()
+    def drops(self) -> list[Dropped]:
+        """The drops that weren't read yet, in their order. All are read by this call."""
+        record, dropped = _Dropped(), []
         while _made(_library.maltcove_drops(self._m, record, 1)):
-            yield Dropped(record.tag, record.id, Cause(record.cause))
+            dropped.append(Dropped(record.tag, record.id, Cause(record.cause)))
+        return dropped
 
-    def flush(self) -> Iterator[Flushed]:
-        """Takes out what waits, as dequeues at the last moment do. Each packet is flushed as the iterator gives it.
-        What CoDel drops on the way is there to be read, by ``drops``."""
-        record = _Flushed()
+    def flush(self) -> list[Flushed]:
+        """Takes out all that waits, as dequeues at the last moment do. What CoDel drops on the way is there to be read,
+        by ``drops``."""
+        record, flushed = _Flushed(), []
         while _made(_library.maltcove_flush(self._m, record, 1)):
-            yield Flushed(record.tag, record.id)
+            flushed.append(Flushed(record.tag, record.id))
+        return flushed
 
     def close(self, now_us: int) -> None:
         """From here on no packet is accepted; dequeues go on."""
-        _made(_library.maltcove_close(self._m, _in_range("now_us", now_us, 1 << 64)))
+        _made(_library.maltcove_close(self._m, _moment(now_us)))
 
     def is_closed(self) -> bool:
         """Whether there was a close."""
@@ -440,4 +484,5 @@ class Scheduler:
 
 def version() -> str:
     """The version of the library, as 0.1.0."""
-    return _library.maltcove_version().decode()
+    text: bytes = _library.maltcove_version()
+    return text.decode()

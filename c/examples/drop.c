@@ -24,8 +24,11 @@ int main(void)
 
 	while (maltcove_drops(&m, &lost, 1) > 0)
 		printf("packet %d is lost: %s\n", (int)lost.id, (const char *)(uintptr_t)lost.tag);
-	while (maltcove_dequeue(&m, 1500, &sent) == MALTCOVE_OK)
+	while (maltcove_dequeue(&m, 1500, &sent) == MALTCOVE_OK) {
 		printf("packet %d goes: %s\n", (int)sent.id, (const char *)(uintptr_t)sent.tag);
+		while (maltcove_drops(&m, &lost, 1) > 0) /* those that CoDel dropped before it */
+			printf("packet %d is lost: %s\n", (int)lost.id, (const char *)(uintptr_t)lost.tag);
+	}
 	maltcove_free(&m);
 	return 0;
 }

@@ -22,10 +22,11 @@ static void check_at(bool right, const char *what, int line)
 
 static void open_with(const char *words)
 {
-	maltcove_fault fault = { 7, 7 };
+	maltcove_fault fault = { 7, 7, 7, 7 };
 
 	CHECK(maltcove_open(&m, words, strlen(words), seed, 16, &fault) == MALTCOVE_OK);
 	CHECK(m.is_open && fault.place == 0 && fault.kind == MALTCOVE_WORDS_FINE);
+	CHECK(fault.offset == 0 && fault.len == 0);
 }
 
 static maltcove_packet packet_of(uint16_t dport, uint32_t len, uint64_t tag)
@@ -48,30 +49,34 @@ static int enqueue(uint64_t moment, uint16_t dport, uint32_t len, uint64_t tag, 
 	return maltcove_enqueue(&m, moment, &p, admitted);
 }
 
-/* A text of words that is refused: at this place, for this. */
-static void refuse_words(const char *words, uint64_t place, int kind)
+/* A text of words that is refused: at this place, for this word, which stands so many bytes from the text's start. */
+static void refuse_words(const char *words, uint64_t place, int kind, uint64_t offset, const char *word)
 {
-	maltcove_fault fault = { 7, 7 };
+	maltcove_fault fault = { 7, 7, 7, 7 };
 
 	CHECK(maltcove_open(&m, words, strlen(words), seed, 16, &fault) == MALTCOVE_BAD_WORDS);
 	CHECK(fault.place == place && fault.kind == kind);
+	CHECK(fault.offset == offset && fault.len == strlen(word) && memcmp(words + offset, word, strlen(word)) == 0);
 	CHECK(maltcove_open(&m, words, strlen(words), seed, 16, NULL) == MALTCOVE_BAD_WORDS);
 	CHECK(!m.is_open && m.inner == NULL);
 }
 
 static void words_and_seeds(void)
 {
-	maltcove_fault fault = { 7, 7 };
+	maltcove_fault fault = { 7, 7, 7, 7 };
 	maltcove_params_t p;
 
-	refuse_words("limit 1000 brown", 3, MALTCOVE_UNKNOWN_WORD);
-	refuse_words("classify port", 2, MALTCOVE_UNKNOWN_WORD);
-	refuse_words("noecn limit", 2, MALTCOVE_MISSING_VALUE);
-	refuse_words(" limit\t1k ", 2, MALTCOVE_NOT_A_NUMBER);
-	refuse_words("target 5ms flows 0", 4, MALTCOVE_OUT_OF_RANGE);
-	refuse_words("limit 1000 \xff", 0, MALTCOVE_NOT_UTF8);
-	refuse_words("limit 7\nflows \xc3\xa9", 4, MALTCOVE_NOT_A_NUMBER);
-	refuse_words("ecn gr\xc3\xbcn", 2, MALTCOVE_UNKNOWN_WORD);
+	refuse_words("brown", 1, MALTCOVE_UNKNOWN_WORD, 0, "brown");
+	refuse_words("limit 1000 brown", 3, MALTCOVE_UNKNOWN_WORD, 11, "brown");
+	refuse_words("classify port", 2, MALTCOVE_UNKNOWN_WORD, 9, "port");
+	refuse_words("noecn limit", 2, MALTCOVE_MISSING_VALUE, 6, "limit");
+	refuse_words("noecn  limit\n ", 2, MALTCOVE_MISSING_VALUE, 7, "limit");
+	refuse_words(" limit\t1k ", 2, MALTCOVE_NOT_A_NUMBER, 7, "1k");
+	refuse_words("target 5ms flows 0", 4, MALTCOVE_OUT_OF_RANGE, 17, "0");
+	refuse_words("limit 1000 \xff", 0, MALTCOVE_NOT_UTF8, 0, "");
+	refuse_words("limit 7\nflows \xc3\xa9", 4, MALTCOVE_NOT_A_NUMBER, 14, "\xc3\xa9");
+	refuse_words("ecn gr\xc3\xbcn", 2, MALTCOVE_UNKNOWN_WORD, 4, "gr\xc3\xbcn");
+	refuse_words("\r\n\t\f ecn \f\t\r\n ecn  x ecn", 3, MALTCOVE_UNKNOWN_WORD, 19, "x");
 	CHECK(maltcove_open(&m, "", 0, seed, 15, &fault) == MALTCOVE_BAD_SEED && !m.is_open);
 	CHECK(maltcove_open(&m, "", 0, NULL, 0, &fault) == MALTCOVE_BAD_SEED && !m.is_open);
 	CHECK(maltcove_open(&m, NULL, 0, seed, 16, NULL) == MALTCOVE_OK);
@@ -79,9 +84,9 @@ static void words_and_seeds(void)
 	CHECK(p.limit == 10240 && p.flows == 1024 && p.quantum == 1514 && p.mtu == 1514 && p.drop_batch == 64);
 	CHECK(p.target == 5000 && p.interval == 100000 && p.ecn && p.hash);
 	CHECK(!p.has_ce_threshold && p.ce_threshold == 0 && !p.has_memory_limit && p.memory_limit == 0);
-	fault.place = fault.kind = 7;
+	fault.place = fault.kind = fault.offset = fault.len = 7;
 	CHECK(maltcove_open(&m, "brown", 5, seed, 16, &fault) == MALTCOVE_ALREADY_OPEN);
-	CHECK(fault.place == 7 && fault.kind == 7 && m.is_open);
+	CHECK(fault.place == 7 && fault.kind == 7 && fault.offset == 7 && fault.len == 7 && m.is_open);
 	maltcove_free(&m);
 	open_with("limit 7 flows 9 quantum 300 mtu 100 target 1ms interval 2s ce_threshold 3us memory_limit 4000 "
 		  "drop_batch 5 noecn classify dport");
@@ -102,6 +107,8 @@ static void all_are_opened(void)
 		"memory_limit 1099511627776 drop_batch 1048576",
 		"limit 7\nflows 9\r\nclassify dport\n",
 		"ecn\tnoecn\fecn\n",
+		"limit 65537 memory_limit 1",
+		"limit 1048576 memory_limit 1099511627776",
 	};
 	static char many[40000];
 	uint8_t bytes[16];
@@ -119,7 +126,29 @@ static void all_are_opened(void)
 			bytes[place] = (uint8_t)(value + 37 * place);
 		CHECK(maltcove_open(&m, "limit 1 flows 1", 15, bytes, 16, NULL) == MALTCOVE_OK);
 		maltcove_free(&m);
+		memset(bytes, value, sizeof bytes);
+		CHECK(maltcove_open(&m, "limit 1 flows 1", 15, bytes, 16, NULL) == MALTCOVE_OK);
+		maltcove_free(&m);
 	}
+}
+
+/* The words and the seed each in its place: a text that is sixteen bytes long, and a seed that is a text of words. */
+static void words_before_seed(void)
+{
+	static const char words[] = "limit 9 flows 33", bad_seed[] = "flows 7";
+	maltcove_fault fault;
+	maltcove_params_t p;
+
+	CHECK(strlen(words) == 16);
+	CHECK(maltcove_open(&m, words, 16, seed, 16, &fault) == MALTCOVE_OK);
+	CHECK(maltcove_params(&m, &p) == MALTCOVE_OK && p.limit == 9 && p.flows == 33);
+	maltcove_free(&m);
+	CHECK(maltcove_open(&m, words, 16, (const uint8_t *)bad_seed, 7, &fault) == MALTCOVE_BAD_SEED);
+	CHECK(maltcove_open(&m, words, 16, (const uint8_t *)words, 16, &fault) == MALTCOVE_OK);
+	CHECK(maltcove_params(&m, &p) == MALTCOVE_OK && p.limit == 9 && p.flows == 33);
+	maltcove_free(&m);
+	CHECK(maltcove_open(&m, "brown brown brow", 16, (const uint8_t *)words, 16, &fault) == MALTCOVE_BAD_WORDS);
+	CHECK(fault.place == 1 && fault.kind == MALTCOVE_UNKNOWN_WORD && fault.offset == 0 && fault.len == 5);
 }
 
 /* Every call on none, and every call with a null pointer. */
@@ -384,6 +413,96 @@ static uint32_t random_below(uint32_t n)
 	return (uint32_t)((random_state * 0x2545f4914f6cdd1du >> 32) * n >> 32);
 }
 
+/* How many of 10000 packets are marked, of a flow of which five always wait for a link that takes 400 microseconds for
+ * each. The moments are of a clock with so many units to the microsecond. */
+static uint64_t marked_of_five(uint64_t units)
+{
+	maltcove_admitted admitted;
+	maltcove_sent sent;
+	maltcove_totals_t t;
+	uint64_t moment = 0;
+
+	open_with("classify dport flows 4");
+	for (uint64_t tag = 0; tag < 10000; tag++) {
+		CHECK(maltcove_enqueue_flow(&m, moment, 1, 1000, 2, tag, &admitted) == MALTCOVE_OK);
+		if (maltcove_queued(&m) < 5)
+			continue;
+		moment += 400 * units;
+		CHECK(maltcove_dequeue(&m, moment, &sent) == MALTCOVE_OK);
+	}
+	CHECK(maltcove_totals(&m, &t) == MALTCOVE_OK);
+	maltcove_free(&m);
+	return t.marked;
+}
+
+/* Clocks that give no microseconds, and one moment far in the future. */
+static void wrong_clocks(void)
+{
+	maltcove_admitted admitted;
+	maltcove_sent sent;
+
+	CHECK(marked_of_five(1) == 0);
+	CHECK(marked_of_five(1000) > 9900);
+	open_with("classify dport flows 4");
+	CHECK(enqueue(1000, 1, 100, 1, &admitted) == MALTCOVE_OK);
+	CHECK(enqueue(1ull << 59, 1, 100, 2, &admitted) == MALTCOVE_OK);
+	CHECK(enqueue(1001, 1, 100, 3, &admitted) == MALTCOVE_BACKWARDS);
+	CHECK(maltcove_dequeue(&m, 1002, &sent) == MALTCOVE_BACKWARDS);
+	CHECK(maltcove_close(&m, (1ull << 59) - 1) == MALTCOVE_BACKWARDS);
+	CHECK(maltcove_dequeue(&m, 1ull << 59, &sent) == MALTCOVE_OK && sent.tag == 1);
+	maltcove_free(&m);
+}
+
+/* A packet that is handed in may be among the drops of its own enqueue: more bytes than may wait. */
+static void drops_itself(void)
+{
+	maltcove_admitted admitted;
+	maltcove_dropped drop;
+
+	open_with("memory_limit 1000 classify dport flows 4");
+	CHECK(enqueue(0, 1, 1001, 7, &admitted) == MALTCOVE_OK && admitted.id == 0 && admitted.drops == 1);
+	CHECK(maltcove_drops(&m, &drop, 1) == 1 && drop.tag == 7 && drop.id == 0);
+	CHECK(drop.cause == MALTCOVE_BY_OVERFLOW && maltcove_queued(&m) == 0);
+	maltcove_free(&m);
+}
+
+/* How many of 100 five-tuples are alone in their flow, on average over all queues of a card that chose the queue by the
+ * low bits of a hash: by the flow that maltcove.h says how to take of the hash, or by the hash itself. */
+static uint32_t alone(uint32_t queues, bool by_high_bits)
+{
+	enum { FLOWS = 1024, TUPLES = 100 };
+	maltcove_admitted admitted;
+	uint32_t all = 0;
+
+	for (uint32_t queue = 0; queue < queues; queue++) {
+		uint32_t tuples[FLOWS] = { 0 }, flow[TUPLES];
+
+		open_with("limit 100 flows 1024 classify dport");
+		for (uint32_t i = 0; i < TUPLES; i++) {
+			uint32_t hash = random_below(UINT32_MAX) / queues * queues + queue;
+
+			if (by_high_bits)
+				hash = (uint32_t)((uint64_t)hash * FLOWS >> 32);
+			CHECK(maltcove_enqueue_flow(&m, 0, hash, 100, 0, i, &admitted) == MALTCOVE_OK && admitted.flow < FLOWS);
+			flow[i] = admitted.flow;
+			tuples[flow[i]]++;
+		}
+		for (uint32_t i = 0; i < TUPLES; i++)
+			all += tuples[flow[i]] == 1;
+		maltcove_free(&m);
+	}
+	return all / queues;
+}
+
+/* Flows of a network card's hash. */
+static void hashes_of_a_card(void)
+{
+	for (uint32_t queues = 1; queues <= 64; queues *= 4)
+		CHECK(alone(queues, true) >= 86 && alone(queues, true) <= 95);
+	CHECK(alone(16, false) >= 17 && alone(16, false) <= 27);
+	CHECK(alone(64, false) == 0);
+}
+
 /* A tag comes back: it has to be out, and is in then. */
 static void give_back(bool *out, uint64_t tag, uint64_t id)
 {
@@ -474,6 +593,11 @@ static void texts(void)
 		for (int b = MALTCOVE_WORDS_FINE; b < a; b++)
 			CHECK(strcmp(maltcove_fault_text(a), maltcove_fault_text(b)) != 0);
 	CHECK(strcmp(maltcove_strerror(2), maltcove_strerror(-15)) == 0);
+	CHECK(strstr(maltcove_strerror(MALTCOVE_BAD_PACKET), "len is 1 to 65535, ecn 0 to 3, version 4 or 6") != NULL);
+	CHECK(strstr(maltcove_strerror(MALTCOVE_HASHED), "classify dport") != NULL);
+	CHECK(strstr(maltcove_strerror(MALTCOVE_BAD_WORDS), "the fault of maltcove_open") != NULL);
+	CHECK(strstr(maltcove_strerror(MALTCOVE_NOT_OPEN), "never initialized") != NULL);
+	CHECK(strstr(maltcove_strerror(MALTCOVE_ALREADY_OPEN), "never initialized") != NULL);
 	CHECK(strcmp(maltcove_version(), MALTCOVE_VERSION) == 0);
 }
 
@@ -481,12 +605,16 @@ int main(void)
 {
 	words_and_seeds();
 	all_are_opened();
+	words_before_seed();
 	none_and_null();
 	refusals();
 	drops_wait();
 	codel_drops();
 	each_total();
 	bursts_and_flushes();
+	wrong_clocks();
+	drops_itself();
+	hashes_of_a_card();
 	tags_come_back();
 	texts();
 	puts("calls: all as they should be");

@@ -9,7 +9,7 @@
 #include <stdlib.h>
 #include <string.h>
 
-struct given {
+struct made {
 	bool ok;
 	void *block;
 };
@@ -17,8 +17,8 @@ struct given {
 #ifdef __cplusplus
 extern "C" {
 #endif
-struct given rattle_alloc(size_t bytes, size_t align);
-struct given rattle_realloc(void *block, size_t kept, size_t bytes, size_t align);
+struct made rattle_alloc(size_t bytes, size_t align);
+struct made rattle_realloc(void *block, size_t kept, size_t bytes, size_t align);
 void rattle_dealloc(void *block);
 #ifdef __cplusplus
 }
@@ -40,9 +40,9 @@ static size_t size_of(const void *block)
 }
 
 /* What the library gets of a block of so many bytes, or where there is none what stands for none. */
-static struct given given(void *start, size_t bytes)
+static struct made given(void *start, size_t bytes)
 {
-	struct given answer = { false, nothing };
+	struct made answer = { false, nothing };
 
 	if (start == NULL)
 		return answer;
@@ -62,9 +62,9 @@ static bool refuses(void)
 	return false;
 }
 
-struct given rattle_alloc(size_t bytes, size_t align)
+struct made rattle_alloc(size_t bytes, size_t align)
 {
-	struct given answer = { false, nothing };
+	struct made answer = { false, nothing };
 
 	(void)align;
 	if (refuses())
@@ -76,9 +76,9 @@ struct given rattle_alloc(size_t bytes, size_t align)
 	return answer;
 }
 
-struct given rattle_realloc(void *block, size_t kept, size_t bytes, size_t align)
+struct made rattle_realloc(void *block, size_t kept, size_t bytes, size_t align)
 {
-	struct given answer = { false, nothing };
+	struct made answer = { false, nothing };
 	size_t before = size_of(block);
 
 	(void)kept, (void)align;

@@ -18,9 +18,11 @@ HOLDS(sizeof(maltcove) == 16);
 STANDS(maltcove, inner, 0);
 STANDS(maltcove, is_open, 8);
 
-HOLDS(sizeof(maltcove_fault) == 16);
+HOLDS(sizeof(maltcove_fault) == 32);
 STANDS(maltcove_fault, place, 0);
 STANDS(maltcove_fault, kind, 8);
+STANDS(maltcove_fault, offset, 16);
+STANDS(maltcove_fault, len, 24);
 
 HOLDS(sizeof(maltcove_packet) == 56);
 STANDS(maltcove_packet, tag, 0);

@@ -1,5 +1,6 @@
 //! Why a call is refused.
 
+use crate::sys;
 use std::ffi::c_int;
 use std::fmt::{self, Display, Formatter};
 
@@ -27,14 +28,18 @@ pub enum Error {
     Closed,
     /// There are no more ids: something waited all the time while 2^39 packets came.
     Exhausted,
-    /// A growth was refused.
+    /// Out of memory.
     Memory,
     /// A packet has 0 bytes or more than 65,535, or addresses of two versions of IP.
     BadPacket,
-    /// A word is no parameter.
+    /// A word is no parameter. In the text of the words it is `words[offset..offset + len]`.
     BadWords {
         /// The place of the word, from 1.
         place: u64,
+        /// Where the word begins in the text, in bytes.
+        offset: usize,
+        /// How many bytes the word has.
+        len: usize,
         /// What is wrong with it.
         fault: WordFault,
     },
@@ -42,7 +47,8 @@ pub enum Error {
     Unread,
     /// There is no flow of that number.
     BadFlow,
-    /// The scheduler chooses the flows itself: its words lack `classify dport`.
+    /// The scheduler finds the flow by a hash of the five-tuple. To choose flows, open it with the words
+    /// `classify dport`.
     Hashed,
 }
 
@@ -64,15 +70,20 @@ impl Error {
     }
 
     /// The error of a word. A text of Rust is UTF-8, so no other kind comes.
-    pub(crate) fn of_word(place: u64, kind: i32) -> Error {
-        let fault = match kind {
+    pub(crate) fn of_word(told: &sys::Fault) -> Error {
+        let fault = match told.kind {
             1 => WordFault::UnknownWord,
             2 => WordFault::MissingValue,
             3 => WordFault::NotANumber,
             4 => WordFault::OutOfRange,
-            _ => unreachable!("the library named the fault {kind}"),
+            kind => unreachable!("the library named the fault {kind}"),
         };
-        Error::BadWords { place, fault }
+        Error::BadWords {
+            place: told.place,
+            offset: told.offset as usize,
+            len: told.len as usize,
+            fault,
+        }
     }
 }
 
@@ -94,14 +105,19 @@ impl Display for Error {
             Error::Backwards => "the moment is before that of the last call",
             Error::Closed => "the scheduler was closed",
             Error::Exhausted => "there are no more ids",
-            Error::Memory => "a growth was refused",
-            Error::BadPacket => "a field of the packet is out of its range",
-            Error::BadWords { place, fault } => {
+            Error::Memory => "out of memory",
+            Error::BadPacket => {
+                "the packet has 0 bytes or more than 65535, or addresses of two versions of IP"
+            }
+            Error::BadWords { place, fault, .. } => {
                 return write!(f, "parameter word {place}: {fault}")
             }
             Error::Unread => "drops of earlier calls were not read",
             Error::BadFlow => "there is no flow of that number",
-            Error::Hashed => "the scheduler chooses the flows by a hash",
+            Error::Hashed => {
+                "the scheduler finds the flow by a hash of the five-tuple: \
+                 open it with the words classify dport to choose the flow"
+            }
         })
     }
 }

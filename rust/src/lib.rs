@@ -2,8 +2,8 @@
 //! the archive `libmaltcove.a`.
 //!
 //! A scheduler holds no packet: the caller has the buffers, and gives each packet a tag, as the number of its buffer.
-//! Each tag comes back once: as [`Sent`], [`Dropped`] or [`Flushed`]. Moments are whole microseconds below 2^60, of a
-//! clock that doesn't step back.
+//! Each tag that is accepted comes back once: as [`Sent`], [`Dropped`] or [`Flushed`]. The tag of a packet that is
+//! refused stays the caller's. Moments are whole microseconds below 2^60, of a clock that doesn't step back.
 //!
 //! ```
 //! use maltcove::{Ecn, Packet, Scheduler};

@@ -42,7 +42,7 @@ impl Ecn {
 /// A packet that comes.
 #[derive(Clone, Copy, Debug, PartialEq, Eq, Hash)]
 pub struct Packet {
-    /// What the caller knows it by, as the number of its buffer. It comes back once.
+    /// What the caller knows it by, as the number of its buffer. Once it is accepted it comes back once.
     pub tag: u64,
     /// Its length in bytes, from 1 to 65,535.
     pub len: u32,

@@ -12,8 +12,8 @@ use std::ptr;
 /// A packet scheduler by FQ-CoDel. It takes all memory where it is opened, and gives it back where it is dropped; the
 /// tags of what waits then are lost, so [`flush`](Scheduler::flush) it before. It may be sent to another thread, and
 /// threads that share it need a lock around it.
-// The C calls write behind the pointer, those that only look too, so it stands in a cell. The cell keeps the type from
-// being shared by threads.
+// The C calls write the struct or behind its pointer, so it stands in a cell. The cell keeps the type from being shared by
+// threads: calls that only look are calls, too.
 pub struct Scheduler {
     inner: UnsafeCell<sys::Maltcove>,
 }
@@ -64,13 +64,14 @@ impl Scheduler {
             sys::OK => Ok(Scheduler {
                 inner: UnsafeCell::new(inner),
             }),
-            -8 => Err(Error::of_word(fault.place, fault.kind)),
+            -8 => Err(Error::of_word(&fault)),
             _ => Err(Error::of(answer)),
         }
     }
 
     /// Accepts a packet. Where more waits then than `limit` or `memory_limit` allow, packets of the flow that has most
-    /// bytes are dropped: read them by [`drops`](Scheduler::drops) before the next packet, which is refused else.
+    /// bytes are dropped: read them by [`drops`](Scheduler::drops) before the next packet, which is refused else. The
+    /// packet itself may be one of them. After a refusal its tag is still the caller's.
     ///
     /// It fails with [`Error::BadPacket`], [`Error::Unread`], [`Error::TooLarge`], [`Error::Backwards`],
     /// [`Error::Closed`] or [`Error::Exhausted`]: the first that applies.
@@ -88,7 +89,8 @@ impl Scheduler {
         })
     }
 
-    /// Accepts a packet into the flow that the caller has chosen, modulo the number of flows.
+    /// Accepts a packet into the flow that the caller has chosen, modulo the number of flows. Of a network card's hash
+    /// take the high bits, as `(u64::from(hash) * u64::from(flows) >> 32) as u32`: the low bits have chosen the queue.
     ///
     /// It fails as [`enqueue`](Scheduler::enqueue) does, and with [`Error::Hashed`] where the words lack
     /// `classify dport`.

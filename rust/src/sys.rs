@@ -13,6 +13,8 @@ pub struct Maltcove {
 pub struct Fault {
     pub place: u64,
     pub kind: i32,
+    pub offset: u64,
+    pub len: u64,
 }
 
 #[repr(C)]
@@ -113,7 +115,7 @@ pub struct Params {
     pub hash: bool,
 }
 
-const _: () = assert!(size_of::<Maltcove>() == 16 && size_of::<Fault>() == 16);
+const _: () = assert!(size_of::<Maltcove>() == 16 && size_of::<Fault>() == 32);
 const _: () = assert!(size_of::<Packet>() == 56 && size_of::<Admitted>() == 24);
 const _: () = assert!(size_of::<Sent>() == 32 && size_of::<Dropped>() == 24);
 const _: () = assert!(size_of::<Flushed>() == 16 && size_of::<Totals>() == 112);

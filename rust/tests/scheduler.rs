@@ -45,14 +45,22 @@ fn words_are_read() {
 
 #[test]
 fn wrong_words_are_named() {
-    for (words, place, fault) in [
-        ("limit 1000 brown", 3, WordFault::UnknownWord),
-        ("noecn limit", 2, WordFault::MissingValue),
-        ("limit 1k", 2, WordFault::NotANumber),
-        ("target 5ms flows 0", 4, WordFault::OutOfRange),
+    for (words, place, wanted, fault) in [
+        ("limit 1000 brown", 3, "brown", WordFault::UnknownWord),
+        ("noecn limit", 2, "limit", WordFault::MissingValue),
+        ("limit 1k", 2, "1k", WordFault::NotANumber),
+        ("target 5ms\n flows  0 ", 4, "0", WordFault::OutOfRange),
+        ("ecn gr\u{fc}n ecn", 2, "gr\u{fc}n", WordFault::UnknownWord),
     ] {
         let refused = Scheduler::open(words, SEED).expect_err(words);
-        assert_eq!(refused, Error::BadWords { place, fault });
+        let offset = words.find(wanted).expect("the word");
+        let expected = Error::BadWords {
+            place,
+            offset,
+            len: wanted.len(),
+            fault,
+        };
+        assert_eq!(refused, expected);
         assert!(refused
             .to_string()
             .starts_with(&format!("parameter word {place}: ")));

@@ -150,8 +150,10 @@ once, SUBMITTED is ACCEPTED and LEFT together, each packet that was accepted is
 sent or dropped, and the ACCEPTED of all senders are that of the totals.
 
 Exit status: as of 'fqsim trace', and 1 with 'fqsim: lane LANE' on standard
-error where the sender of that lane has no end, or stopped before its last
-packet, which would be a fault of the program.";
+error where that lane has no end, or its sender has more than 1048576 packets.
+The first would be a fault of the program, and no trace has so many rows. It is
+also 1 with 'fqsim: monitor I' where that monitor read more than the journal
+has, which would be a fault of the program, too.";
 
 /// What the seed is, in a line.
 pub const SEED_SUMMARY: &str = "Seed of the flow hash [default: 32 zeros]";

@@ -284,10 +284,11 @@ fn raise_from_none(bytes: &[u64], winners: &mut [u32], top: &mut Top, flow: u32,
     let most = winners[top.node];
     let most_bytes = bytes[most as usize];
     if most_bytes == 0 {
+        // No flow had bytes, and so no other one has. Where it doesn't win it got none either, and all stays as it was.
         let mut comparisons = 0;
-        let _wins = wins_over(&mut comparisons, own, most_bytes, margin_over(flow, most));
-        // No flow had bytes, and so no other one has.
-        *top = Top::of_leaf(leaf);
+        if wins_over(&mut comparisons, own, most_bytes, margin_over(flow, most)) {
+            *top = Top::of_leaf(leaf);
+        }
         return comparisons;
     }
     if leaf >> top.height != top.node {

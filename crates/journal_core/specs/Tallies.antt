@@ -1,5 +1,6 @@
-use Rattle.std.specs.Prelude.{◌≡◌, ℕ, ◌+◌, ◌-◌, ◌<◌, vec_capacity, vec_len, Bool, List, [], ◌∷◌, ◌++◌, map, count_by, Some, slice_get, if◌then◌else◌}
+use Rattle.std.specs.Prelude.{◌≡◌, ℕ, ◌+◌, ◌-◌, ◌<◌, ◌≤◌, vec_capacity, vec_len, Bool, List, [], ◌∷◌, ◌++◌, map, count_by, Some, slice_get, if◌then◌else◌}
 use Rattle.std.specs.List.{AllZip, IsDistinct, filter_map, list_any}
+use Rattle.indexmap.specs.IndexSet.{spare}
 use Rattle.packet_core.specs.Packets.{same_tuple}
 use Rattle.packet_core.specs.declared.packet.FiveTuple.{FiveTuple}
 use Rattle.journal_core.specs.declared.event.Event.{Event}
@@ -62,6 +63,11 @@ pub record AreTallied (tuples : List FiveTuple) (rows : List TupleRow) (places :
 abbrev pub IsTallied : RowsByTuple → List Acceptance → List Event → Type 0
 IsTallied rows accepted seen = AreTallied rows.tuples.keys rows.rows.items rows.places.items accepted seen
 
+-- So many packets more can come to the rows without more memory. (Of five-tuples that come again it takes less.)
+abbrev pub HasRowRoom : ℕ → RowsByTuple → Type 0
+HasRowRoom more rows = (more ≤ spare rows.tuples) × (vec_len rows.rows + more ≤ vec_capacity rows.rows)
+    × (vec_len rows.places + more ≤ vec_capacity rows.places)
+
 -- what is kept of a packet whose five-tuple is seen
 abbrev pub seen_of : Acceptance → Seen
 seen_of a = record { tuple = tuple_of a; flow = a.flow }
@@ -78,9 +84,18 @@ pub record AreSeen (seen : List Seen) (places : List ℕ) (accepted : List Accep
   pub firsts_are : first_of_each of_one_tuple kept ≡ first_of_each of_one_tuple accepted
   pub places_are : AllZip (λ place a. slice_get (tuples_of seen) place ≡ Some (tuple_of a)) places accepted
 
--- The packets of these acceptances have come to the tally.
-abbrev pub HasSeen : Tally → List Acceptance → Type 0
-HasSeen tally accepted = AreSeen tally.seen.items tally.places.items accepted
+-- No row is made, and as many as can be seen have memory for theirs.
+abbrev pub HasRoomToSee : Tally → Type 0
+HasRoomToSee tally = IsTallied tally.rows [] [] × HasRowRoom (vec_capacity tally.seen) tally.rows
+
+-- what has memory for its rows has it still
+abbrev pub KeepsRowRoom : Tally → Tally → Type 0
+KeepsRowRoom old new = HasRoomToSee old → HasRoomToSee new
+
+-- The packets of these acceptances have come to the tally, and their rows ask for no memory.
+pub record HasSeen (tally : Tally) (accepted : List Acceptance) : Type 0 where
+  pub seen : AreSeen tally.seen.items tally.places.items accepted
+  pub room : HasRoomToSee tally
 
 -- A packet more can come to the tally without more memory.
 abbrev pub HasRoom : Tally → Type 0

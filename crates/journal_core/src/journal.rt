@@ -38,7 +38,8 @@ pub struct Counts {
     pub threshold_marked: u64,
 }
 
-/// The events so far, as a recorder is told them. Room for more is taken ahead, so that to record one takes no memory.
+/// The events so far, as a recorder is told them. Room for more is taken ahead, so that to record one can't fail. With
+/// a recorder of this crate it takes no memory then.
 #[derive(Debug, Drop)]
 pub struct Journal<K: Recorder = EventList> {
     recorder: K,

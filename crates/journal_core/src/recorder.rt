@@ -19,6 +19,10 @@ use std::alloc::Global;
 /// close. It may store all of it, some or nothing. So an embedder gets each packet back once, by its tag: here where it
 /// is lost, and where it is sent, after the call, which answers with the packet and its bytes still to be sent. The
 /// lists of what it was told are there for proofs.
+///
+/// The recorders of this crate take memory in `reserve` alone, and none in `accept`, `send`, `lose` and `close`. A
+/// recorder that can't know at `reserve` how much it will need takes memory in those calls too. It says so where it
+/// does, and what becomes of it when that memory is refused, since these calls can't fail.
 pub trait Recorder: Drop {
     /// The events that it was told, in order.
     ghost told: { Self → List Event };
@@ -39,7 +43,7 @@ pub trait Recorder: Drop {
     ghost can_refuse: { Type 0 } = { Unit {0} };
 
     /// A packet was accepted, from that lane, into the queue of that flow: its id, its moment and the packet as it
-    /// came. It takes no memory.
+    /// came.
     fn accept(&mut self, packet: &Waiting, lane: u32, flow: u32)
         requires { 0 < room self.old }
         ensures told { told self.new ≡ told self.old ++ accepted_event lane flow packet.now ∷ [] }
@@ -48,8 +52,7 @@ pub trait Recorder: Drop {
         ensures room { room self.new ≡ room self.old - 1 }
         ensures made_for { made_for self.new ≡ made_for self.old };
 
-    /// A packet goes to the device at a moment, with its mark, and with the ECN field that the mark gave it. It takes
-    /// no memory.
+    /// A packet goes to the device at a moment, with its mark, and with the ECN field that the mark gave it.
     fn send(&mut self, served: &Served, moment: u64)
         requires { 0 < room self.old }
         ensures told { told self.new ≡ told self.old ++ sent_event moment served.now.mark served.now.waiting ∷ [] }
@@ -58,7 +61,7 @@ pub trait Recorder: Drop {
         ensures room { room self.new ≡ room self.old - 1 }
         ensures made_for { made_for self.new ≡ made_for self.old };
 
-    /// A packet is lost at a moment, for that cause. It takes no memory.
+    /// A packet is lost at a moment, for that cause.
     fn lose(&mut self, packet: &Waiting, moment: u64, cause: Cause)
         requires { 0 < room self.old }
         ensures told { told self.new ≡ told self.old ++ drop_event moment cause packet.now ∷ [] }
@@ -67,7 +70,7 @@ pub trait Recorder: Drop {
         ensures room { room self.new ≡ room self.old - 1 }
         ensures made_for { made_for self.new ≡ made_for self.old };
 
-    /// There was a close at a moment. It takes no memory.
+    /// There was a close at a moment.
     fn close(&mut self, moment: u64)
         requires { 0 < room self.old }
         ensures told { told self.new ≡ told self.old ++ Closed moment ∷ [] }
@@ -112,7 +115,7 @@ pub trait StepRecorder: Drop {
         ensures err { OnErr result (room self.new ≡ room self.old) };
 }
 
-/// It stores each event. The packets that are sent and lost stand in proofs alone.
+/// It stores each event, and takes memory in `reserve` alone. The packets that are sent and lost stand in proofs alone.
 #[derive(Debug, Drop)]
 pub struct EventList {
     events: Vec<Event>,

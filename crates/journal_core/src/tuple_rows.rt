@@ -1,11 +1,11 @@
 //! What became of the packets of each five-tuple.
 
-ghost use Rattle.std.specs.Prelude.{◌≡◌, ◌<◌, ◌≤◌, ◌↔◌, All, ◌+◌, List, IfOk, OnErr, OnOk, length, map, take, [], ◌∷◌, ◌++◌, slice_get, slice_index, Some, IsTrue, vec_len};
+ghost use Rattle.std.specs.Prelude.{◌≡◌, ◌<◌, ◌≤◌, ◌↔◌, All, ◌+◌, ℕ, List, IfOk, IsOk, OnErr, OnOk, length, map, take, [], ◌∷◌, ◌++◌, slice_get, slice_index, Some, IsTrue, vec_len};
 ghost use Rattle.packet_core.specs.Packets.{same_tuple};
 ghost use Rattle.journal_core.specs.Happened.{acceptances, fate_ids};
 ghost use Rattle.journal_core.specs.JournalLaws.{AreDistinct, FatesFollow, IdsInOrder};
 ghost use Rattle.journal_core.specs.Notes.{IsNotedAt, counted_by};
-ghost use Rattle.journal_core.specs.Tallies.{IsBalanced, IsTallied, settled, tuple_of, with_row};
+ghost use Rattle.journal_core.specs.Tallies.{HasRowRoom, IsBalanced, IsTallied, settled, tuple_of, with_row};
 ghost use Rattle.journal_core.specs.TupleRows.{tuple_rows, with_new};
 
 use crate::event::Event;
@@ -100,6 +100,31 @@ impl RowsByTuple {
         Ok(())
     }
 
+    /// The same where there is room for it, so that it can't fail. It is found by its hash at once.
+    pub(crate) fn accept_reserved(&mut self, tuple: FiveTuple, flow: u32)
+        requires { HasRowRoom 1 self.old }
+        ensures added { (accepted : List Acceptance) → (a : Acceptance)
+            → tuple_of a ≡ tuple → a.flow ≡ flow
+            → IsTallied self.old accepted [] → IsTallied self.new (accepted ++ a ∷ []) [] }
+        ensures room { (more : ℕ) → HasRowRoom (more + 1) self.old → HasRowRoom more self.new }
+    {
+        let row = self.place_by_hash(tuple, flow).unwrap();
+        self.places.push_reserved(row);
+    }
+
+    /// Takes memory for so many packets more, each of a five-tuple of its own.
+    pub(crate) fn reserve(&mut self, more: usize) -> Result<(), Memory>
+        ensures tuples { self.new.tuples.keys ≡ self.old.tuples.keys }
+        ensures rows { self.new.rows.items ≡ self.old.rows.items }
+        ensures places { self.new.places.items ≡ self.old.places.items }
+        ensures ok { OnOk result (HasRowRoom more self.new) }
+        ensures room { (few : ℕ) → HasRowRoom few self.old → HasRowRoom few self.new }
+    {
+        self.tuples.reserve(more)?;
+        self.rows.reserve_exact(more)?;
+        self.places.reserve_exact(more)
+    }
+
     /// The packets are those at these places among the packets so far.
     pub(crate) fn turn(&mut self, mut places: Vec<usize>)
         requires { All (λ place. place < vec_len self.old.places) places.items }
@@ -162,7 +187,7 @@ impl RowsByTuple {
         Ok(place)
     }
 
-    /// The same, whatever came last.
+    /// The same, whatever came last. Where there is room for a five-tuple more, it takes no memory and doesn't fail.
     fn place_by_hash(&mut self, tuple: FiveTuple, flow: u32) -> Result<usize, Memory>
         ensures place { IfOk result (λ place. slice_get self.new.tuples.keys place ≡ Some tuple) }
         ensures tuples { OnOk result (self.new.tuples.keys ≡ with_new same_tuple self.old.tuples.keys tuple) }
@@ -171,6 +196,8 @@ impl RowsByTuple {
         ensures places { self.new.places ≡ self.old.places }
         ensures known { OnErr result (self.new.tuples.keys ≡ self.old.tuples.keys) }
         ensures rows { OnErr result (self.new.rows.items ≡ self.old.rows.items) }
+        ensures reserved { HasRowRoom 1 self.old → IsOk result }
+        ensures room { (more : ℕ) → HasRowRoom (more + 1) self.old → HasRowRoom more self.new }
     {
         let (place, is_new) = self.tuples.insert_full(tuple)?;
         if is_new {

@@ -87,20 +87,21 @@ told_test : (b : Bool) (v n : ℕ) → (if b then Some v else None) ≡ Some n �
 told_test true v n h = refl
 told_test false v n h = cc
 
-few_digits : (text : List ℕ) (n : ℕ) → length text ≤ 6 → numeral_of text ≡ Some n → n < 1000000
+-- so many digits are less than that power of ten
+pub few_digits : (text : List ℕ) (n most : ℕ) → length text ≤ most → numeral_of text ≡ Some n → n < 10 ^ most
 unfolding numeral_of
-few_digits text n few h =
+few_digits text n most few h =
     let value : digits_value 10 text ≡ n = told_value (is_numeral text) (digits_value 10 text) n h in
     let test : is_numeral text ≡ true = told_test (is_numeral text) (digits_value 10 text) n h in
     let digits : all_ascii_digits text ≡ true = and_right (nat_lt 0 (length text)) (all_ascii_digits text) test in
-    let small : digits_value 10 text < 10 ^ 6 = digits_value_short (numerals_by_value (λ ds. all_ascii_digits ds ≡ true) tells_all_ascii_digits) text 6 digits few in
-    omega (arith, small, value)
+    let small : digits_value 10 text < 10 ^ most = digits_value_short (numerals_by_value (λ ds. all_ascii_digits ds ≡ true) tells_all_ascii_digits) text most digits few in
+    rw value at small
 
 -- their number isn't cut off
 pub decimals_whole : (text : List ℕ) (o : Option ℕ) → length text ≤ 6 → numeral_of text ≡ o → capped o ≡ o
 decimals_whole text None few e = refl
-decimals_whole text (Some n) few e = let small = few_digits text n few e in ap Some (omega (arith, small))
+decimals_whole text (Some n) few e = let small : n < 1000000 = few_digits text n 6 few e in ap Some (omega (arith, small))
 
 pub decimals_small : (text : List ℕ) (o : Option ℕ) → length text ≤ 6 → numeral_of text ≡ o → IfSome o (λ n. n < 1000000)
 decimals_small text None few e = tt
-decimals_small text (Some n) few e = few_digits text n few e
+decimals_small text (Some n) few e = few_digits text n 6 few e

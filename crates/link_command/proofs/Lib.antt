@@ -3,7 +3,10 @@ pub mod CommandLineLemmas
 pub mod CountLemmas
 pub mod GivenFaults
 pub mod InputLemmas
+pub mod MarkLemmas
+pub mod NoteLemmas
 pub mod PlainLemmas
+pub mod RateLemmas
 pub mod ReadCounts
 pub mod RequestLemmas
 pub mod RunLemmas

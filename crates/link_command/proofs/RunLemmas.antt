@@ -15,7 +15,9 @@ use Rattle.link_core.specs.Fifo.{IsFifoJournal}
 use Rattle.link_core.specs.LinkRuns.{HasRunLink, IsLinkRun}
 use Rattle.link_core.specs.declared.link.LinkFields.{LinkFields}
 use Rattle.sched_core.specs.Engines.{Running}
-use Rattle.link_report.specs.FlowTables.{flows_text, known_flows_text}
+use Rattle.link_report.specs.FlowTables.{Ended, flows_text, known_flows_text, packets_of}
+use Rattle.link_report.specs.declared.flows.RunPackets.{RunPackets}
+use Rattle.link_report.specs.PacketTables.{known_packets_text, packets_text}
 use Rattle.link_report.specs.Packets.{Known, known_of}
 use Rattle.link_report.specs.declared.summary.TheConstants.{MAX_EVENTS}
 use Rattle.link_report.proofs.PacketLemmas.{few_packets}
@@ -27,7 +29,10 @@ use Rattle.link_command.specs.CommandLine.{AsksForLink, IsLinkMistake, Texts}
 use Rattle.link_command.specs.FaultsOn.{IsWordsFault}
 use Rattle.link_command.specs.InputFaults.{IsInputFault}
 use Rattle.std.specs.Io.KnownBytes.{Keeps}
-use Rattle.link_command.specs.Runs.{FailsBy, IsBeside, IsComparedText, IsFaultOn, IsJournalOf, IsRunFault, IsTable}
+use Rattle.link_command.specs.Notes.{run_note}
+use Rattle.link_command.specs.Runs.{FailsBy, IsBeside, IsComparedText, IsFaultOn, IsJournalOf, IsNoteOf, IsRunFault, IsTable, ended}
+use Rattle.link_command.specs.RunsTold.{EndsBy, known_told}
+use Rattle.link_command.specs.declared.program_run.Told.{Told}
 use Rattle.link_command.specs.Values.{RunParts, SaysRun}
 use Rattle.link_command.specs.declared.command_line.TableName.{TableName}
 use Rattle.link_command.specs.declared.command_line.TableName.TheVariants.{Flows, Packets, Series, Steps, Svg}
@@ -136,10 +141,15 @@ rows_told queue every flow_of events told text same laws is =
     is (subst AreToldInOrder (sym same) order) ∙ ap (queue_text queue every) same
 
 -- the tables of packets are those of the journals whose packets they are
-pub flows_of_packets : {B : Type 0} (journal : B → List Event) (events : List Event) (fifo : Option B)
-    → known_flows_text (known_of events) (option_map (λ e. known_of (journal e)) fifo) ≡ flows_text events (option_map journal fifo)
-flows_of_packets journal events None = refl
-flows_of_packets journal events (Some fifo) = refl
+pub flows_of_packets : (ends : List Event → ℕ) (told : Told) (fifo : Option Told) → EndsBy ends told → IfSome fifo (EndsBy ends)
+    → known_flows_text (known_told told) (option_map known_told fifo) ≡ flows_text (ended ends told.events.now.events) (option_map (ended ends) (option_map (λ t. t.events.now.events) fifo))
+flows_of_packets ends told None its none = ap (λ (n : ℕ). flows_text (record { of = told.events.now.events; end = n }) None) its
+flows_of_packets ends told (Some fifo) its beside =
+    (λ i. flows_text (record { of = told.events.now.events; end = its i }) (Some (record { of = fifo.events.now.events; end = beside i })))
+
+pub rows_of_packets : (told : Told) (fifo : Option Told) → known_packets_text (known_of told.events.now.events) (option_map (λ t. known_of t.events.now.events) fifo) ≡ packets_text told.events.now.events (option_map (λ t. t.events.now.events) fifo)
+rows_of_packets told None = refl
+rows_of_packets told (Some fifo) = refl
 
 -- so many packets as a table sums up
 abbrev pub AreFew : Known → Type 0
@@ -158,6 +168,19 @@ pub few_others : {A B : Type 0} (view : A → Known) (journal : B → List Event
     → IfSome fifo (λ e. length (journal e) ≤ MAX_EVENTS) → IfSome others (λ p. AreFew (view p))
 few_others view journal others fifo same few = few_shown view others (rw same (few_of_journal journal fifo few))
 
+-- and so with its end
+pub few_ended : (t : Told) (run : RunPackets) → packets_of run ≡ known_told t → length t.events.now.events ≤ MAX_EVENTS → length run.packets.now.packets ≤ MAX_EVENTS
+few_ended t run is few =
+    let same : run.packets.now ≡ known_of t.events.now.events = ap (λ (e : Ended Known). e.of) is in
+    rw same (omega (arith, few_packets t.events.now.events, few))
+
+pub few_ended_others : (fifo : Option Told) (runs : Option RunPackets) → option_map packets_of runs ≡ option_map known_told fifo → IfSome fifo (λ t. length t.events.now.events ≤ MAX_EVENTS) → IfSome runs (λ r. length r.packets.now.packets ≤ MAX_EVENTS)
+few_ended_others fifo None is few = tt
+few_ended_others None (Some run) is few = absurd cc
+few_ended_others (Some t) (Some run) is few =
+    let same : packets_of run ≡ known_told t = cc in
+    few_ended t run same few
+
 -- the journals of runs have few events where few packets came
 pub few_of_engine : (run : RunParts) (arrivals : List Arrival) (e : Running)
     → ((p : ParamFields) (seed : SeedOfRun) (link : LinkFields) (all : List Arrival) (steps : List Step) (made : List Made) (last : State FairQueues) → IsLinkRun p seed link all steps made last → length (journal_of made) ≤ 2 * length all)
@@ -166,3 +189,13 @@ few_of_engine run arrivals e law has few =
     let made = law run.params run.seed run.link arrivals e.steps has.made e.sched.standing.state has.run in
     let all = ap length has.journal in
     omega arith
+
+-- the note on what a recorder was told is that on the engine's run
+pub note_of_engine : (run : RunParts) (arrivals : List Arrival) (e : Running) (told : List Event) (note : List ℕ) → told ≡ e.sched.standing.events → HasRunLink run.params run.seed run.link arrivals e
+    → note ≡ run_note arrivals run.params (known_of told) → IsNoteOf run arrivals note
+note_of_engine run arrivals e told note same has is = record {
+  steps = e.steps;
+  events = e.sched.standing.events;
+  journal = journal_of_engine run arrivals e has;
+  text = is ∙ ap (λ events. run_note arrivals run.params (known_of events)) same;
+}

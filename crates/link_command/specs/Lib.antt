@@ -4,8 +4,11 @@ pub mod Faults
 pub mod FaultsOn
 pub mod Fields
 pub mod InputFaults
+pub mod Marks
+pub mod Notes
 pub mod PlainWords
 pub mod Rates
 pub mod Runs
 pub mod RunsSaid
+pub mod RunsTold
 pub mod Values

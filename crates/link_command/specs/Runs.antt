@@ -1,5 +1,5 @@
 -- What the program writes, and what is wrong where it writes nothing.
-use Rattle.std.specs.Prelude.{◌≡◌, ◌⊎◌, ℕ, Bool, true, false, List, Option, Some, None, IfSome, take}
+use Rattle.std.specs.Prelude.{◌≡◌, ◌⊎◌, ℕ, Bool, true, false, List, [], Option, Some, None, IfSome, option_map, take}
 use Rattle.std.specs.Io.KnownBytes.{Appends, Keeps}
 use Rattle.fair_core.specs.FairQueues.{FairQueues}
 use Rattle.journal_core.specs.declared.event.Event.{Event}
@@ -8,9 +8,11 @@ use Rattle.journal_core.specs.Runs.{Made, journal_of}
 use Rattle.journal_core.specs.State.{State}
 use Rattle.link_core.specs.Arrivals.{AreArrivals}
 use Rattle.link_core.specs.Fifo.{IsFifoJournal}
+use Rattle.link_core.specs.LinkLaws.{end_of}
 use Rattle.link_core.specs.LinkRuns.{IsLinkRun}
 use Rattle.link_core.specs.declared.arrival.Arrival.{Arrival}
-use Rattle.link_report.specs.FlowTables.{flows_text}
+use Rattle.link_report.specs.FlowTables.{Ended, flows_text}
+use Rattle.link_report.specs.Packets.{known_of}
 use Rattle.link_report.specs.PacketTables.{packets_text}
 use Rattle.link_report.specs.SeriesTables.{queue_text, series_text}
 use Rattle.link_report.specs.StepTables.{steps_text}
@@ -19,6 +21,7 @@ use Rattle.link_command.specs.ArrivalTexts.{IsArrivalText}
 use Rattle.link_command.specs.CommandLine.{AsksForLink, AsksForText, IsLinkMistake, Texts}
 use Rattle.link_command.specs.FaultsOn.{IsWordsFault}
 use Rattle.link_command.specs.InputFaults.{IsInputFault}
+use Rattle.link_command.specs.Notes.{run_note}
 use Rattle.link_command.specs.Values.{RunParts, SaysRun}
 use Rattle.link_command.specs.declared.command_line.TableName.{TableName}
 use Rattle.link_command.specs.declared.command_line.TableName.TheVariants.{Flows, Packets, Series, Steps, Svg}
@@ -39,20 +42,25 @@ IsBeside false run arrivals (Some events) = ⊥
 IsBeside true run arrivals None = ⊥
 IsBeside true run arrivals (Some events) = IsFifoJournal run.params run.seed run.link arrivals events
 
--- The text is that of the table of journals. Of the picture no more is said.
-abbrev pub IsJournalText : TableName → ℕ → List Event → Option (List Event) → List ℕ → Type 0
-IsJournalText Flows every events fifo text = text ≡ flows_text events fifo
-IsJournalText Packets every events fifo text = text ≡ packets_text events fifo
-IsJournalText Series every events fifo text = text ≡ series_text every events fifo
-IsJournalText Steps every events fifo text = ⊥
-IsJournalText Svg every events fifo text = Unit {0}
+-- a journal with its end
+abbrev pub ended : (List Event → ℕ) → List Event → Ended (List Event)
+ended ends events = record { of = events; end = ends events }
 
--- The same, of the run's journal and that of a FIFO where that is asked for.
+-- The text is that of the table of journals, each of which has its end. Of the picture no more is said.
+abbrev pub IsJournalText : TableName → ℕ → (List Event → ℕ) → List Event → Option (List Event) → List ℕ → Type 0
+IsJournalText Flows every ends events fifo text = text ≡ flows_text (ended ends events) (option_map (ended ends) fifo)
+IsJournalText Packets every ends events fifo text = text ≡ packets_text events fifo
+IsJournalText Series every ends events fifo text = text ≡ series_text every events fifo
+IsJournalText Steps every ends events fifo text = ⊥
+IsJournalText Svg every ends events fifo text = Unit {0}
+
+-- The same, of the run's journal and that of a FIFO where that is asked for. A journal ends when the link has sent its last
+-- packet whole.
 pub record IsComparedText (table : TableName) (has_fifo : Bool) (run : RunParts) (arrivals : List Arrival)
     (events : List Event) (text : List ℕ) : Type 0 where
   pub fifo : Option (List Event)
   pub beside : IsBeside has_fifo run arrivals fifo
-  pub journals : IsJournalText table run.every events fifo text
+  pub journals : IsJournalText table run.every (end_of run.link arrivals) events fifo text
 
 -- The text is that of the table of the run of these arrivals: of its steps, or of its journal.
 abbrev pub IsTable : TableName → Bool → RunParts → List Arrival → List Step → List Event → List ℕ → Type 0
@@ -97,6 +105,32 @@ pub record IsTableFor (texts : Texts) (input : Option (List ℕ)) (text : List �
   pub are : AreArrivals arrivals
   pub read : IfSome input (λ bytes. IsArrivalText bytes arrivals)
   pub table : IsTableOf texts run arrivals text
+
+-- The note is that on the link's run of these arrivals.
+pub record IsNoteOf (run : RunParts) (arrivals : List Arrival) (note : List ℕ) : Type 0 where
+  pub steps : List Step
+  pub events : List Event
+  pub journal : IsJournalOf run arrivals steps events
+  pub text : note ≡ run_note arrivals run.params (known_of events)
+
+-- The same of the run that these texts ask for, and of the arrivals that the input has, where its bytes are known.
+pub record IsNoteFor (texts : Texts) (input : Option (List ℕ)) (note : List ℕ) : Type 0 where
+  pub run : RunParts
+  pub said : SaysRun texts run
+  pub arrivals : List Arrival
+  pub are : AreArrivals arrivals
+  pub read : IfSome input (λ bytes. IsArrivalText bytes arrivals)
+  pub of_run : IsNoteOf run arrivals note
+
+-- The words ask for that run, or for help or the version, on which there is no note.
+abbrev pub IsNoteAsked : List (List ℕ) → Option (List ℕ) → List ℕ → Type 0
+IsNoteAsked words input note =
+    ((texts : Texts) × AsksForLink words texts × IsNoteFor texts input note) ⊎ (AsksForText words × (note ≡ []))
+
+-- The note on what was asked for was written behind what was there: all of it, or a front of it where its write failed.
+abbrev pub IsNoted : List (List ℕ) → Option (List ℕ) → Option (List ℕ) → Option (List ℕ) → Type 0
+IsNoted words input old new =
+    (note : List ℕ) × IsNoteAsked words input note × (count : ℕ) × Appends old new (take count note)
 
 -- The words ask for that table, or for help or the version, of whose text no more is said.
 abbrev pub IsAsked : List (List ℕ) → Option (List ℕ) → List ℕ → Type 0

@@ -91,6 +91,11 @@ fn row_fault(alloc: Global, text: &[u8], row: u64, what: RowFault) -> ProgramFau
 
 /// What was found at a faulty row.
 fn found_at(alloc: Global, text: &[u8], row: u64, what: RowFault) -> Result<Found, AllocError> {
+    if row == 1 {
+        if let Some(found) = other_input(text) {
+            return Ok(found);
+        }
+    }
     let found = row_at(alloc, text, row)?;
     // Which addresses a trace may have its version says, and that stands in the first row.
     let first = match what {
@@ -100,6 +105,47 @@ fn found_at(alloc: Global, text: &[u8], row: u64, what: RowFault) -> Result<Foun
     match faulty_field(alloc, what, &found, &first)? {
         Some(name) => Ok(Found::Field(name, shown(alloc, name.in_row(&found))?)),
         None => Ok(Found::Row(joined(alloc, &found)?)),
+    }
+}
+
+/// What the input is by its first bytes, where these aren't those of a row: a capture (pcap in either order of bytes, of
+/// microseconds or nanoseconds, or pcapng), or UTF-16 in either order.
+fn other_input(text: &[u8]) -> Option<Found> {
+    match text {
+        [0xd4, 0xc3, 0xb2, 0xa1, ..] | [0xa1, 0xb2, 0xc3, 0xd4, ..] => Some(Found::Capture),
+        [0x4d, 0x3c, 0xb2, 0xa1, ..] | [0xa1, 0xb2, 0x3c, 0x4d, ..] => Some(Found::Capture),
+        [
+            0x0a,
+            0x0d,
+            0x0d,
+            0x0a,
+            _,
+            _,
+            _,
+            _,
+            0x4d,
+            0x3c,
+            0x2b,
+            0x1a,
+            ..
+        ] => Some(Found::Capture),
+        [
+            0x0a,
+            0x0d,
+            0x0d,
+            0x0a,
+            _,
+            _,
+            _,
+            _,
+            0x1a,
+            0x2b,
+            0x3c,
+            0x4d,
+            ..
+        ] => Some(Found::Capture),
+        [0xff, 0xfe, ..] | [0xfe, 0xff, ..] | [0, _, ..] | [_, 0, ..] => Some(Found::Utf16),
+        _ => None,
     }
 }
 

@@ -8,6 +8,7 @@ ghost use Rattle.link_command.specs.CommandLine.{AsksForLink, AsksForText, IsLin
 
 use crate::faults::ProgramFault;
 use crate::manual;
+use crate::mistakes::mistake_text;
 use clap::builder::ValueParser;
 use clap::error::ErrorKind;
 use clap::{Arg, ArgAction, ArgMatches, Command, Error};
@@ -81,12 +82,16 @@ pub fn parse<'a>(alloc: Global, words: &'a [&'a str]) -> Result<Asked<'a>, Progr
     let command = program_command(alloc)?;
     match command.try_get_matches_from(words) {
         Ok(matches) => Ok(Asked::Run(run_request(alloc, &matches)?)),
-        Err(error) => without_matches(alloc, &error),
+        Err(error) => without_matches(alloc, words, &error),
     }
 }
 
 /// What is answered where there are no matches: a text, or a fault.
-fn without_matches<'a>(alloc: Global, error: &Error) -> Result<Asked<'a>, ProgramFault>
+fn without_matches<'a>(
+    alloc: Global,
+    words: &[&str],
+    error: &Error,
+) -> Result<Asked<'a>, ProgramFault>
     ensures run { IfOk result (λ asked. (run : _) → asked ≡ Asked.Run run → ⊥) }
     ensures text { IfOk result (λ asked. (text : _) → asked ≡ Asked.Text text
         → (kind_of error.now ≡ ErrorKind.DisplayHelp) ⊎ (kind_of error.now ≡ ErrorKind.DisplayVersion)) }
@@ -103,7 +108,7 @@ fn without_matches<'a>(alloc: Global, error: &Error) -> Result<Asked<'a>, Progra
         ErrorKind::DisplayHelp => Ok(Asked::Text(format!(in alloc; "{error}")?)),
         ErrorKind::DisplayVersion => Ok(Asked::Text(format!(in alloc; "{error}")?)),
         _ => {
-            let text = format!(in alloc; "{error}")?;
+            let text = mistake_text(alloc, words, error)?;
             Err(ProgramFault::CommandLine(shown(alloc, &text)?))
         }
     }

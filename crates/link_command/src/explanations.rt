@@ -19,15 +19,23 @@ pub(crate) fn explain<F: Write>(faults: &mut F, fault: &ProgramFault) {
             )
         }
         ProgramFault::Params(fault, found) => {
-            writeln!(faults, "  {found:?}: {}", wanted_word(*fault))
+            writeln!(faults, "  {found:?}: {}", wanted_word(*fault, found))
         }
-        ProgramFault::Row(0, what, _) => writeln!(faults, "  the input {}", amiss_row(*what)),
+        ProgramFault::Row(0, what, _) => writeln!(faults, "  the input {}", amiss_input(*what)),
+        ProgramFault::Row(_, _, Found::Capture) => writeln!(
+            faults,
+            "  the input is a capture of packets; wanted are rows, as 'tools/pcap-to-arrivals FILE' makes of it"
+        ),
+        ProgramFault::Row(_, _, Found::Utf16) => writeln!(
+            faults,
+            "  the input is UTF-16; wanted is UTF-8, as 'iconv -f UTF-16 -t UTF-8' makes of it"
+        ),
         ProgramFault::Row(number, what, Found::Field(name, found)) => {
             writeln!(
                 faults,
                 "  row {number}, field {} ({name}): {found:?} {}; wanted is {}",
                 name.number(),
-                amiss(*what, *name),
+                amiss(*what, *name, found),
                 wanted_field(*name)
             )
         }
@@ -42,7 +50,7 @@ pub(crate) fn explain<F: Write>(faults: &mut F, fault: &ProgramFault) {
 }
 
 /// What value an option has.
-fn wanted(name: ValueName) -> &'static str {
+pub(crate) fn wanted(name: ValueName) -> &'static str {
     match name {
         ValueName::Rate => "1000bit to 1tbit, as in 10mbit or 1250kbps",
         ValueName::Overhead => "a number from 0 to 1000, in bytes",
@@ -51,28 +59,57 @@ fn wanted(name: ValueName) -> &'static str {
     }
 }
 
-/// What a parameter word says.
-fn wanted_word(fault: ParamFault) -> &'static str {
+/// What a parameter word is to be.
+fn wanted_word(fault: ParamFault, found: &str) -> &'static str {
     match fault {
-        ParamFault::UnknownWord(_) => "no parameter has that name ('maltlink --help' lists them)",
+        ParamFault::UnknownWord(_) => {
+            if found.contains('.') || found.contains('/') {
+                "no parameter has that name; rows are read from standard input, as in 'maltlink .. < FILE'"
+            } else {
+                "no parameter has that name ('maltlink --help' lists them)"
+            }
+        }
         ParamFault::MissingValue(_) => "a value is wanted after this word",
-        ParamFault::NotANumber(_) => "a number is wanted, or a time as in 5ms",
+        ParamFault::NotANumber(_) => wanted_number(found),
         ParamFault::OutOfRange(_) => "it is outside its range ('maltlink --help' lists them)",
     }
 }
 
+/// What a parameter's value is to be that is no number.
+fn wanted_number(found: &str) -> &'static str {
+    if found.contains(',') {
+        "a number is wanted without commas, as in 10240"
+    } else if found.contains('.') {
+        "a time with a point is wanted as in 5.5ms: one to six digits, and us, ms or s, to a whole microsecond"
+    } else {
+        "a number is wanted, or a time as in 5ms"
+    }
+}
+
 /// What is wrong with a field.
-fn amiss(what: RowFault, name: FieldName) -> &'static str {
+fn amiss(what: RowFault, name: FieldName, found: &str) -> &'static str {
     match what {
         RowFault::NotAnArrival => "is no arrival",
         RowFault::TooLate => "is too late",
         RowFault::Backwards => "is below the moment of the row before",
-        RowFault::Trace(TraceFaultKind::BadKind) => "is no kind of row",
+        RowFault::Trace(TraceFaultKind::BadKind) => {
+            if found == "version" {
+                "stands in the first row alone"
+            } else {
+                "is no kind of row"
+            }
+        }
         RowFault::Trace(TraceFaultKind::BadAddress) => match name {
             FieldName::Dst => "is no address of the kind of SRC",
             _ => "is no address",
         },
-        RowFault::Trace(_) => "is no such number",
+        RowFault::Trace(_) => {
+            if found.contains('.') {
+                "is no whole number"
+            } else {
+                "is no such number"
+            }
+        }
     }
 }
 
@@ -92,13 +129,23 @@ fn wanted_field(name: FieldName) -> &'static str {
     }
 }
 
+/// What is wrong with the input as a whole.
+fn amiss_input(what: RowFault) -> &'static str {
+    match what {
+        RowFault::Trace(TraceFaultKind::TooLarge) => {
+            "has more than 134217728 bytes; wanted are at most so many, in at most 1000000 rows"
+        }
+        _ => amiss_row(what),
+    }
+}
+
 /// What is wrong with a row as a whole.
 fn amiss_row(what: RowFault) -> &'static str {
     match what {
         RowFault::Trace(TraceFaultKind::Read) => "couldn't be read",
         RowFault::Trace(TraceFaultKind::Memory) => "had no memory",
         RowFault::Trace(TraceFaultKind::TooLarge) => {
-            "is one too many; wanted are at most 1000000 rows and 134217728 bytes"
+            "is one too many; wanted are at most 1000000 rows"
         }
         RowFault::Trace(_) | RowFault::NotAnArrival | RowFault::TooLate | RowFault::Backwards => {
             "has another number of fields; wanted is enq,MOMENT,PROTO,SRC,DST,SPORT,DPORT,LEN,ECN"

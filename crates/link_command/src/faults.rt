@@ -70,6 +70,10 @@ pub enum Found {
     Row(String),
     /// The field, and its text.
     Field(FieldName, String),
+    /// No rows, but a capture of packets: pcap or pcapng.
+    Capture,
+    /// Text in UTF-16.
+    Utf16,
 }
 
 /// Why the program failed.

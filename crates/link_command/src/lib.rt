@@ -9,6 +9,8 @@ mod explanations;
 mod faults;
 mod fields;
 mod manual;
+mod marks;
+mod mistakes;
 mod notes;
 mod plain;
 mod program_run;

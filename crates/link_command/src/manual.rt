@@ -26,7 +26,8 @@ DESCRIPTION
 
     The arrivals are read from standard input, whole. The table is written to
     standard output after the whole run. Where standard error is a terminal,
-    the program reports there how far a long run is.
+    the program reports there how far a long run is. A run of no packet, and one
+    whose marks slow no sender down, have a note there ('NOTES').
 
     The link sends one packet after another, exactly at its rate: a packet of
     LEN bytes takes LEN and --overhead bytes, at least --mpu. The link asks the
@@ -43,11 +44,12 @@ DESCRIPTION
 
 OPTIONS
     --rate RATE
-        The rate of the link, 1000bit to 1tbit: digits and a unit in lower
-        case, as tc(8) writes it. 'bit', or nothing, is a bit a second; 'kbit',
-        'mbit', 'gbit' and 'tbit' are 1000 bits a second and so on; 'kibit',
-        'mibit', 'gibit' and 'tibit' are 1024 and so on. With 'bps' in place of
-        'bit' they are bytes.
+        The rate of the link, 1000bit to 1tbit, as tc(8) reads it: digits, with
+        up to nine more after a point, and a unit in any case, as in 20Mbit or
+        1.5gbit. 'bit', or nothing, is a bit a second; 'kbit', 'mbit', 'gbit'
+        and 'tbit' are 1000 bits a second and so on; 'kibit', 'mibit', 'gibit'
+        and 'tibit' are 1024 and so on. With 'bps' in place of 'bit' they are
+        bytes. A rate is rounded down to a whole bit a second.
 
     --overhead N
         Bytes on the wire beside LEN, 0 to 1000 [default: 0]. 24 are those of
@@ -80,8 +82,26 @@ OPTIONS
 
 PARAMETERS
     PARAM are the parameters of the scheduler, as in 'limit 1000 target 5ms
-    noecn': those of 'fqsim trace --help' (and of tc-fq_codel(8)). Places count
-    these words alone.
+    noecn', with the words of tc-fq_codel(8) where it has them. They are read
+    from left to right, and of a parameter given twice the last one holds.
+    Places count these words alone.
+
+        Words                 Range                  Default
+        limit PACKETS         1 to 1048576           10240
+        flows NUMBER          1 to 65536             1024
+        quantum BYTES         1 to 1000000           1514
+        mtu BYTES             0 to 65535             1514
+        target TIME           0 to 1000s             5ms
+        interval TIME         1us to 1000s           100ms
+        ce_threshold TIME     0 to 1000s             none
+        memory_limit BYTES    1 to 1099511627776     none
+        drop_batch PACKETS    1 to 1048576           64
+        ecn | noecn                                  ecn
+        classify hash|dport                          hash
+
+    'fqsim trace --help' says what each does. A TIME is a whole number and its
+    unit: us, usec, usecs, ms, msec, msecs, s, sec or secs; without a unit,
+    microseconds. Other numbers are digits alone.
 
     A value may also stand as 'tc -s qdisc show' prints it: 10240p for packets;
     1514b, 32Kb, 32Mb or 1Gb for bytes, by 1024; 5.0ms or 4.999ms for times,
@@ -147,6 +167,19 @@ FAULTS
 
     maltlink: memory | write
         The machine failed.
+
+NOTES
+    A note on standard error has two lines, and the status stays 0.
+
+    maltlink: no packet came
+        The input has no row. Rows are read from standard input.
+
+    maltlink: five-tuple NUMBER (PROTO,SRC,DST,SPORT,DPORT): more than half ..
+        In the run of FQ-CoDel more than half of this five-tuple's packets sent
+        are marked, and its delay_p99 is above the interval. No sender slows
+        down at a mark here, so the queue grows up to 'limit', as a FIFO's
+        would. With 'noecn' CoDel drops instead. NUMBER is that of the tables,
+        and the first such five-tuple is named.
 
 EXAMPLES
     $ printf 'enq,0,6,10.0.0.1,10.0.0.9,5000,443,1514,2\\n' |

@@ -1,9 +1,19 @@
-//! What the program reports to someone who watches it: what it reads, and how far it is.
+//! What the program reports beside a table: to someone who watches it what it reads and how far it is, and to everyone
+//! what makes a table easy to misread.
 
-ghost use Rattle.std.specs.Prelude.{◌≡◌, false};
-ghost use Rattle.std.specs.Io.KnownBytes.{Keeps};
+ghost use Rattle.std.specs.Prelude.{◌≡◌, ℕ, IfOk, false, take};
+ghost use Rattle.std.specs.Io.KnownBytes.{Appends, Keeps};
+ghost use Rattle.link_command.specs.Notes.{marks_note, marks_text, no_packet_text, run_note, tuple_text};
 
+use crate::marks::vain_place;
+use journal_core::Memory;
+use link_core::Arrival;
+use link_report::Packets;
+use packet_core::{EcnUse, FiveTuple, Params};
+use std::alloc::Global;
 use std::io::Write;
+use text_core::{AddressText, Digits};
+use trace_core::write_text;
 
 /// A run with so many arrivals takes long enough for a report.
 const LONG_RUN: usize = 100_000;
@@ -56,4 +66,92 @@ pub(crate) fn note_stage<F: Write>(
             Stage::Compared => writeln!(notes, "maltlink: the FIFO has sent its last packet"),
         };
     }
+}
+
+/// The note on the run of these arrivals: that no packet came, or that the marks of a five-tuple are in vain. Mostly there
+/// is none. It fails for want of memory alone.
+pub(crate) fn run_note(
+    alloc: Global,
+    arrivals: &[Arrival],
+    params: &Params,
+    packets: &Packets,
+) -> Result<Vec<u8>, Memory>
+    ensures { IfOk result (λ note. note.items ≡ run_note arrivals.now params.now packets.now) }
+{
+    match arrivals {
+        [] => no_packet_note(alloc),
+        [_, ..] => marks_note(alloc, params.ecn(), params.interval(), packets),
+    }
+}
+
+/// The note that no packet came.
+fn no_packet_note(alloc: Global) -> Result<Vec<u8>, Memory>
+    ensures { IfOk result (λ note. note.items ≡ no_packet_text) }
+{
+    let mut text = Vec::new(alloc);
+    text.extend_from_slice(
+        b"maltlink: no packet came\n  standard input has no row 'enq': rows are read from there, as in 'maltlink --rate 10mbit < arrivals.csv'\n",
+    )?;
+    Ok(text)
+}
+
+/// The note on the first five-tuple whose marks are in vain, if there is one.
+fn marks_note(
+    alloc: Global,
+    ecn: EcnUse,
+    interval: u64,
+    packets: &Packets,
+) -> Result<Vec<u8>, Memory>
+    ensures { IfOk result (λ note. note.items ≡ marks_note ecn interval packets.now) }
+{
+    match ecn {
+        EcnUse::Drop => Ok(Vec::new(alloc)),
+        EcnUse::Mark => {
+            let place = vain_place(alloc, interval, packets)?;
+            match packets.tuples().get(place) {
+                Some(tuple) => marks_text(alloc, place as u64, tuple),
+                None => Ok(Vec::new(alloc)),
+            }
+        }
+    }
+}
+
+/// The note that the marks of the five-tuple with that number are in vain.
+fn marks_text(alloc: Global, number: u64, tuple: &FiveTuple) -> Result<Vec<u8>, Memory>
+    ensures { IfOk result (λ text. text.items ≡ marks_text number tuple.now) }
+{
+    let own = tuple_text(alloc, tuple)?;
+    let mut text = Vec::new(alloc);
+    text.extend_from_slice(b"maltlink: five-tuple ")?;
+    text.extend_from_slice(Digits::of(number).as_bytes())?;
+    text.extend_from_slice(b" (")?;
+    text.extend_from_slice(&own)?;
+    text.extend_from_slice(
+        b"): more than half of its packets sent are marked, and its delay_p99 is above the interval\n  arrivals are open loop, so no sender slows down at a mark; with 'noecn' CoDel drops instead\n",
+    )?;
+    Ok(text)
+}
+
+/// A five-tuple as the fields of a row.
+fn tuple_text(alloc: Global, tuple: &FiveTuple) -> Result<Vec<u8>, Memory>
+    ensures { IfOk result (λ text. text.items ≡ tuple_text tuple.now) }
+{
+    let mut text = Vec::new(alloc);
+    text.extend_from_slice(Digits::of(u64::from(tuple.proto)).as_bytes())?;
+    text.extend_from_slice(b",")?;
+    text.extend_from_slice(AddressText::of(tuple.src).as_bytes())?;
+    text.extend_from_slice(b",")?;
+    text.extend_from_slice(AddressText::of(tuple.dst).as_bytes())?;
+    text.extend_from_slice(b",")?;
+    text.extend_from_slice(Digits::of(u64::from(tuple.sport)).as_bytes())?;
+    text.extend_from_slice(b",")?;
+    text.extend_from_slice(Digits::of(u64::from(tuple.dport)).as_bytes())?;
+    Ok(text)
+}
+
+/// Writes a note. One that can't be written is passed over.
+pub(crate) fn write_note<F: Write>(faults: &mut F, note: &[u8])
+    ensures { (count : ℕ) × Appends (F.contents faults.old) (F.contents faults.new) (take count note.now) }
+{
+    let _ = write_text(faults, note);
 }

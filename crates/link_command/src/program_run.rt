@@ -1,16 +1,22 @@
 //! The whole program over words and streams: it writes a table of a link's run, or help, and reports a fault with its
 //! status.
 
-ghost use Rattle.std.specs.Prelude.{◌≡◌, ◌≢◌, [], ◌≤◌, ◌<◌, ℕ, IfErr, IfOk, IfSome, OnErr, OnOk, Some, false, length, map, option_map, take};
+ghost use Rattle.std.specs.Prelude.{◌≡◌, ◌≢◌, [], ◌≤◌, ◌<◌, ℕ, IfErr, IfOk, IfSome, List, OnErr, OnOk, Some, false, length, map, option_map, take};
 ghost use Rattle.std.specs.Io.KnownBytes.{Appends, Keeps};
 ghost use Rattle.link_core.specs.Arrivals.{AreArrivals};
+ghost use Rattle.link_core.specs.Fifo.{IsFifoJournal};
+ghost use Rattle.journal_core.specs.declared.event.Event.{Event};
+ghost use Rattle.link_core.specs.LinkLaws.{end_of};
 ghost use Rattle.link_core.specs.LinkRuns.{HasRunLink};
 ghost use Rattle.link_command.specs.CommandLine.{texts_of};
 ghost use Rattle.link_command.specs.Faults.{status_of};
 ghost use Rattle.link_command.specs.declared.faults.ProgramFault.{ProgramFault};
-ghost use Rattle.link_command.specs.Runs.{Answers, FailsBy, HasFifoRows, HasRunRows, IsAsked, IsFaultOn, IsJournalText, IsComparedText, IsRunFault, IsTableFor, IsTableOf, IsTraceOf};
+ghost use Rattle.link_command.specs.Notes.{run_note};
+ghost use Rattle.link_command.specs.Runs.{Answers, FailsBy, HasFifoRows, HasRunRows, IsAsked, IsFaultOn, IsJournalText, IsComparedText, IsNoteAsked, IsNoteFor, IsNoteOf, IsNoted, IsRunFault, IsTableFor, IsTableOf, IsTraceOf};
 ghost use Rattle.link_command.specs.RunsSaid.{run_parts_of};
 ghost use Rattle.link_report.specs.Binnings.{AreToldInOrder};
+ghost use Rattle.link_command.specs.RunsTold.{EndsBy, known_told};
+ghost use Rattle.link_report.specs.FlowTables as Tables;
 ghost use Rattle.link_report.specs.Packets.{known_of};
 ghost use Rattle.link_report.specs.SeriesTables.{queue_text};
 ghost use Rattle.sched_core.specs.Schedulers.{IsMadeFor};
@@ -18,15 +24,17 @@ ghost use Rattle.sched_core.specs.Schedulers.{IsMadeFor};
 use crate::arrivals::read_arrivals;
 use crate::command_line::{Asked, RunRequest, TableName, parse};
 use crate::faults::{ProgramFault, tell};
-use crate::notes::{Stage, Terminals, note_input, note_stage};
+use crate::notes::{Stage, Terminals, note_input, note_stage, run_note, write_note};
 use crate::values::{Run, run_of};
 use link_core::laws::few_events;
 use link_core::{
-    Arrival, fifo_fates, fifo_few_events, run_fifo_with_recorder, run_link_with_recorders,
+    Arrival, fifo_fates, fifo_few_events, run_fifo_to_end, run_fifo_with_recorder, run_link_to_end,
+    run_link_with_recorders,
 };
 use link_picture::picture_text_of;
 use link_report::{
-    Binned, Gathered, MAX_EVENTS, Packets, Queue, flows_text_of, packets_text_of, steps_text,
+    Binned, Gathered, MAX_EVENTS, Packets, Queue, RunPackets, flows_text_of, packets_text_of,
+    steps_text,
 };
 use packet_core::Seed;
 use row_core::MAX_ROWS;
@@ -37,6 +45,15 @@ use trace_core::write_text;
 
 /// The status of a run that went well, and that of help.
 const SUCCESS: u8 = 0;
+
+/// What the words ask for.
+#[derive(Drop)]
+struct Report {
+    /// A table, or another text.
+    text: Vec<u8>,
+    /// A note on it for people, which mostly is empty.
+    note: Vec<u8>,
+}
 
 /// The whole program over the words behind its name. It reads arrivals and writes a table of a link's run, or writes help
 /// where the words ask for that, and reports a fault on `faults`. It answers the status that the program ends with.
@@ -54,9 +71,11 @@ pub fn program<R: Read, W: Write, F: Write>(
     ensures answer { result ≡ 0 → Answers (map (λ w. w.now) words.now) (R.remaining reader.old)
         (W.contents writer.old) (W.contents writer.new) }
 
-    // With the status 0 nothing is reported where no stream is a terminal.
+    // With the status 0 and no terminal, nothing is reported but the note on the run that was asked for: that no packet
+    // came, or that the marks of a five-tuple are in vain. It is whole, or a front of it where its write failed.
     ensures quiet { result ≡ 0 → terminals.input ≡ false → terminals.faults ≡ false
-        → Keeps (F.contents faults.old) (F.contents faults.new) }
+        → IsNoted (map (λ w. w.now) words.now) (R.remaining reader.old)
+        (F.contents faults.old) (F.contents faults.new) }
 
     // Any other status is that of a fault that these words and this input have, by which the writer came from what it
     // held to what it holds: a front of the table or of the text where a write failed, else what it held.
@@ -70,30 +89,39 @@ pub fn program<R: Read, W: Write, F: Write>(
     ensures range { result ≤ 2 }
 {
     match text_asked(alloc, words, reader, faults, terminals) {
-        Ok(text) => match write_text(writer, &text) {
-            Ok(()) => SUCCESS,
+        Ok(report) => match write_text(writer, &report.text) {
+            Ok(()) => {
+                write_note(faults, &report.note);
+                SUCCESS
+            }
             Err(_) => tell(faults, &ProgramFault::Write),
         },
         Err(fault) => tell(faults, &fault),
     }
 }
 
-/// The text that the words ask for: a table, or help.
+/// What the words ask for: a table, or help.
 fn text_asked<R: Read, F: Write>(
     alloc: Global,
     words: &[&str],
     reader: &mut R,
     notes: &mut F,
     terminals: Terminals,
-) -> Result<Vec<u8>, ProgramFault>
-    ensures text { IfOk result (λ text. IsAsked (map (λ w. w.now) words.now) (R.remaining reader.old) text.items) }
+) -> Result<Report, ProgramFault>
+    ensures text { IfOk result (λ report.
+        IsAsked (map (λ w. w.now) words.now) (R.remaining reader.old) report.text.items) }
+    ensures note { IfOk result (λ report.
+        IsNoteAsked (map (λ w. w.now) words.now) (R.remaining reader.old) report.note.items) }
     ensures fault { IfErr result (IsFaultOn (map (λ w. w.now) words.now) (R.remaining reader.old)) }
     ensures quiet { terminals.input ≡ false → terminals.faults ≡ false
         → Keeps (F.contents notes.old) (F.contents notes.new) }
 {
     match parse(alloc, words)? {
         Asked::Run(request) => run_text(alloc, &request, reader, notes, terminals),
-        Asked::Text(text) => Ok(text.into_bytes()),
+        Asked::Text(text) => Ok(Report {
+            text: text.into_bytes(),
+            note: Vec::new(alloc),
+        }),
     }
 }
 
@@ -105,8 +133,9 @@ fn run_text<R: Read, F: Write>(
     reader: &mut R,
     notes: &mut F,
     terminals: Terminals,
-) -> Result<Vec<u8>, ProgramFault>
-    ensures text { IfOk result (λ text. IsTableFor (texts_of request.now) (R.remaining reader.old) text.items) }
+) -> Result<Report, ProgramFault>
+    ensures text { IfOk result (λ report. IsTableFor (texts_of request.now) (R.remaining reader.old) report.text.items) }
+    ensures note { IfOk result (λ report. IsNoteFor (texts_of request.now) (R.remaining reader.old) report.note.items) }
     ensures fault { IfErr result (IsRunFault (texts_of request.now) (R.remaining reader.old)) }
     ensures quiet { terminals.input ≡ false → terminals.faults ≡ false
         → Keeps (F.contents notes.old) (F.contents notes.new) }
@@ -126,10 +155,12 @@ fn table_text<F: Write>(
     arrivals: &[Arrival],
     notes: &mut F,
     terminals: Terminals,
-) -> Result<Vec<u8>, ProgramFault>
+) -> Result<Report, ProgramFault>
     requires arrivals { AreArrivals arrivals.now }
     requires few { length arrivals.now ≤ MAX_ROWS }
-    ensures text { IfOk result (λ text. IsTableOf (texts_of request.now) (run_parts_of run.now) arrivals.now text.items) }
+    ensures text { IfOk result (λ report.
+        IsTableOf (texts_of request.now) (run_parts_of run.now) arrivals.now report.text.items) }
+    ensures note { IfOk result (λ report. IsNoteOf (run_parts_of run.now) arrivals.now report.note.items) }
     ensures fault { IfErr result (λ fault. fault ≡ ProgramFault.Memory) }
     ensures quiet { terminals.faults ≡ false → Keeps (F.contents notes.old) (F.contents notes.new) }
 {
@@ -140,19 +171,64 @@ fn table_text<F: Write>(
         return bins_text(alloc, request, run, arrivals, notes, terminals);
     }
     let events = recorder_for(alloc, &run.seed, request.table);
-    let engine = run_told(alloc, run, arrivals, events, NullRecorder::new())?;
+    let (engine, end) = run_link_to_end(
+        alloc,
+        run.params,
+        run.seed,
+        &run.link,
+        arrivals,
+        events,
+        NullRecorder::new(),
+    )?;
     note_stage(notes, terminals, Stage::Run, arrivals.len());
     // A million arrivals have two million events, and each table takes that many.
     few_events();
-    compared_text(
-        alloc,
-        request,
-        run,
-        arrivals,
-        engine.recorder(),
-        notes,
-        terminals,
-    )
+    let told = Told {
+        events: engine.recorder(),
+        end,
+    };
+    noted_text(alloc, request, run, arrivals, told, notes, terminals)
+}
+
+/// The table of a run's packets, and the note on that run.
+fn noted_text<F: Write>(
+    alloc: Global,
+    request: &RunRequest<'_>,
+    run: &Run,
+    arrivals: &[Arrival],
+    told: Told<'_>,
+    notes: &mut F,
+    terminals: Terminals,
+) -> Result<Report, ProgramFault>
+    requires arrivals { AreArrivals arrivals.now }
+    requires few { length arrivals.now ≤ MAX_ROWS }
+    requires events_few { length told.events.now.events ≤ MAX_EVENTS }
+    requires end { told.end ≡ end_of run.now.link arrivals.now told.events.now.events }
+    requires steps { request.now.table ≢ TableName.Steps }
+    requires series { request.now.table ≢ TableName.Series }
+    ensures text { IfOk result (λ report. IsComparedText request.now.table request.now.has_fifo
+        (run_parts_of run.now) arrivals.now told.entry.events.now.events report.text.items) }
+    ensures note { IfOk result (λ report. report.note.items
+        ≡ run_note arrivals.now run.now.params (known_of told.entry.events.now.events)) }
+    ensures fault { IfErr result (λ fault. fault ≡ ProgramFault.Memory) }
+    ensures quiet { terminals.faults ≡ false → Keeps (F.contents notes.old) (F.contents notes.new) }
+{
+    let note = gathered_note(alloc, run, arrivals, told.events)?;
+    let text = compared_text(alloc, request, run, arrivals, told, notes, terminals)?;
+    Ok(Report { text, note })
+}
+
+/// The note on the run of these arrivals, whose events that recorder was told.
+fn gathered_note(
+    alloc: Global,
+    run: &Run,
+    arrivals: &[Arrival],
+    events: &Gathered,
+) -> Result<Vec<u8>, Memory>
+    ensures { IfOk result (λ note. note.items
+        ≡ run_note arrivals.now run.now.params (known_of events.now.events)) }
+{
+    run_note(alloc, arrivals, &run.params, packets_of(events)?)
 }
 
 /// The run of these arrivals, whose events and steps these recorders are told.
@@ -208,16 +284,33 @@ fn trace_text<F: Write>(
     arrivals: &[Arrival],
     notes: &mut F,
     terminals: Terminals,
-) -> Result<Vec<u8>, ProgramFault>
+) -> Result<Report, ProgramFault>
     requires { AreArrivals arrivals.now }
-    ensures text { IfOk result (λ text. IsTraceOf (run_parts_of run.now) arrivals.now text.items) }
+    ensures text { IfOk result (λ report. IsTraceOf (run_parts_of run.now) arrivals.now report.text.items) }
+    ensures note { IfOk result (λ report. IsNoteOf (run_parts_of run.now) arrivals.now report.note.items) }
     ensures fault { IfErr result (λ fault. fault ≡ ProgramFault.Memory) }
     ensures quiet { terminals.faults ≡ false → Keeps (F.contents notes.old) (F.contents notes.new) }
 {
+    let events = recorder_for(alloc, &run.seed, TableName::Steps);
     let steps = StepList::new(alloc);
-    let engine = run_told(alloc, run, arrivals, NullRecorder::new(), steps)?;
+    let engine = run_told(alloc, run, arrivals, events, steps)?;
     note_stage(notes, terminals, Stage::Run, arrivals.len());
-    Ok(steps_text(alloc, engine.steps())?)
+    let (left, steps) = engine.give_up();
+    let note = last_note(alloc, run, arrivals, left.recorder)?;
+    let text = steps_text(alloc, &steps.into_steps())?;
+    Ok(Report { text, note })
+}
+
+/// The same note, where the recorder isn't needed any more. So the text of the steps doesn't take memory beside it.
+fn last_note(
+    alloc: Global,
+    run: &Run,
+    arrivals: &[Arrival],
+    events: Gathered,
+) -> Result<Vec<u8>, Memory>
+    ensures { IfOk result (λ note. note.items ≡ run_note arrivals.now run.now.params (known_of events.events)) }
+{
+    gathered_note(alloc, run, arrivals, &events)
 }
 
 /// The table of bins of a run of these arrivals, beside those of a FIFO where that is asked for. The rows are made as the
@@ -230,35 +323,84 @@ fn bins_text<F: Write>(
     arrivals: &[Arrival],
     notes: &mut F,
     terminals: Terminals,
-) -> Result<Vec<u8>, ProgramFault>
+) -> Result<Report, ProgramFault>
     requires arrivals { AreArrivals arrivals.now }
     requires table { request.now.table ≡ TableName.Series }
-    ensures text { IfOk result (λ text. IsTableOf (texts_of request.now) (run_parts_of run.now) arrivals.now text.items) }
+    ensures text { IfOk result (λ report.
+        IsTableOf (texts_of request.now) (run_parts_of run.now) arrivals.now report.text.items) }
+    ensures note { IfOk result (λ report. IsNoteOf (run_parts_of run.now) arrivals.now report.note.items) }
     ensures fault { IfErr result (λ fault. fault ≡ ProgramFault.Memory) }
     ensures quiet { terminals.faults ≡ false → Keeps (F.contents notes.old) (F.contents notes.new) }
 {
-    let mut text = run_rows(alloc, run, arrivals)?;
+    let mut report = run_rows(alloc, run, arrivals)?;
     note_stage(notes, terminals, Stage::Run, arrivals.len());
     if !request.has_fifo {
-        return Ok(text);
+        return Ok(report);
     }
     let rows = fifo_rows(alloc, run, arrivals)?;
-    note_stage(notes, terminals, Stage::Compared, arrivals.len());
-    text.extend_from_slice(&rows)?;
-    Ok(text)
+    note_rows(notes, terminals, run, arrivals, &rows);
+    report.text.extend_from_slice(&rows)?;
+    Ok(report)
 }
 
-/// The header and the rows of bins of a run of these arrivals.
+/// Reports that the FIFO's run is made, whose rows these are. So it can't be reported before.
+fn note_rows<F: Write>(
+    notes: &mut F,
+    terminals: Terminals,
+    _run: &Run,
+    arrivals: &[Arrival],
+    _rows: &[u8],
+)
+    requires { HasFifoRows (run_parts_of _run.now) arrivals.now _rows.now }
+    ensures { terminals.faults ≡ false → Keeps (F.contents notes.old) (F.contents notes.new) }
+{
+    note_stage(notes, terminals, Stage::Compared, arrivals.len());
+}
+
+/// Reports that the FIFO's run is made, whose events that recorder was told. So it can't be reported before.
+fn note_fifo<F: Write>(
+    notes: &mut F,
+    terminals: Terminals,
+    _run: &Run,
+    arrivals: &[Arrival],
+    _fifo: &Gathered,
+)
+    requires { IsFifoJournal _run.now.params _run.now.seed _run.now.link arrivals.now _fifo.now.events }
+    ensures { terminals.faults ≡ false → Keeps (F.contents notes.old) (F.contents notes.new) }
+{
+    note_stage(notes, terminals, Stage::Compared, arrivals.len());
+}
+
+/// The header and the rows of bins of a run of these arrivals, with the note on it.
 #[inline(never)]
-fn run_rows(alloc: Global, run: &Run, arrivals: &[Arrival]) -> Result<Vec<u8>, Memory>
+fn run_rows(alloc: Global, run: &Run, arrivals: &[Arrival]) -> Result<Report, Memory>
     requires { AreArrivals arrivals.now }
-    ensures { IfOk result (λ rows. HasRunRows (run_parts_of run.now) arrivals.now rows.items) }
+    ensures rows { IfOk result (λ report. HasRunRows (run_parts_of run.now) arrivals.now report.text.items) }
+    ensures note { IfOk result (λ report. IsNoteOf (run_parts_of run.now) arrivals.now report.note.items) }
 {
     let events = Binned::try_new(alloc, &run.seed, Queue::FqCodel, run.every)?;
     let engine = run_told(alloc, run, arrivals, events, NullRecorder::new())?;
     engine.journal_laws();
+    let note = binned_note(alloc, run, arrivals, engine.recorder())?;
     let (left, _) = engine.give_up();
-    rows_of_bins(left.recorder, Queue::FqCodel, run.every)
+    let text = rows_of_bins(left.recorder, Queue::FqCodel, run.every)?;
+    Ok(Report { text, note })
+}
+
+/// The note on the run of these arrivals, whose events that recorder was told.
+fn binned_note(
+    alloc: Global,
+    run: &Run,
+    arrivals: &[Arrival],
+    events: &Binned,
+) -> Result<Vec<u8>, Memory>
+    ensures { IfOk result (λ note. note.items
+        ≡ run_note arrivals.now run.now.params (known_of events.now.events)) }
+{
+    match events.packets() {
+        Some(packets) => run_note(alloc, arrivals, &run.params, packets),
+        None => Err(AllocError),
+    }
 }
 
 /// The rows of bins of a FIFO's run of these arrivals.
@@ -286,6 +428,13 @@ fn rows_of_bins(binned: Binned, queue: Queue, every: u64) -> Result<Vec<u8>, Mem
     }
 }
 
+/// What was told of a run, and the moment at which its link has sent the last packet whole.
+#[derive(Clone, Copy)]
+struct Told<'a> {
+    events: &'a Gathered,
+    end: u64,
+}
+
 /// The table of a run's packets, beside that of a FIFO's where one is asked for.
 #[inline(never)]
 fn compared_text<F: Write>(
@@ -293,29 +442,31 @@ fn compared_text<F: Write>(
     request: &RunRequest<'_>,
     run: &Run,
     arrivals: &[Arrival],
-    events: &Gathered,
+    told: Told<'_>,
     notes: &mut F,
     terminals: Terminals,
 ) -> Result<Vec<u8>, ProgramFault>
     requires arrivals { AreArrivals arrivals.now }
     requires few { length arrivals.now ≤ MAX_ROWS }
-    requires events_few { length events.now.events ≤ MAX_EVENTS }
+    requires events_few { length told.events.now.events ≤ MAX_EVENTS }
+    requires end { told.end ≡ end_of run.now.link arrivals.now told.events.now.events }
     requires steps { request.now.table ≢ TableName.Steps }
     requires series { request.now.table ≢ TableName.Series }
     ensures text { IfOk result (λ text. IsComparedText request.now.table request.now.has_fifo
-        (run_parts_of run.now) arrivals.now events.now.events text.items) }
+        (run_parts_of run.now) arrivals.now told.entry.events.now.events text.items) }
     ensures fault { IfErr result (λ fault. fault ≡ ProgramFault.Memory) }
     ensures quiet { terminals.faults ≡ false → Keeps (F.contents notes.old) (F.contents notes.new) }
 {
     if !request.has_fifo {
-        return packets_table(alloc, request.table, run, events, None);
+        return packets_table(alloc, request.table, run, told, None);
     }
-    let told = recorder_for(alloc, &run.seed, request.table);
-    let fifo = run_fifo_with_recorder(alloc, run.params, run.seed, &run.link, arrivals, told)?;
-    note_stage(notes, terminals, Stage::Compared, arrivals.len());
+    let events = recorder_for(alloc, &run.seed, request.table);
+    let (fifo, end) = run_fifo_to_end(alloc, run.params, run.seed, &run.link, arrivals, events)?;
+    note_fifo(notes, terminals, run, arrivals, &fifo);
     // The FIFO has no more events than that either.
     fifo_few_events();
-    packets_table(alloc, request.table, run, events, Some(&fifo))
+    let fifo = Told { events: &fifo, end };
+    packets_table(alloc, request.table, run, told, Some(fifo))
 }
 
 /// The table of the packets of journals, or their picture.
@@ -324,28 +475,32 @@ fn packets_table(
     alloc: Global,
     table: TableName,
     run: &Run,
-    events: &Gathered,
-    fifo: Option<&Gathered>,
+    told: Told<'_>,
+    fifo: Option<Told<'_>>,
 ) -> Result<Vec<u8>, ProgramFault>
-    requires few { length events.now.events ≤ MAX_EVENTS }
-    requires fifo_few { IfSome fifo (λ e. length e.now.events ≤ MAX_EVENTS) }
+    requires few { length told.events.now.events ≤ MAX_EVENTS }
+    requires fifo_few { IfSome fifo (λ t. length t.events.now.events ≤ MAX_EVENTS) }
     requires steps { table ≢ TableName.Steps }
     requires series { table ≢ TableName.Series }
-    ensures text { IfOk result (λ text. IsJournalText table run.now.every
-        events.now.events (option_map (λ e. e.now.events) fifo.entry) text.items) }
+
+    // The text is that of the ends that were told.
+    ensures text { IfOk result (λ text. (ends : List Event → ℕ)
+        → EndsBy ends told.entry → IfSome fifo.entry (EndsBy ends)
+        → IsJournalText table run.now.every ends told.entry.events.now.events
+        (option_map (λ t. t.events.now.events) fifo.entry) text.items) }
     ensures fault { IfErr result (λ fault. fault ≡ ProgramFault.Memory) }
 {
     match table {
         TableName::Packets => {
-            let (packets, others) = (packets_of(events)?, others_of(fifo)?);
+            let (packets, others) = (packets_of(told.events)?, others_of(fifo)?);
             Ok(packets_text_of(alloc, packets, others)?)
         }
         TableName::Flows => {
-            let (packets, others) = (packets_of(events)?, others_of(fifo)?);
+            let (packets, others) = (ended_packets_of(told)?, ended_others_of(fifo)?);
             Ok(flows_text_of(alloc, packets, others)?)
         }
         TableName::Svg => {
-            let (packets, others) = (packets_of(events)?, others_of(fifo)?);
+            let (packets, others) = (packets_of(told.events)?, others_of(fifo)?);
             let rate = run.link.rate();
             Ok(picture_text_of(alloc, rate, run.every, packets, others)?)
         }
@@ -365,12 +520,32 @@ fn packets_of<'a>(events: &'a Gathered) -> Result<&'a Packets, Memory>
 }
 
 /// The packets of the other queue, where there is one.
-fn others_of<'a>(fifo: Option<&'a Gathered>) -> Result<Option<&'a Packets>, Memory>
+fn others_of<'a>(fifo: Option<Told<'a>>) -> Result<Option<&'a Packets>, Memory>
     ensures { IfOk result (λ packets. option_map (λ p. p.now) packets
-        ≡ option_map (λ e. known_of e.now.events) fifo.entry) }
+        ≡ option_map (λ t. known_of t.events.now.events) fifo.entry) }
 {
     match fifo {
-        Some(fifo) => Ok(Some(packets_of(fifo)?)),
+        Some(fifo) => Ok(Some(packets_of(fifo.events)?)),
+        None => Ok(None),
+    }
+}
+
+/// The packets of a run, with its end.
+fn ended_packets_of<'a>(told: Told<'a>) -> Result<RunPackets<'a>, Memory>
+    ensures { IfOk result (λ run. Tables.packets_of run ≡ known_told told.entry) }
+{
+    Ok(RunPackets {
+        packets: packets_of(told.events)?,
+        end: told.end,
+    })
+}
+
+/// The same of the other queue, where there is one.
+fn ended_others_of<'a>(fifo: Option<Told<'a>>) -> Result<Option<RunPackets<'a>>, Memory>
+    ensures { IfOk result (λ runs. option_map Tables.packets_of runs ≡ option_map known_told fifo.entry) }
+{
+    match fifo {
+        Some(fifo) => Ok(Some(ended_packets_of(fifo)?)),
         None => Ok(None),
     }
 }

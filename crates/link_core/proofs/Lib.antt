@@ -8,9 +8,11 @@ pub mod OneLinkRun
 pub mod IdleLinks
 pub mod Causality
 pub mod Throughput
+pub mod SentWhole
 pub mod LinkRunLaws
 pub mod EventCounts
 pub mod FatesInOrder
 pub mod FifoQueues
 pub mod FifoRunLaws
+pub mod RunEnds
 pub mod NamedPackets

@@ -27,12 +27,15 @@ use Rattle.link_core.specs.Arrivals.{AreArrivals}
 use Rattle.link_core.specs.Fifo.{GivesHead, IsFifoJournal, TakesIn, fifo}
 use Rattle.link_core.specs.LinkLaw.{LinkPoint, LinkState, Moves, after}
 use Rattle.link_core.specs.Lines.{HasGiven, HasTakenIn, IsInLine, IsNewLine, IsOnFifo, standing_of, waiting_next}
-use Rattle.link_core.specs.Underway.{AreComing, ComesBy, IsUnderway, longest_wire_time, sent_count, units_of}
+use Rattle.link_core.specs.LinkLaws.{sendings}
+use Rattle.link_core.specs.Underway.{AreComing, ComesBy, HasSentBy, IsUnderway, longest_wire_time, sent_count, units_of}
 use Rattle.link_core.proofs.LinkEngines.{asked_time, asked_underway}
 use Rattle.link_core.proofs.LinkSteps.{underway_on}
 use Rattle.link_core.proofs.NamedPackets.{gives_named, takes_named}
 use Rattle.link_core.proofs.LinkTimes.{all_come, asks_idle, comes_busy, dequeue_fits, enqueue_fits}
 use Rattle.link_core.proofs.SentIds.{given_ids, sent_ids_none, sent_ids_of, sent_more}
+use Rattle.link_core.proofs.SentWhole.{IsAskedFrom, asked_idle, asked_sent, enqueue_sends, opening_sent, taken_sent}
+use Rattle.link_core.proofs.Throughput.{given_sends}
 
 -- what holds of all holds of the first, and of the rest
 pub all_first : {X : Type 0} (P : X → Type 0) (xs rest : List X) (x : X) → xs ≡ x ∷ rest → All P xs → P x × All P rest
@@ -69,8 +72,8 @@ pub given_on_fifo : (link : LinkFields) (arrivals : List Arrival) (steps : List 
     → IsUnderway (fifo old.params old.seed) link arrivals steps (standing_of old last) point → IsInLine old → HasGiven link arrivals now old busy new
     → ((events : List Event) → Moves link arrivals point (Dequeue now.moment) events (record { state = after link arrivals (units_of link now) events; coming = point.coming }))
     → now.moment < 2 ^ 60 → last ≤ now.moment → now.moment ≤ MAX_ARRIVAL_MOMENT + longest_wire_time * sent_count old.events.items → AreComing now.moment point.coming
-    → IsOnFifo link arrivals new busy point.coming
-given_on_fifo link arrivals steps last old new now busy point u line h moves below later soon comes =
+    → IsAskedFrom link arrivals old.events.items now point.coming old.done → IsOnFifo link arrivals new busy point.coming
+given_on_fifo link arrivals steps last old new now busy point u line h moves below later soon comes from =
     let d = fifo old.params old.seed in
     let made = sent_events now.moment h.given in
     let serves : Serves d (standing_of old last).state now.moment h.given made (standing_of new now.moment).state =
@@ -81,6 +84,7 @@ given_on_fifo link arrivals steps last old new now busy point u line h moves bel
       underway = rw (h.kept.params, h.kept.seed) (asked_underway d link arrivals steps (standing_of old last) (standing_of new now.moment) now h.given made busy point u (dequeue_fits (standing_of old last).state now.moment below later) serves h.journal h.sends (moves made));
       on_time = asked_time d link arrivals (standing_of old last) (standing_of new now.moment) now h.given made busy point.coming serves h.journal h.sends soon comes;
       in_line = given_in_line old new now.moment h.given h.gives h.journal h.departed h.gone h.arrived line;
+      sent = rw (h.journal, h.done) (asked_sent link arrivals old.events.items made now h.given busy point.coming old.done from (given_sends now.moment h.given) h.sends);
     }
 
 -- what a queue takes in, or not
@@ -129,6 +133,20 @@ module _ (old new : Line) (a : Arrival) (h : HasTakenIn old a new) where
       (underway_on d link arrivals steps (Enqueue a.moment 0 a.packet) (standing_of old last) (standing_of new a.moment) answer.Accepted made (record { state = state; coming = a ∷ rest }) (record { state = state'; coming = rest }) u
       (enqueue_fits (standing_of old last).state a.moment 0 a.packet below later refl few) (refl, admits) h.journal (moves made) more refl)
 
+  -- and it sends nothing
+  abbrev its_events : List Event
+  its_events = Accepted 0 old.arrived a.moment (flow_number old.params.classify old.params.flows old.seed a.packet.tuple) a.packet ∷ map (drop_event a.moment cause.Overflow) h.lost
+
+  its_none : sendings its_events ≡ []
+  its_none = enqueue_sends 0 old.arrived a.moment (flow_number old.params.classify old.params.flows old.seed a.packet.tuple) a.packet h.lost
+
+  pub taken_in_sent : (link : LinkFields) (arrivals : List Arrival) (f : FreeAt) (coming rest : List Arrival) → HasSentBy link arrivals old.events.items (Some f) coming old.done → HasSentBy link arrivals new.events.items (Some f) rest new.done
+  taken_in_sent link arrivals f coming rest sent = rw (h.journal, h.done) (taken_sent link arrivals old.events.items its_events f coming rest old.done sent its_none)
+
+  pub taken_in_idle : (link : LinkFields) (arrivals rest : List Arrival) → HasSentBy link arrivals old.events.items None (a ∷ rest) old.done → AreComing a.moment rest → a.moment < 2 ^ 60
+      → IsAskedFrom link arrivals new.events.items (record { moment = a.moment; rest = 0 }) rest new.done
+  taken_in_idle link arrivals rest sent comes early = rw (h.journal, h.done) (asked_idle link arrivals old.events.items its_events a rest old.done sent its_none comes early)
+
 -- a link that sends goes on sending
 pub taken_on_fifo : (link : LinkFields) (arrivals : List Arrival) (old new : Line) (f : FreeAt) (a : Arrival) (rest : List Arrival)
     → IsOnFifo link arrivals old (Some f) (a ∷ rest) → HasTakenIn old a new → old.arrived < 2 ^ 40 → a.moment ≤ f.moment → IsOnFifo link arrivals new (Some f) rest
@@ -144,6 +162,7 @@ taken_on_fifo link arrivals old new f a rest on h few by =
         comes = comes.2;
       };
       in_line = taken_in_line old new a h on.in_line;
+      sent = taken_in_sent old new a h link arrivals f (a ∷ rest) rest on.sent;
     }
 
 -- and one that is idle asks at once
@@ -155,7 +174,7 @@ taken_idle_fifo link arrivals old mid new busy a rest on h few given =
     let early = comes.1 in
     let u = taken_in_underway old mid a h link arrivals on.steps on.last rest LinkState.idle (LinkState.asks a.moment) on.underway (omega arith) comes.0 few (λ events. record { enqueues = refl; leads = refl }) in
     given_on_fifo link arrivals (on.steps ++ Enqueue a.moment 0 a.packet ∷ []) a.moment mid new now busy (record { state = LinkState.asks a.moment; coming = rest }) u (taken_in_line old mid a h on.in_line) given
-    (λ events. asks_idle link arrivals now rest events refl) (omega arith) (omega arith) (omega arith) comes.2
+    (λ events. asks_idle link arrivals now rest events refl) (omega arith) (omega arith) (omega arith) comes.2 (taken_in_idle old mid a h link arrivals rest on.sent comes.2 (omega arith))
 
 -- no more came than are to come in all
 pub arrived_few : (link : LinkFields) (arrivals : List Arrival) (l : Line) (busy : Option FreeAt) (coming : List Arrival) → IsOnFifo link arrivals l busy coming → length arrivals ≤ MAX_ARRIVALS
@@ -187,6 +206,7 @@ opening_on_fifo p seed link arrivals l are new =
         few = omega arith;
         named = rw (new.arrived, new.events, new.waiting, new.sent, new.lost) (record { ids = refl; fates = tt; waits = tt; departed = refl; gone = refl });
       };
+      sent = rw new.events (opening_sent link arrivals l.done new.done);
     }
 
 pub fifo_has_run : (p : ParamFields) (seed : Seed) (link : LinkFields) (arrivals : List Arrival) (l : Line) (busy : Option FreeAt) → IsOnFifo link arrivals l busy [] → IfSome busy (λ f. ComesBy f.moment []) → l.params ≡ p → l.seed ≡ seed

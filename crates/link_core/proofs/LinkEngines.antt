@@ -211,6 +211,10 @@ pub ok_more : {X E : Type 0} (P R : X → Type 0) (r : Result X E) → ((x : X) 
 ok_more P R (Ok x) more is = more x is
 ok_more P R (Err e) more is = tt
 
+pub ok_both : {X E : Type 0} (P Q R : X → Type 0) (r : Result X E) → ((x : X) → P x → Q x → R x) → IfOk r P → IfOk r Q → IfOk r R
+ok_both P Q R (Ok x) more p q = more x p q
+ok_both P Q R (Err e) more p q = tt
+
 -- what is still to come of a list of arrivals, as a slice
 pub rest_of : {X : Type 0} (xs : List X) (i : ℕ) → take (length xs - i) (drop i xs) ≡ drop i xs
 rest_of xs i = take_all (length xs - i) (drop i xs) (omega (arith, length-drop i xs))

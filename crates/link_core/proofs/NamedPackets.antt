@@ -10,7 +10,7 @@ use Rattle.journal_core.specs.declared.event.Event.{Event}
 use Rattle.journal_core.specs.declared.event.Event.TheVariants.{Accepted, Sent}
 use Rattle.journal_core.specs.Disciplines.{Given, given_packet}
 use Rattle.journal_core.specs.Happened.{Acceptance, acceptance_of, acceptances, accepted_ids, fate_ids, fate_of, named, waiting_of}
-use Rattle.journal_core.specs.Losses.{departed_packets, lost_packets, waited_as}
+use Rattle.journal_core.specs.Losses.{waited_as}
 use Rattle.journal_core.specs.Steps.{drop_event, sent_events}
 use Rattle.journal_core.proofs.EventLemmas.{all_found, filter_map_push, filter_map_same, range_next}
 use Rattle.journal_core.proofs.IdLemmas.{Rises-range, id_of, named_itself}

@@ -43,11 +43,11 @@ abbrev pub given_sendings : ℕ → Option Given → List Sending
 given_sendings moment None = []
 given_sendings moment (Some g) = record { id = g.waiting.id; moment = moment } ∷ []
 
-drops_send : (moment : ℕ) (why : Cause) (gone : List Waiting) → sendings (map (drop_event moment why) gone) ≡ []
+pub drops_send : (moment : ℕ) (why : Cause) (gone : List Waiting) → sendings (map (drop_event moment why) gone) ≡ []
 drops_send moment why [] = refl
 drops_send moment why (w ∷ gone) = drops_send moment why gone
 
-given_sends : (moment : ℕ) (given : Option Given) → sendings (sent_events moment given) ≡ given_sendings moment given
+pub given_sends : (moment : ℕ) (given : Option Given) → sendings (sent_events moment given) ≡ given_sendings moment given
 given_sends moment None = refl
 given_sends moment (Some g) = refl
 
@@ -196,3 +196,11 @@ link_apart d link range arrivals are steps made last run =
     first : (coming : List Arrival) → StartsFrom link (let r = range.rate in omega arith) arrivals 0 idle coming 0
     first [] = tt
     first (a ∷ rest) = omega arith
+
+-- and none starts before the first packet comes
+pub link_apart_from : {Q : Type 0} (d : Discipline Q) (link : LinkFields) → IsLink link → (a : Arrival) (more : List Arrival) → AreArrivals (a ∷ more) → (steps : List Step) (made : List Made) (last : State Q) → IsLinkRunOf d link (a ∷ more) steps made last
+    → AreSentInTurn link (a ∷ more) (a.moment * link.rate) (sendings (journal_of made))
+link_apart_from d link range a more are steps made last run =
+    let some : 0 < link.rate = let r = range.rate in omega arith in
+    run_apart link some (a ∷ more) d steps made (record { state = idle; coming = a ∷ more }) (record { state = idle; coming = [] }) (opening_state d.opening) last 0 (a.moment * link.rate) run.law run.runs
+    (recursion_from_All (λ (m : Made). is_refused m.answer ≡ false) made run.none_refused) (all_come (a ∷ more) are) (omega arith)

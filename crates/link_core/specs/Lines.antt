@@ -19,7 +19,7 @@ use Rattle.link_core.specs.declared.free_at.FreeAt.{FreeAt}
 use Rattle.link_core.specs.declared.line.Line.{Line}
 use Rattle.link_core.specs.declared.link.LinkFields.{LinkFields}
 use Rattle.link_core.specs.Fifo.{GivesHead, TakesIn, fifo}
-use Rattle.link_core.specs.Underway.{IsOnTime, IsUnderway, SendsGiven, sent_count, state_of}
+use Rattle.link_core.specs.Underway.{HasSentBy, IsOnTime, IsUnderway, SendsGiven, free_or, sent_count, state_of}
 
 -- the queue as a scheduler that was asked last at that moment
 abbrev pub standing_of : Line → ℕ → Standing (List Waiting)
@@ -34,6 +34,7 @@ pub record IsNewLine (p : ParamFields) (seed : Seed) (l : Line) : Type 0 where
   pub seed_kept : l.seed ≡ seed
   pub arrived : l.arrived ≡ 0
   pub waiting : l.waiting.items ≡ []
+  pub done : l.done ≡ record { moment = 0; rest = 0 }
   pub events : l.events.items ≡ []
   pub sent : l.sent.items ≡ []
   pub lost : l.lost.items ≡ []
@@ -69,6 +70,7 @@ pub record HasTakenIn (old : Line) (a : Arrival) (new : Line) : Type 0 where
   pub departed : new.sent.items ≡ old.sent.items
   pub gone : new.lost.items ≡ old.lost.items ++ lost
   pub arrived : new.arrived ≡ old.arrived + 1
+  pub done : new.done ≡ old.done
   pub kept : KeepsLine old new
 
 -- The queue was asked for a packet, and the link sends what it gave.
@@ -81,6 +83,7 @@ pub record HasGiven (link : LinkFields) (arrivals : List Arrival) (now : FreeAt)
   pub gone : new.lost.items ≡ old.lost.items
   pub sends : SendsGiven link arrivals now given busy
   pub arrived : new.arrived ≡ old.arrived
+  pub done : new.done ≡ free_or busy old.done
   pub kept : KeepsLine old new
 
 -- The journal names what waits, as it waits, and each fate is of a packet that came. What left and what was lost is what
@@ -107,3 +110,4 @@ pub record IsOnFifo (link : LinkFields) (arrivals : List Arrival) (l : Line) (bu
       (record { state = state_of link busy; coming = coming })
   pub on_time : IsOnTime link (standing_of l last) busy coming
   pub in_line : IsInLine l
+  pub sent : HasSentBy link arrivals l.events.items busy coming l.done

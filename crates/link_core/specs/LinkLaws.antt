@@ -1,5 +1,6 @@
 -- What holds of a link's runs.
-use Rattle.std.specs.Prelude.{◌≡◌, ℕ, ◌+◌, ◌/◌, ◌≤◌, List, [], ◌∷◌, Option, Some, None}
+use Rattle.std.specs.Prelude.{◌≡◌, ℕ, ◌+◌, ◌*◌, ◌/◌, ◌≤◌, List, [], ◌∷◌, Option, Some, None, fold, max}
+use Rattle.std.specs.Int.{div_ceil}
 use Rattle.std.specs.List.{filter_map}
 use Rattle.journal_core.specs.declared.event.Event.{Event}
 use Rattle.journal_core.specs.declared.event.Event.TheVariants.{Accepted, Sent, Dropped, Closed}
@@ -41,3 +42,13 @@ AreSentInTurn link arrivals from [] = Unit {0}
 AreSentInTurn link arrivals from (s ∷ rest) =
     (start : ℕ) × (from ≤ start) × (s.moment ≡ start / link.rate)
     × AreSentInTurn link arrivals (start + work_of link arrivals s) rest
+
+-- When some packets have been sent whole, in units of 1/rate microseconds, by a link that had sent others at so many
+-- units. Each starts when the one before it has been sent, or at its own moment, where that is later.
+abbrev pub sent_after : LinkFields → List Arrival → ℕ → List Sending → ℕ
+sent_after link arrivals units all = fold (λ from s. max from (s.moment * link.rate) + work_of link arrivals s) units all
+
+-- The moment at which the link has sent the last packet of a journal whole, in microseconds, rounded up. It is 0 where it
+-- sent none.
+abbrev pub end_of : LinkFields → List Arrival → List Event → ℕ
+end_of link arrivals events = div_ceil (sent_after link arrivals 0 (sendings events)) link.rate

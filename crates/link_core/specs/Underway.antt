@@ -1,5 +1,5 @@
 -- A link's run on the way: what has been done, and what is still to come.
-use Rattle.std.specs.Prelude.{◌≡◌, ℕ, ◌+◌, ◌*◌, ◌<◌, ◌≤◌, false, List, [], ◌∷◌, ◌++◌, All, length, Option, Some, None, IfSome}
+use Rattle.std.specs.Prelude.{◌≡◌, ℕ, ◌+◌, ◌*◌, ◌^◌, ◌<◌, ◌≤◌, false, List, [], ◌∷◌, ◌++◌, All, length, Option, Some, None, IfSome}
 use Rattle.std.specs.List.{filter_map}
 use Rattle.journal_core.specs.declared.event.Event.{Event}
 use Rattle.journal_core.specs.declared.step.Sent.{Sent}
@@ -19,6 +19,7 @@ use Rattle.link_core.specs.declared.link.LinkFields.{LinkFields}
 use Rattle.link_core.specs.Arrivals.{length_at}
 use Rattle.link_core.specs.LinkLaw.{Follows, LinkPoint, LinkState}
 use Rattle.link_core.specs.LinkLaw.LinkState.{idle, free}
+use Rattle.link_core.specs.LinkLaws.{sendings, sent_after}
 use Rattle.link_core.specs.Links.{work}
 
 -- a time, in units of which a microsecond has as many as the rate has bits per second
@@ -119,3 +120,22 @@ pub record KeepsParams (old new : Running) : Type 0 where
 abbrev pub busy_count : Option FreeAt → ℕ
 busy_count None = 0
 busy_count (Some f) = 1
+
+-- The link has sent at that time what it was given: when it gets free, or before the next packet comes to an idle link.
+abbrev pub IsFreeFrom : LinkFields → Option FreeAt → List Arrival → FreeAt → Type 0
+IsFreeFrom link (Some f) coming done = done ≡ f
+IsFreeFrom link None [] done = Unit {0}
+IsFreeFrom link None (a ∷ rest) done = units_of link done ≤ a.moment * link.rate
+
+-- That is when the link has sent the packets of these events whole.
+pub record HasSentBy (link : LinkFields) (arrivals : List Arrival) (events : List Event) (busy : Option FreeAt)
+    (coming : List Arrival) (done : FreeAt) : Type 0 where
+  pub exact : units_of link done ≡ sent_after link arrivals 0 (sendings events)
+  pub from : IsFreeFrom link busy coming done
+  pub rest : done.rest ≤ link.rate
+  pub soon : done.moment ≤ 2 ^ 60 + longest_wire_time
+
+-- the time at which a link gets free that sends, and otherwise the one that is given
+abbrev pub free_or : Option FreeAt → FreeAt → FreeAt
+free_or None done = done
+free_or (Some f) done = f

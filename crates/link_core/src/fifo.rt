@@ -4,6 +4,7 @@ ghost use Rattle.std.specs.Prelude.{◌≡◌, [], IfOk};
 ghost use Rattle.journal_core.specs.Losses.{departed_packets, lost_packets};
 ghost use Rattle.link_core.specs.Arrivals.{AreArrivals};
 ghost use Rattle.link_core.specs.Fifo.{IsFifoJournal};
+ghost use Rattle.link_core.specs.LinkLaws.{end_of};
 
 use crate::arrival::Arrival;
 use crate::line::Line;
@@ -48,6 +49,29 @@ pub fn run_fifo_with_recorder<K: Recorder>(
     ensures sent { IfOk result (λ recorder. K.sent recorder ≡ departed_packets (K.told recorder)) }
     ensures lost { IfOk result (λ recorder. K.lost recorder ≡ lost_packets (K.told recorder)) }
 {
+    let (recorder, _) = run_fifo_to_end(alloc, params, seed, link, arrivals, events)?;
+    Ok(recorder)
+}
+
+/// The same as `run_fifo_with_recorder`, and the moment at which the link has sent its last packet whole, in microseconds,
+/// rounded up. It is 0 where none was sent.
+pub fn run_fifo_to_end<K: Recorder>(
+    alloc: Global,
+    params: Params,
+    seed: Seed,
+    link: &Link,
+    arrivals: &[Arrival],
+    events: K,
+) -> Result<(K, u64), Memory>
+    requires arrivals { AreArrivals arrivals.now }
+    requires events { K.told events ≡ [] }
+    requires none_sent { K.sent events ≡ [] }
+    requires no_loss { K.lost events ≡ [] }
+    ensures journal { IfOk result (λ ran. IsFifoJournal params seed link.now arrivals.now (K.told ran.0)) }
+    ensures sent { IfOk result (λ ran. K.sent ran.0 ≡ departed_packets (K.told ran.0)) }
+    ensures lost { IfOk result (λ ran. K.lost ran.0 ≡ lost_packets (K.told ran.0)) }
+    ensures end { IfOk result (λ ran. ran.1 ≡ end_of link.now arrivals.now (K.told ran.0)) }
+{
     // A digest takes more time than all else that is done for a packet.
     let mut chooser = FlowChooser::try_new_for(alloc, params, seed, arrivals.len() as u64)?;
     let mut recorder = events;
@@ -58,5 +82,5 @@ pub fn run_fifo_with_recorder<K: Recorder>(
         busy = line.meet_next(&mut recorder, link, arrivals, busy, &arrivals[i..], flow)?;
     }
     line.ask_before(&mut recorder, link, arrivals, busy, &[])?;
-    Ok(recorder)
+    Ok((recorder, line.done().rounded_up(link)))
 }

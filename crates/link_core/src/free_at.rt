@@ -15,7 +15,8 @@ pub(crate) struct FreeAt {
 }
 
 impl FreeAt {
-    ghost use Rattle.link_core.specs.Underway.{IsFreeAfter};
+    ghost use Rattle.std.specs.Int.{div_ceil};
+    ghost use Rattle.link_core.specs.Underway.{IsFreeAfter, units_of};
 
     /// That moment exactly.
     pub(crate) fn at(moment: u64) -> FreeAt
@@ -37,5 +38,14 @@ impl FreeAt {
             moment: self.moment + units / rate,
             rest: units % rate,
         }
+    }
+
+    /// The time, rounded up to a whole microsecond.
+    pub(crate) fn rounded_up(self, link: &Link) -> u64
+        requires soon { self.moment < 2 ^ 61 }
+        requires rest { self.rest ≤ link.now.rate }
+        ensures { result ≡ div_ceil (units_of link.now self) link.now.rate }
+    {
+        self.moment + self.rest.div_ceil(link.rate())
     }
 }

@@ -13,9 +13,9 @@ mod link;
 mod run;
 
 pub use arrival::{Arrival, MAX_ARRIVAL_MOMENT, MAX_ARRIVALS};
-pub use fifo::{run_fifo, run_fifo_with_recorder};
+pub use fifo::{run_fifo, run_fifo_to_end, run_fifo_with_recorder};
 pub use fifo_laws::{
     fifo_causal, fifo_fates, fifo_few_events, fifo_one_run, fifo_throughput, fifo_works,
 };
 pub use link::{Link, LinkFields, LinkName};
-pub use run::{run_link, run_link_with_recorders};
+pub use run::{run_link, run_link_to_end, run_link_with_recorders};

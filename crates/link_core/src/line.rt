@@ -11,14 +11,15 @@ use packet_core::{Params, Seed, Waiting};
 use std::alloc::Global;
 use std::collections::VecDeque;
 
-/// A queue that is first in, first out, and how many packets came. What became of them is told to a recorder; here it
-/// stands in proofs alone.
+/// A queue that is first in, first out, how many packets came, and when the link has sent those that left. What became of
+/// them is told to a recorder; here it stands in proofs alone.
 #[derive(Drop)]
 pub(crate) struct Line {
     params: Params,
     seed: Seed,
     arrived: u64,
     waiting: VecDeque<Waiting>,
+    done: FreeAt,
     events: GhostList<Event>,
     sent: GhostList<Waiting>,
     lost: GhostList<Waiting>,
@@ -37,10 +38,18 @@ impl Line {
             seed,
             arrived: 0,
             waiting: VecDeque::new(alloc),
+            done: FreeAt::at(0),
             events: GhostList::new(),
             sent: GhostList::new(),
             lost: GhostList::new(),
         }
+    }
+
+    /// When the link has sent the packets so far whole.
+    pub(crate) fn done(&self) -> FreeAt
+        ensures { result ≡ self.now.done }
+    {
+        self.done
     }
 
     /// The link asks for packets until the next one comes, whose flow is handed in, takes that in, and asks for one at
@@ -164,6 +173,7 @@ impl Line {
         recorder.send(&served, now.moment);
         self.events = self.events.and(&Event::departure(&served, now.moment));
         self.sent = self.sent.and(&served.waiting);
-        Ok(Some(now.after(link, arrivals[served.waiting.id as usize].packet.len())))
+        self.done = now.after(link, arrivals[served.waiting.id as usize].packet.len());
+        Ok(Some(self.done))
     }
 }

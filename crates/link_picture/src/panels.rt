@@ -1,8 +1,12 @@
 //! The three panels of a picture.
 
+ghost use Rattle.std.specs.Prelude.{◌<◌, IfOk};
+
 use crate::content::Content;
 use crate::curves::Curve;
-use crate::layout::{PANEL_HEIGHT, PANEL_LEFT, RATE_BOTTOM, SHARE_BOTTOM, WAIT_BOTTOM};
+use crate::layout::{
+    PANEL_HEIGHT, PANEL_LEFT, PANEL_WIDTH, RATE_BOTTOM, SHARE_BOTTOM, WAIT_BOTTOM,
+};
 use crate::points::{
     Point, bin_x, rate_points, rate_y, share_points, share_y, time_x, wait_points, wait_x, wait_y,
 };
@@ -16,6 +20,21 @@ use std::alloc::Global;
 const COLORS: [&str; 7] = [
     "#0072b2", "#d55e00", "#009e73", "#cc79a7", "#e69f00", "#56b4e9", "#777777",
 ];
+
+/// The sign of "at most", as SVG writes it.
+const AT_MOST: &str = "&#8804;";
+
+/// The greatest width of a sign of a name, in pixels.
+const SIGN_WIDTH: u64 = 8;
+
+/// How far to the right a text below a panel may reach.
+const LOW_RIGHT: u64 = 700;
+
+/// The half of a text below a panel is taken as so wide at least.
+const LEAST_HALF: u64 = 32;
+
+/// The least gap between two texts of an axis, in pixels.
+const GAP: u64 = 4;
 
 /// What the panels show, and on which scales.
 #[derive(Clone, Copy)]
@@ -46,6 +65,16 @@ pub(crate) fn look_of(named: usize, line: usize, is_dashed: bool) -> Look {
     Look { color, is_dashed }
 }
 
+/// The frame of the first panel, in which no packet is.
+pub(crate) fn empty_panel(svg: &mut Svg) -> Result<(), Memory> {
+    svg.frame(WAIT_BOTTOM)?;
+    let middle = at(
+        PANEL_LEFT + PANEL_WIDTH / 2,
+        WAIT_BOTTOM - PANEL_HEIGHT / 2 + 4,
+    );
+    svg.label(middle, Anchor::Middle, Weight::Name, "no packet came")
+}
+
 /// The title of a panel.
 fn caption(svg: &mut Svg, bottom: u64, text: &str) -> Result<(), Memory> {
     let y = bottom.saturating_sub(PANEL_HEIGHT).saturating_sub(9);
@@ -58,17 +87,30 @@ fn left_text(svg: &mut Svg, y: u64, text: &str) -> Result<(), Memory> {
     svg.label(place, Anchor::End, Weight::Name, text)
 }
 
-/// A text below a panel, at that place. One near the right edge ends there.
-fn low_text(svg: &mut Svg, x: u64, bottom: u64, text: &str) -> Result<(), Memory> {
-    let (place, anchor) = if x > 668 {
-        (
-            at(x.saturating_add(4), bottom.saturating_add(18)),
-            Anchor::End,
-        )
-    } else {
-        (at(x, bottom.saturating_add(18)), Anchor::Middle)
+/// The greatest width of a text, in pixels.
+fn text_width(text: &str) -> u64 {
+    let signs = match text.strip_prefix(AT_MOST) {
+        Some(rest) => rest.len().saturating_add(1),
+        None => text.len(),
     };
-    svg.label(place, anchor, Weight::Name, text)
+    (signs as u64).saturating_mul(SIGN_WIDTH)
+}
+
+/// Where a text of that width lies below a panel, and which point of it. One that would come near the legend ends there.
+fn low_place(x: u64, width: u64) -> (u64, Anchor) {
+    let half = (width / 2).max(LEAST_HALF);
+    if x.saturating_add(half) > LOW_RIGHT {
+        (x.saturating_add(4), Anchor::End)
+    } else {
+        (x, Anchor::Middle)
+    }
+}
+
+/// A text below a panel, at that place.
+fn low_text(svg: &mut Svg, x: u64, bottom: u64, text: &str) -> Result<(), Memory> {
+    let (place, anchor) = low_place(x, text_width(text));
+    let below = at(place, bottom.saturating_add(18));
+    svg.label(below, anchor, Weight::Name, text)
 }
 
 /// The lines of times in a panel, from the start of the first bin on, and their texts.
@@ -92,7 +134,7 @@ fn time_lines(svg: &mut Svg, show: &Show<'_>, bottom: u64) -> Result<(), Memory>
 fn mark_text(show: &Show<'_>, wait: u64, place: usize) -> Result<String, Memory> {
     let text = time_text(show.alloc, wait, wait)?;
     if place == 0 {
-        format!(in show.alloc; "&#8804; {text}")
+        format!(in show.alloc; "{AT_MOST} {text}")
     } else {
         Ok(text)
     }
@@ -153,19 +195,62 @@ fn broken_line(
     svg.line(look, &part)
 }
 
+/// Which marks have their texts below a panel: all, or where these don't keep apart, every third: the powers of ten, or
+/// every third of these. Where those don't either it is every sixth.
+fn turn_of_texts(show: &Show<'_>, marks: &[u64]) -> Result<usize, Memory>
+    ensures { IfOk result (λ turn. 0 < turn) }
+{
+    if keep_apart(show, marks, 1)? {
+        Ok(1)
+    } else if keep_apart(show, marks, 3)? {
+        Ok(3)
+    } else {
+        Ok(6)
+    }
+}
+
+/// Whether the texts of every so-many-th mark below a panel keep apart.
+fn keep_apart(show: &Show<'_>, marks: &[u64], turn: usize) -> Result<bool, Memory>
+    requires { 0 < turn }
+{
+    let mut end = 0u64;
+    for (place, wait) in marks.iter().enumerate() {
+        if place % turn == 0 {
+            let width = text_width(&mark_text(show, *wait, place)?);
+            let (from, upto) = low_extent(wait_x(&show.waits, *wait), width);
+            if from < end {
+                return Ok(false);
+            }
+            end = upto.saturating_add(GAP);
+        }
+    }
+    Ok(true)
+}
+
+/// The first and the last pixel of a text below a panel that has that width.
+fn low_extent(x: u64, width: u64) -> (u64, u64) {
+    let (place, anchor) = low_place(x, width);
+    let from = match anchor {
+        Anchor::Start => place,
+        Anchor::Middle => place.saturating_sub(width / 2),
+        Anchor::End => place.saturating_sub(width),
+    };
+    (from, from.saturating_add(width))
+}
+
 /// The panel of the distribution of waits.
 pub(crate) fn share_panel(svg: &mut Svg, show: &Show<'_>) -> Result<(), Memory> {
     let text = "Share of the packets sent that waited at most so long";
     caption(svg, SHARE_BOTTOM, text)?;
-    for (place, wait) in show.waits.marks(show.alloc)?.iter().enumerate() {
+    let marks = show.waits.marks(show.alloc)?;
+    let turn = turn_of_texts(show, &marks)?;
+    for (place, wait) in marks.iter().enumerate() {
         let x = wait_x(&show.waits, *wait);
         svg.down(x, SHARE_BOTTOM)?;
-        low_text(
-            svg,
-            x,
-            SHARE_BOTTOM,
-            mark_text(show, *wait, place)?.as_str(),
-        )?;
+        if place % turn == 0 {
+            let text = mark_text(show, *wait, place)?;
+            low_text(svg, x, SHARE_BOTTOM, &text)?;
+        }
     }
     for percent in [0u64, 25, 50, 75, 100] {
         let y = share_y(percent);

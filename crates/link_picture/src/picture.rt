@@ -11,7 +11,7 @@ use crate::content::Content;
 use crate::curves::Curve;
 use crate::layout::PANEL_LEFT;
 use crate::legend::legend;
-use crate::panels::{Show, at, rate_panel, share_panel, wait_panel};
+use crate::panels::{Show, at, empty_panel, rate_panel, share_panel, wait_panel};
 use crate::points::rate_of;
 use crate::scales::{RateScale, WaitScale};
 use crate::svg::{Anchor, Svg, Weight};
@@ -22,8 +22,8 @@ use std::alloc::Global;
 
 /// The picture of a link of that rate, in bits a second, as the text of an SVG, with bins of `every` microseconds or a
 /// round multiple of that. It shows the scheduler's journal, and that of the other queue, where there is one, in dashed
-/// lines. A journal has at most `MAX_EVENTS` entries. Where no packet arrived it has a title alone. It fails for want of
-/// memory alone. What its lines show is what `Content::of` says; its text is tested, and no contract says it.
+/// lines. A journal has at most `MAX_EVENTS` entries. Where no packet arrived it has a title, and
+/// says so. It fails for want of memory alone. What its lines show is what `Content::of` says; its text is tested, and no contract says it.
 pub fn picture_text(
     alloc: Global,
     link: u64,
@@ -72,7 +72,9 @@ fn drawn(alloc: Global, link: u64, has_fifo: bool, content: &Content) -> Result<
     };
     let mut svg = Svg::open(alloc, title(&show)?.as_str())?;
     headline(&mut svg, &show)?;
-    if content.lines > 0 {
+    if content.lines == 0 {
+        empty_panel(&mut svg)?;
+    } else {
         wait_panel(&mut svg, &show)?;
         share_panel(&mut svg, &show)?;
         rate_panel(&mut svg, &show)?;

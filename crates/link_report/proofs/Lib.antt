@@ -6,3 +6,4 @@ pub mod GroupLemmas
 pub mod SummaryLemmas
 pub mod SeriesLemmas
 pub mod BinLemmas
+pub mod RateLemmas

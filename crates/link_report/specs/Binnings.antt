@@ -1,5 +1,5 @@
 -- What a recorder that makes the rows of bins shows: the events that it was told.
-use Rattle.std.specs.Prelude.{◌≡◌, ℕ, Bool, true, false, List}
+use Rattle.std.specs.Prelude.{◌≡◌, ◌-◌, ◌^◌, ◌≤◌, ℕ, Bool, true, false, List, length}
 use Rattle.packet_core.specs.declared.packet.Waiting.{Waiting}
 use Rattle.journal_core.specs.JournalLaws.{FatesFollow, IdsInOrder}
 use Rattle.journal_core.specs.declared.event.Event.{Event}
@@ -40,8 +40,15 @@ pub record GoesOn (old new : Binning) : Type 0 where
   pub every : new.every ≡ old.every
   pub still : old.is_short ≡ true → new.is_short ≡ true
 
--- Where no memory was refused, the series is at the end of the walk over the events, and the rows before are written.
-abbrev pub IsBinned : Inside → Type 0
-IsBinned b = b.bins.value.is_short ≡ false → AreToldInOrder b.gathered.events
-    → HasRowsBefore (heading b.bins.value.series.queue) b.bins.value.series b.bins.value.table
-    (journal_walk b.bins.value.series.queue b.bins.value.series.every b.gathered.events)
+-- So many events more can be counted in 64 bits.
+abbrev pub CanCount : Binning → ℕ → Type 0
+CanCount b more = more ≤ 2 ^ 64 - 1 - length b.events
+
+-- Packets are made of all events, unless memory was refused. Where no memory was refused, the series is at the end of the walk over the events, and the
+-- rows before are written.
+pub record IsBinned (b : Inside) : Type 0 where
+  pub most : b.gathered.most ≡ 2 ^ 64 - 1
+  pub short : b.gathered.is_short ≡ b.bins.value.is_short
+  pub rows : b.bins.value.is_short ≡ false → AreToldInOrder b.gathered.events
+      → HasRowsBefore (heading b.bins.value.series.queue) b.bins.value.series b.bins.value.table
+      (journal_walk b.bins.value.series.queue b.bins.value.series.every b.gathered.events)

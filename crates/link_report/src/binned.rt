@@ -1,14 +1,16 @@
 //! A recorder that makes the rows of the table `series` of the events that it is told.
 
-ghost use Rattle.std.specs.Prelude.{◌≡◌, ◌-◌, ◌<◌, ◌≤◌, [], ◌∷◌, ◌++◌, ℕ, List, IfOk, OnErr, OnOk, false, true};
+ghost use Rattle.std.specs.Prelude.{◌≡◌, ◌-◌, ◌<◌, ◌≤◌, [], ◌∷◌, ◌++◌, ℕ, List, IfOk, IfSome, OnErr, OnOk, false, true};
 ghost use Rattle.journal_core.specs.Steps.{accepted_event, drop_event, sent_event};
 ghost use Rattle.journal_core.specs.declared.event.Event.{Event};
 ghost use Rattle.journal_core.specs.declared.event.Event.TheVariants.{Closed};
-ghost use Rattle.link_report.specs.Binnings.{AreToldInOrder, GoesOn};
+ghost use Rattle.link_report.specs.Binnings.{AreToldInOrder, CanCount, GoesOn};
+ghost use Rattle.link_report.specs.Packets.{known_of};
 ghost use Rattle.link_report.specs.SeriesTables.{HasRowsBefore, heading, journal_walk, queue_text, series_lines};
 ghost use Rattle.link_report.specs.Tables as Tables;
 
 use crate::gathered::Gathered;
+use crate::packets::Packets;
 use crate::series::{Series, header};
 use crate::table::{Queue, Table};
 use codel_core::Served;
@@ -19,7 +21,7 @@ use std::marker::Model;
 
 /// It makes the rows of the table `series` of the events that it is told, and stores no event. It keeps the packets, what
 /// happened in the bin that is open, and the text of the bins before. A call that tells it an event can take memory for
-/// these. Where that is refused, no more rows are made, and there is no text.
+/// these. Where that is refused, no more rows are made, there is no text, and it takes no more memory.
 #[derive(Drop)]
 pub struct Binned {
     /// The packets of the events, and what proofs say of these.
@@ -89,6 +91,13 @@ impl Binned {
         self.bins.series.every()
     }
 
+    /// The packets of the events that it was told, or none where memory was refused for one.
+    pub fn packets(&self) -> Option<&Packets>
+        ensures { IfSome result (λ packets. packets.now ≡ known_of self.now.events) }
+    {
+        self.gathered.packets()
+    }
+
     /// Whether memory was refused as it was told an event. Then it has no text.
     pub fn is_short(&self) -> bool
         ensures { result ≡ self.now.is_short }
@@ -122,20 +131,27 @@ fn write_heading(table: &mut Table, queue: Queue) -> Result<(), Memory>
 }
 
 impl Bins {
-    /// Takes the event that was told last into its bin, unless memory was refused before.
-    fn follow(&mut self, gathered: &Gathered, event: &Event)
+    /// Takes the event that was told last into its bin, unless memory was refused before. Where it was, or is now, no
+    /// more packets are made.
+    fn follow(&mut self, gathered: &mut Gathered, event: &Event)
+        requires { gathered.old.most ≡ u64.MAX }
         ensures queue { self.new.series.queue ≡ self.old.series.queue }
         ensures every { self.new.series.every ≡ self.old.series.every }
         ensures short { self.old.is_short ≡ true → self.new.is_short ≡ true }
+        ensures gathered { gathered.new ≡ record gathered.old { is_short = self.new.is_short } }
         ensures walk { self.new.is_short ≡ false → (before : List ℕ) (earlier : List Event)
-            → gathered.now.events ≡ earlier ++ event.now ∷ [] → AreToldInOrder gathered.now.events
+            → gathered.old.events ≡ earlier ++ event.now ∷ [] → AreToldInOrder gathered.old.events
             → (self.old.is_short ≡ false → HasRowsBefore before self.old.series self.old.table
             (journal_walk self.old.series.queue self.old.series.every earlier))
             → HasRowsBefore before self.new.series self.new.table
-            (journal_walk self.old.series.queue self.old.series.every gathered.now.events) }
+            (journal_walk self.old.series.queue self.old.series.every gathered.old.events) }
     {
         self.is_short = self.is_short
+            || gathered.is_short()
             || follow_event(gathered, &mut self.series, &mut self.table, event).is_err();
+        if self.is_short {
+            gathered.stop();
+        }
     }
 }
 
@@ -146,6 +162,8 @@ fn follow_event(
     table: &mut Table,
     event: &Event,
 ) -> Result<(), Memory>
+    requires whole { gathered.now.is_short ≡ false }
+    requires most { gathered.now.most ≡ u64.MAX }
     ensures queue { series.new.queue ≡ series.old.queue }
     ensures every { series.new.every ≡ series.old.every }
     ensures walk { OnOk result ((before : List ℕ) (earlier : List Event)
@@ -154,9 +172,7 @@ fn follow_event(
         → HasRowsBefore before series.new table.new
         (journal_walk series.old.queue series.old.every gathered.now.events)) }
 {
-    let Some(packets) = gathered.packets() else {
-        return Err(AllocError);
-    };
+    let packets = gathered.all_packets();
     series.widen(packets.tuples().len())?;
     series.take(table, packets.records(), event)
 }
@@ -196,7 +212,7 @@ impl Recorder for Binned {
     {
         self.gathered.accept(packet, lane, flow);
         let event = Event::acceptance(packet, lane, flow);
-        self.bins.follow(&self.gathered, &event);
+        self.bins.follow(&mut self.gathered, &event);
     }
 
     fn send(&mut self, served: &Served, moment: u64)
@@ -209,7 +225,7 @@ impl Recorder for Binned {
     {
         self.gathered.send(served, moment);
         let event = Event::departure(served, moment);
-        self.bins.follow(&self.gathered, &event);
+        self.bins.follow(&mut self.gathered, &event);
     }
 
     fn lose(&mut self, packet: &Waiting, moment: u64, cause: Cause)
@@ -222,7 +238,7 @@ impl Recorder for Binned {
     {
         self.gathered.lose(packet, moment, cause);
         let event = Event::loss(packet, moment, cause);
-        self.bins.follow(&self.gathered, &event);
+        self.bins.follow(&mut self.gathered, &event);
     }
 
     fn close(&mut self, moment: u64)
@@ -235,7 +251,7 @@ impl Recorder for Binned {
     {
         self.gathered.close(moment);
         let event = Event::Closed { moment };
-        self.bins.follow(&self.gathered, &event);
+        self.bins.follow(&mut self.gathered, &event);
     }
 
     fn reserve(&mut self, more: usize) -> Result<(), Memory>
@@ -251,6 +267,9 @@ impl Recorder for Binned {
 
         // A refusal is an answer, and no row is lost by it.
         ensures short { self.new.is_short ≡ self.old.is_short }
+
+        // Where memory was refused before it takes none, so nothing that can be counted is refused.
+        ensures made { OnErr result (CanCount self.old more → self.old.is_short ≡ false) }
     {
         self.gathered.reserve(more)
     }

@@ -3,7 +3,7 @@
 ghost use Rattle.std.specs.Prelude.{◌≡◌, ◌≤◌, All, IfOk, IfSome, OnOk, length, option_map};
 ghost use Rattle.std.specs.List.{flat_map};
 ghost use Rattle.link_report.specs.Tables as Tables;
-ghost use Rattle.link_report.specs.FlowTables.{all_line, delay_fields, first_flow, flow_lines, flows_header, flows_text, group_line, known_flows_text, known_lines, span_of, summary_fields};
+ghost use Rattle.link_report.specs.FlowTables.{all_line, delay_fields, events_of, first_flow, flow_lines, flows_header, flows_text, group_line, known_flows_text, known_lines, packets_of, span_of, summary_fields};
 
 use crate::groups::{Group, grouped};
 use crate::packets::{PacketRecord, Packets};
@@ -13,68 +13,91 @@ use journal_core::{Event, Memory};
 use std::alloc::Global;
 use text_core::{AddressText, Digits};
 
-/// The text of the table: a header, the rows of the scheduler's journal, and then those of the other queue's, where there
-/// is one. It fails for want of memory alone.
+/// The events of a run, and when its link has sent its packets.
+#[derive(Clone, Copy)]
+pub struct RunEvents<'a> {
+    /// Its journal.
+    pub events: &'a [Event],
+    /// The moment at which the link has sent the last packet whole, in microseconds, rounded up, as `run_link_to_end` of
+    /// `link_core` answers it. It is 0 where none was sent.
+    pub end: u64,
+}
+
+/// The packets of a run, and when its link has sent them.
+#[derive(Clone, Copy)]
+pub struct RunPackets<'a> {
+    /// The packets of its journal.
+    pub packets: &'a Packets,
+    /// The moment at which the link has sent the last packet whole, in microseconds, rounded up, as `run_link_to_end` of
+    /// `link_core` answers it. It is 0 where none was sent.
+    pub end: u64,
+}
+
+/// The text of the table: a header, the rows of the scheduler's run, and then those of the other queue's, where there is
+/// one. It fails for want of memory alone.
 pub fn flows_text(
     alloc: Global,
-    events: &[Event],
-    fifo: Option<&[Event]>,
+    run: RunEvents<'_>,
+    fifo: Option<RunEvents<'_>>,
 ) -> Result<Vec<u8>, Memory>
-    requires few { length events.now ≤ MAX_EVENTS }
-    requires fifo_few { IfSome fifo (λ e. length e.now ≤ MAX_EVENTS) }
-    ensures { IfOk result (λ text. text.items ≡ flows_text events.now (option_map (λ e. e.now) fifo.entry)) }
+    requires few { length run.events.now ≤ MAX_EVENTS }
+    requires fifo_few { IfSome fifo (λ r. length r.events.now ≤ MAX_EVENTS) }
+    ensures { IfOk result (λ text. text.items ≡ flows_text (events_of run.entry) (option_map events_of fifo.entry)) }
 {
     let mut table = Table::new(alloc);
-    write_flows(&mut table, events, fifo)?;
+    write_flows(&mut table, run, fifo)?;
     table.into_text()
 }
 
-/// The text of the table of the packets of journals, as `flows_text` writes it. It fails for want of memory alone.
+/// The text of the table of the packets of runs, as `flows_text` writes it. It fails for want of memory alone.
 pub fn flows_text_of(
     alloc: Global,
-    packets: &Packets,
-    fifo: Option<&Packets>,
+    run: RunPackets<'_>,
+    fifo: Option<RunPackets<'_>>,
 ) -> Result<Vec<u8>, Memory>
-    requires few { length packets.now.packets ≤ MAX_EVENTS }
-    requires fifo_few { IfSome fifo (λ p. length p.now.packets ≤ MAX_EVENTS) }
-    ensures { IfOk result (λ text. text.items
-        ≡ known_flows_text packets.now (option_map (λ p. p.now) fifo.entry)) }
+    requires few { length run.packets.now.packets ≤ MAX_EVENTS }
+    requires fifo_few { IfSome fifo (λ r. length r.packets.now.packets ≤ MAX_EVENTS) }
+    ensures { IfOk result (λ text. text.items ≡ known_flows_text (packets_of run.entry) (option_map packets_of fifo.entry)) }
 {
     let mut table = Table::new(alloc);
-    write_known_flows(&mut table, packets, fifo)?;
+    write_known_flows(&mut table, run, fifo)?;
     table.into_text()
 }
 
 /// Writes the table of packets.
 fn write_known_flows(
     table: &mut Table,
-    packets: &Packets,
-    fifo: Option<&Packets>,
+    run: RunPackets<'_>,
+    fifo: Option<RunPackets<'_>>,
 ) -> Result<(), Memory>
-    requires few { length packets.now.packets ≤ MAX_EVENTS }
-    requires fifo_few { IfSome fifo (λ p. length p.now.packets ≤ MAX_EVENTS) }
+    requires few { length run.packets.now.packets ≤ MAX_EVENTS }
+    requires fifo_few { IfSome fifo (λ r. length r.packets.now.packets ≤ MAX_EVENTS) }
     ensures { OnOk result (Tables.AddsToTable table.old table.new
-        (known_flows_text packets.now (option_map (λ p. p.now) fifo.entry))) }
+        (known_flows_text (packets_of run.entry) (option_map packets_of fifo.entry))) }
 {
     header(table)?;
-    known_rows(table, Queue::FqCodel, packets)?;
+    known_rows(table, Queue::FqCodel, run.packets, run.end)?;
     match fifo {
-        Some(fifo) => known_rows(table, Queue::Fifo, fifo),
+        Some(fifo) => known_rows(table, Queue::Fifo, fifo.packets, fifo.end),
         None => Ok(()),
     }
 }
 
 /// Writes the table.
-fn write_flows(table: &mut Table, events: &[Event], fifo: Option<&[Event]>) -> Result<(), Memory>
-    requires few { length events.now ≤ MAX_EVENTS }
-    requires fifo_few { IfSome fifo (λ e. length e.now ≤ MAX_EVENTS) }
+fn write_flows(
+    table: &mut Table,
+    run: RunEvents<'_>,
+    fifo: Option<RunEvents<'_>>,
+) -> Result<(), Memory>
+    requires few { length run.events.now ≤ MAX_EVENTS }
+    requires fifo_few { IfSome fifo (λ r. length r.events.now ≤ MAX_EVENTS) }
     ensures { OnOk result (Tables.AddsToTable table.old table.new
-        (flows_text events.now (option_map (λ e. e.now) fifo.entry))) }
+        (flows_text (events_of run.entry) (option_map events_of fifo.entry))) }
 {
     header(table)?;
-    queue_rows(table, Queue::FqCodel, events)?;
+    queue_rows(table, Queue::FqCodel, run.events, run.end)?;
     match fifo {
-        Some(fifo) => queue_rows(table, Queue::Fifo, fifo),
+        Some(fifo) => queue_rows(table, Queue::Fifo, fifo.events, fifo.end),
         None => Ok(()),
     }
 }
@@ -109,21 +132,21 @@ fn header(table: &mut Table) -> Result<(), Memory>
     ])
 }
 
-/// The rows of a queue's journal.
-fn queue_rows(table: &mut Table, queue: Queue, events: &[Event]) -> Result<(), Memory>
+/// The rows of a queue's journal, whose packets are sent at that moment.
+fn queue_rows(table: &mut Table, queue: Queue, events: &[Event], end: u64) -> Result<(), Memory>
     requires { length events.now ≤ MAX_EVENTS }
-    ensures { OnOk result (Tables.AddsToTable table.old table.new (flow_lines queue events.now)) }
+    ensures { OnOk result (Tables.AddsToTable table.old table.new (flow_lines queue end events.now)) }
 {
     let packets = Packets::of(table.allocator(), events)?;
-    known_rows(table, queue, &packets)
+    known_rows(table, queue, &packets, end)
 }
 
-/// The rows of the five-tuples of packets, and that of all packets.
-fn known_rows(table: &mut Table, queue: Queue, packets: &Packets) -> Result<(), Memory>
+/// The rows of the five-tuples of packets, and that of all packets, which are sent at that moment.
+fn known_rows(table: &mut Table, queue: Queue, packets: &Packets, end: u64) -> Result<(), Memory>
     requires { length packets.now.packets ≤ MAX_EVENTS }
-    ensures { OnOk result (Tables.AddsToTable table.old table.new (known_lines queue packets.now)) }
+    ensures { OnOk result (Tables.AddsToTable table.old table.new (known_lines queue end packets.now)) }
 {
-    let span = span_of(packets.records());
+    let span = span_of(packets.records(), end);
     let groups = grouped(table.allocator(), packets)?;
     group_rows(table, queue, span, &groups)?;
     all_row(table, queue, span, packets.records())
@@ -140,14 +163,14 @@ fn group_rows(table: &mut Table, queue: Queue, span: u64, groups: &[Group]) -> R
     Ok(())
 }
 
-/// The time from the first arrival to the last fate, in microseconds.
-fn span_of(packets: &[PacketRecord]) -> u64
-    ensures { result ≡ span_of packets.now }
+/// The time from the first arrival to the last fate, in microseconds, or to that moment where it is later.
+fn span_of(packets: &[PacketRecord], end: u64) -> u64
+    ensures { result ≡ span_of end packets.now }
 {
     let [first, ..] = packets else {
         return 0;
     };
-    let mut last = 0u64;
+    let mut last = end;
     for packet in packets {
         last = last.max(packet.last_moment());
     }

@@ -1,6 +1,6 @@
 //! A recorder that makes the packets of the events that it is told.
 
-ghost use Rattle.std.specs.Prelude.{◌≡◌, ◌-◌, ◌<◌, ◌≤◌, ◌⊎◌, [], ◌∷◌, ◌++◌, IfErr, IfNone, IfOk, IfSome, OnErr, OnOk, false, length, true};
+ghost use Rattle.std.specs.Prelude.{◌≡◌, ◌+◌, ◌-◌, ◌<◌, ◌≤◌, ◌⊎◌, [], ◌∷◌, ◌++◌, IfErr, IfNone, IfOk, IfSome, OnErr, OnOk, false, length, true};
 ghost use Rattle.journal_core.specs.Steps.{accepted_event, drop_event, sent_event};
 ghost use Rattle.journal_core.specs.declared.event.Event.TheVariants.{Closed};
 ghost use Rattle.link_report.specs.Gatherings.{CanCount, KeepsOn, MakesPackets};
@@ -95,11 +95,39 @@ impl Gathered {
         self.told = self.told.and(event);
     }
 
-    /// Whether it makes packets of the next event.
-    fn makes_packets(&self) -> bool
-        ensures { result ≡ true → MakesPackets self.now }
+    /// Of how many events more it makes packets.
+    fn packets_left(&self) -> u64
+        ensures made { 0 < result → MakesPackets self.now }
+        ensures most { result ≤ self.now.most - length self.now.events }
     {
-        !self.is_short && self.count < self.most
+        if self.is_short {
+            0
+        } else {
+            self.most.saturating_sub(self.count)
+        }
+    }
+
+    /// The packets of the events that it was told, where it makes packets of all and each found memory.
+    pub(crate) fn all_packets(&self) -> &Packets
+        requires whole { self.now.is_short ≡ false }
+        requires most { self.now.most ≡ u64.MAX }
+        ensures { result.now ≡ known_of self.now.events }
+    {
+        &self.packets
+    }
+
+    /// From here on it makes no packets and takes no memory for any, and it has none.
+    pub(crate) fn stop(&mut self)
+        ensures { self.new ≡ record self.old { is_short = true } }
+    {
+        self.is_short = true;
+    }
+
+    /// Whether an event found no memory, so that there are no packets.
+    pub(crate) fn is_short(&self) -> bool
+        ensures { result ≡ self.now.is_short }
+    {
+        self.is_short
     }
 
     /// How many events it was told.
@@ -110,17 +138,19 @@ impl Gathered {
     }
 }
 
-/// Takes memory for the packets of so many events more, where they are made, and answers for how many there is room then.
-fn take_room(packets: &mut Packets, is_made: bool, more: usize) -> Result<usize, Memory>
+/// Takes memory for so many events more, where packets are made of the next `left` and there is room for `room` already.
+/// It answers for how many there is room then. Events of which no packets are made need none.
+fn take_room(packets: &mut Packets, left: u64, room: u64, more: usize) -> Result<usize, Memory>
     ensures same { packets.new ≡ packets.old }
     ensures room { IfOk result (λ room. more ≤ room) }
-    ensures refused { IfErr result (λ _. is_made ≡ true) }
+    ensures refused { IfErr result (λ _. room < left) }
 {
-    if is_made {
-        packets.reserve(more)
-    } else {
-        Ok(more)
+    if left <= room {
+        return Ok(more);
     }
+    let wanted = left.min(more as u64);
+    let taken = packets.reserve(wanted as usize)?;
+    Ok(taken.max(more))
 }
 
 impl Recorder for Gathered {
@@ -194,8 +224,11 @@ impl Recorder for Gathered {
         // A refusal is an answer, and no event is lost by it.
         ensures short { self.new.is_short ≡ self.old.is_short }
 
-        // Where it makes no packets any more it takes no memory, so nothing that can be counted is refused.
+        // Where it makes no packets any more it takes no memory, so nothing that can be counted is refused. And none
+        // is where there is room for all events of which it makes packets.
         ensures made { OnErr result (CanCount self.old more → MakesPackets self.old) }
+        ensures reached { OnErr result
+            (CanCount self.old more → length self.old.events + self.old.room < self.old.most) }
     {
         let more_events = more as u64;
         if more_events <= self.room {
@@ -206,8 +239,8 @@ impl Recorder for Gathered {
         if more_events > countable {
             return Err(AllocError);
         }
-        let is_made = self.makes_packets();
-        let room = take_room(&mut self.packets, is_made, more)?;
+        let left = self.packets_left();
+        let room = take_room(&mut self.packets, left, self.room, more)?;
         self.room = countable.min(room as u64);
         self.told = self.told.with_room(self.room as usize);
         Ok(())

@@ -1,4 +1,5 @@
-//! What holds of the packets of every journal, as the contract of a function that does nothing.
+//! What holds of the packets of every journal, and of the table of five-tuples of every run of a link, as contracts of
+//! functions that do nothing.
 
 ghost use Rattle.std.specs.Prelude.{◌≡◌, ℕ, ◌++◌, ◌∷◌, List, false, length, map};
 ghost use Rattle.std.specs.List.{filter_map};
@@ -10,8 +11,22 @@ ghost use Rattle.journal_core.specs.declared.event.Event.TheVariants as event;
 ghost use Rattle.journal_core.specs.Happened.{acceptances, fate_ids, is_among};
 ghost use Rattle.journal_core.specs.JournalLaws.{AreDistinct, FatesFollow, IdsInOrder};
 ghost use Rattle.journal_core.specs.Statistics.{sent_of};
+ghost use Rattle.journal_core.specs.declared.step.Step.{Step};
+ghost use Rattle.journal_core.specs.Runs.{Made, journal_of};
+ghost use Rattle.journal_core.specs.State.{State};
+ghost use Rattle.packet_core.specs.declared.flow.Seed.{Seed};
+ghost use Rattle.packet_core.specs.declared.params.ParamFields.{ParamFields};
+ghost use Rattle.fair_core.specs.FairQueues.{FairQueues};
+ghost use Rattle.link_core.specs.declared.arrival.Arrival.{Arrival};
+ghost use Rattle.link_core.specs.declared.link.LinkFields.{LinkFields};
+ghost use Rattle.link_core.specs.Arrivals.{AreArrivals};
+ghost use Rattle.link_core.specs.Fifo.{IsFifoJournal};
+ghost use Rattle.link_core.specs.LinkLaws.{end_of};
+ghost use Rattle.link_core.specs.LinkRuns.{IsLinkRun};
+ghost use Rattle.link_core.specs.Links.{IsLink};
 ghost use Rattle.link_report.specs.declared.packets.Fate.TheVariants as fate;
 ghost use Rattle.link_report.specs.Fates.{fate_in, record_of, tuples_in};
+ghost use Rattle.link_report.specs.FlowTables.{RatesAreWithin};
 ghost use Rattle.link_report.specs.Packets.{known_of};
 
 /// The packets of a journal have the one fate that the journal has for each id. There is a record for each acceptance,
@@ -33,4 +48,19 @@ pub fn one_fate_each()
         → fate_in events id ≡ fate.Dropped moment cause }
     ensures waiting { (events : List Event) (id : ℕ) → is_among (fate_ids events) id ≡ false
         → fate_in events id ≡ fate.Waiting }
+{}
+
+/// No value of the column `rate` of the table `flows` exceeds the link's rate, be it that of a five-tuple or that of all
+/// packets: of each link, each list of arrivals, and both queues. The table is that of the run's end, as `run_link_to_end`
+/// and `run_fifo_to_end` of `link_core` answer it.
+pub fn rates_within_link()
+    ensures scheduler { (p : ParamFields) (seed : Seed) (link : LinkFields) → IsLink link
+        → (arrivals : List Arrival) → AreArrivals arrivals
+        → (steps : List Step) (made : List Made) (last : State FairQueues)
+        → IsLinkRun p seed link arrivals steps made last
+        → RatesAreWithin link.rate (end_of link arrivals (journal_of made)) (known_of (journal_of made)) }
+    ensures fifo { (p : ParamFields) (seed : Seed) (link : LinkFields) → IsLink link
+        → (arrivals : List Arrival) → AreArrivals arrivals
+        → (events : List Event) → IsFifoJournal p seed link arrivals events
+        → RatesAreWithin link.rate (end_of link arrivals events) (known_of events) }
 {}

@@ -16,9 +16,9 @@ mod summary;
 mod table;
 
 pub use binned::Binned;
-pub use flows::{flows_text, flows_text_of};
+pub use flows::{RunEvents, RunPackets, flows_text, flows_text_of};
 pub use gathered::Gathered;
-pub use laws::one_fate_each;
+pub use laws::{one_fate_each, rates_within_link};
 pub use packet_rows::{packets_text, packets_text_of};
 pub use packets::{Fate, PacketRecord, Packets};
 pub use percentiles::percentile;

@@ -3,3 +3,5 @@ pub mod WordLemmas
 pub mod Readings
 pub mod Bursts
 pub mod Openings
+pub mod WordPlaces
+pub mod FaultPlaces

@@ -46,7 +46,7 @@ said_by text list_of (Err e) (Ok p) are none said = absurd (ok_memory (Ok p) p r
 
 pub wrong_by : {W E : Type 0} (text : List ℕ) (list_of : W → List (List ℕ)) (words : Result W E) (result : Result ParamFields NoParams)
     → IsUtf8 text → IfOk words (λ w. AreWords text (list_of w)) → IfErr words (λ e. result ≡ Err Memory)
-    → IfOk words (λ w. IfErr result (AreWrong (list_of w)))
+    → IfOk words (λ w. IfErr result (AreWrong text (list_of w)))
     → IfErr result (IsWhy text)
 wrong_by text list_of words (Ok p) utf8 are none wrong = tt
 wrong_by text list_of words (Err Memory) utf8 are none wrong = utf8

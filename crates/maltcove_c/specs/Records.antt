@@ -1,5 +1,5 @@
 -- What the records mean that C reads and writes.
-use Rattle.std.specs.Prelude.{◌≡◌, ℕ, ◌==◌, Bool, true, false, List, take, Option, Some, None, unwrap_or, is_some, if◌then◌else◌}
+use Rattle.std.specs.Prelude.{◌≡◌, ℕ, ℤ, ◌-◌, ◌==◌, Bool, true, false, List, take, Option, Some, None, unwrap_or, is_some, if◌then◌else◌}
 use Rattle.packet_core.specs.Packets.{PacketParts, IsLengthInRange}
 use Rattle.packet_core.specs.declared.packet.Ecn.{Ecn}
 use Rattle.packet_core.specs.declared.packet.Ecn.TheVariants.{Ce, Ect0, Ect1, NotEct}
@@ -22,6 +22,7 @@ use Rattle.queue_disc_core.specs.declared.answers.Dropped.{Dropped}
 use Rattle.queue_disc_core.specs.declared.answers.Enqueued.{Enqueued}
 use Rattle.queue_disc_core.specs.declared.answers.Handle.{Handle}
 use Rattle.queue_disc_core.specs.declared.totals.QueueDiscTotals.{QueueDiscTotals}
+use Rattle.maltcove_c.specs.Places.{word_bytes, word_start}
 use Rattle.maltcove_c.specs.declared.records.MaltcoveAdmitted.{MaltcoveAdmitted}
 use Rattle.maltcove_c.specs.declared.records.MaltcoveDropped.{MaltcoveDropped}
 use Rattle.maltcove_c.specs.declared.records.MaltcoveFault.{MaltcoveFault}
@@ -31,7 +32,7 @@ use Rattle.maltcove_c.specs.declared.records.MaltcovePacket.{MaltcovePacket}
 use Rattle.maltcove_c.specs.declared.records.MaltcoveParams.{MaltcoveParams}
 use Rattle.maltcove_c.specs.declared.records.MaltcoveSent.{MaltcoveSent}
 use Rattle.maltcove_c.specs.declared.records.MaltcoveTotals.{MaltcoveTotals}
-use Rattle.maltcove_c.specs.declared.records.TheConstants.{MISSING_VALUE, NO_FAULT, NOT_A_NUMBER, OUT_OF_RANGE, UNKNOWN_WORD}
+use Rattle.maltcove_c.specs.declared.records.TheConstants.{MISSING_VALUE, NO_FAULT, NOT_A_NUMBER, NOT_TEXT, OUT_OF_RANGE, UNKNOWN_WORD}
 
 -- the ECN field that two bits are (RFC 3168, section 5)
 abbrev pub ecn_of_bits : ℕ → Option Ecn
@@ -173,13 +174,27 @@ params_told p = record {
   hash = hashes p.classify;
 }
 
--- what C reads of a wrong word
-abbrev pub fault_told : ParamFault → MaltcoveFault
-fault_told (UnknownWord place) = record { place = place; kind = UNKNOWN_WORD }
-fault_told (MissingValue place) = record { place = place; kind = MISSING_VALUE }
-fault_told (NotANumber place) = record { place = place; kind = NOT_A_NUMBER }
-fault_told (OutOfRange place) = record { place = place; kind = OUT_OF_RANGE }
+-- what C reads where the word at that place of a text, from 1, is wrong in that way: its place, where its bytes begin in
+-- the text, and how many they are
+abbrev pub word_told : List ℕ → ℕ → ℤ → MaltcoveFault
+word_told text place kind = record {
+  place = place;
+  kind = kind;
+  offset = word_start (place - 1) text;
+  len = word_bytes (place - 1) text;
+}
+
+-- what C reads of a wrong word of a text
+abbrev pub fault_told : List ℕ → ParamFault → MaltcoveFault
+fault_told text (UnknownWord place) = word_told text place UNKNOWN_WORD
+fault_told text (MissingValue place) = word_told text place MISSING_VALUE
+fault_told text (NotANumber place) = word_told text place NOT_A_NUMBER
+fault_told text (OutOfRange place) = word_told text place OUT_OF_RANGE
+
+-- what C reads where the text isn't UTF-8
+abbrev pub not_text_told : MaltcoveFault
+not_text_told = record { place = 0; kind = NOT_TEXT; offset = 0; len = 0 }
 
 -- what C reads where no word is wrong
 abbrev pub nothing_told : MaltcoveFault
-nothing_told = record { place = 0; kind = NO_FAULT }
+nothing_told = record { place = 0; kind = NO_FAULT; offset = 0; len = 0 }

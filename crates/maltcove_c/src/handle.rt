@@ -37,6 +37,9 @@ impl Model for Handle {
 unsafe impl Send for Handle {}
 
 impl Handle {
+    ghost use Rattle.std.specs.Borrow.{sem};
+    ghost use Rattle.maltcove_c.specs.Lending.{LendsDisc};
+
     /// None.
     pub(crate) fn empty(alloc: Global) -> Handle
         ensures { result.value ≡ None }
@@ -60,6 +63,16 @@ impl Handle {
         ensures { self.value ≡ Some result.value }
     {
         self.into_parts().into_box()
+    }
+
+    /// What is in the box. The handle stays as it is: nothing is written to it.
+    // By `&mut`, also for a caller that only looks: a struct that C holds can't say what stands behind a `&` to it.
+    pub(crate) fn disc(&mut self) -> &mut QueueDisc
+        requires { IsSome self.old.value }
+        ensures* lends { sem 𝓛 (LendsDisc self.entry result) }
+        ensures value { self.old.value ≡ Some result.now }
+    {
+        unsafe { &mut *(self.at as *mut QueueDisc) }
     }
 
     fn of_parts(parts: Parts<QueueDisc, Global>) -> Handle

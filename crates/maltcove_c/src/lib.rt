@@ -9,6 +9,7 @@ mod losses;
 mod opening;
 mod packets;
 mod parts;
+mod places;
 mod records;
 mod scheduler;
 mod status;

@@ -1,6 +1,6 @@
 //! The calls that make a scheduler and end it.
 
-ghost use Rattle.std.specs.Prelude.{◌≡◌, ◌≢◌, ◌↔◌, Err, IfErr, IfOk, IfSome, IsErr, IsOk, IsSome, None, Ok, map};
+ghost use Rattle.std.specs.Prelude.{◌≡◌, ◌≢◌, ◌↔◌, ◌+◌, ◌≤◌, Err, IfErr, IfOk, IfSome, IsErr, IsOk, IsSome, None, Ok, length, map};
 ghost use Rattle.std.specs.Str.{IsUtf8};
 ghost use Rattle.packet_core.specs.Words.{params_of_words};
 ghost use Rattle.queue_disc_core.specs.QueueDiscs.{IsDiscClosed};
@@ -9,7 +9,7 @@ ghost use Rattle.maltcove_c.specs.Records.{nothing_told};
 ghost use Rattle.maltcove_c.specs.Texts.{AreWords, AreWrong, IsWhy, SaysParams};
 ghost use Rattle.maltcove_c.specs.declared.status.TheConstants.{ALREADY_OPEN, NOT_OPEN, OK};
 
-use crate::records::{MaltcoveFault, NOT_TEXT, fault_of, no_fault};
+use crate::records::{MaltcoveFault, fault_of, no_fault, not_text};
 use crate::scheduler::{Maltcove, put, take};
 use crate::status::{ALREADY_OPEN, BAD_SEED, BAD_WORDS, MEMORY, NOT_OPEN, OK, close_code};
 use packet_core::{Params, Seed, read_params};
@@ -33,19 +33,19 @@ fn words_of(alloc: Global, text: &str) -> Result<Vec<&str>, Memory>
     text.split_ascii_whitespace().collect(alloc)
 }
 
-/// The parameters that these words say, if there was memory for the words.
-fn params_from(words: Result<Vec<&str>, Memory>) -> Result<Params, NoParams>
+/// The parameters that these words of a text say, if there was memory for the words.
+fn params_from(text: &str, words: Result<Vec<&str>, Memory>) -> Result<Params, NoParams>
     ensures none { IfErr words.entry (λ refused. result ≡ Err NoParams.Memory) }
     ensures said { IfOk words.entry (λ words. IfOk result
         (λ params. params_of_words (map (λ word. word.now) words.items) ≡ Ok params)) }
-    ensures wrong { IfOk words.entry (λ words. IfErr result (AreWrong (map (λ word. word.now) words.items))) }
+    ensures wrong { IfOk words.entry (λ words. IfErr result (AreWrong text.now (map (λ word. word.now) words.items))) }
 {
     let Ok(words) = words else {
         return Err(NoParams::Memory);
     };
     match read_params(&words) {
         Ok(params) => Ok(params),
-        Err(fault) => Err(NoParams::Words(fault_of(fault))),
+        Err(fault) => Err(NoParams::Words(fault_of(text.as_bytes(), fault))),
     }
 }
 
@@ -54,7 +54,7 @@ fn params_of_text(alloc: Global, text: &str) -> Result<Params, NoParams>
     ensures said { IfOk result (SaysParams text.now) }
     ensures wrong { IfErr result (IsWhy text.now) }
 {
-    params_from(words_of(alloc, text))
+    params_from(text, words_of(alloc, text))
 }
 
 /// The parameters that the words in these bytes say.
@@ -65,10 +65,7 @@ fn params_in(alloc: Global, text: &[u8]) -> Result<Params, NoParams>
 {
     match str::from_utf8(text) {
         Ok(text) => params_of_text(alloc, text),
-        Err(_) => Err(NoParams::Words(MaltcoveFault {
-            place: 0,
-            kind: NOT_TEXT,
-        })),
+        Err(_) => Err(NoParams::Words(not_text())),
     }
 }
 
@@ -147,6 +144,7 @@ pub extern "C" fn maltcove_raw_open(
         × (m.old.handle.value ≡ None) × (fault.new ≡ nothing_told) }
     ensures refused { m.old.handle.value ≡ None → result ≢ OK → RefusesOpen words.now seed.now fault.new result }
     ensures unchanged { result ≢ OK → m.new.handle.value ≡ m.old.handle.value }
+    ensures within { m.old.handle.value ≡ None → fault.new.offset + fault.new.len ≤ length words.now }
 {
     if m.is_open {
         return ALREADY_OPEN;

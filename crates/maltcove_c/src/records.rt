@@ -2,8 +2,9 @@
 
 ghost use Rattle.std.specs.Prelude.{◌≡◌, IfSome, IsNone};
 ghost use Rattle.packet_core.specs.Packets.{PacketParts};
-ghost use Rattle.maltcove_c.specs.Records.{Says, SaysInFlow, address_of_bytes, admitted_told, cause_code, dropped_told, ecn_bits, ecn_of_bits, fault_told, flow_told, flushed_told, idle_told, mark_code, nothing_told, params_told, sent_told, totals_told};
+ghost use Rattle.maltcove_c.specs.Records.{Says, SaysInFlow, address_of_bytes, admitted_told, cause_code, dropped_told, ecn_bits, ecn_of_bits, fault_told, flow_told, flushed_told, idle_told, mark_code, not_text_told, nothing_told, params_told, sent_told, totals_told, word_told};
 
+use crate::places::{bytes_in_front, word_start};
 use packet_core::{Classify, Ecn, EcnUse, FiveTuple, Ip, Packet, ParamFault, Params};
 use queue_disc_core::{Dropped, Enqueued, Handle, QueueDiscTotals};
 use sched_core::{Cause, FlowView, Mark, Sent};
@@ -161,9 +162,13 @@ pub struct MaltcoveFault {
     pub(crate) place: u64,
     /// In what way it is wrong.
     pub(crate) kind: i32,
+    /// Where the word begins in the text, in bytes.
+    pub(crate) offset: u64,
+    /// How many bytes it has.
+    pub(crate) len: u64,
 }
 
-const _: () = prove!(size_of::<MaltcoveFault>() == 16);
+const _: () = prove!(size_of::<MaltcoveFault>() == 32);
 
 /// No word is wrong.
 pub(crate) const NO_FAULT: i32 = 0;
@@ -181,7 +186,7 @@ pub(crate) const NOT_A_NUMBER: i32 = 3;
 pub(crate) const OUT_OF_RANGE: i32 = 4;
 
 /// The text isn't UTF-8.
-pub(crate) const NOT_TEXT: i32 = 5;
+const NOT_TEXT: i32 = 5;
 
 /// The ECN field of two bits.
 pub(crate) fn ecn_of(bits: u8) -> Option<Ecn>
@@ -412,29 +417,44 @@ pub(crate) fn no_fault() -> MaltcoveFault
     MaltcoveFault {
         place: 0,
         kind: NO_FAULT,
+        offset: 0,
+        len: 0,
     }
 }
 
-/// Which word is wrong, for C.
-pub(crate) fn fault_of(fault: ParamFault) -> MaltcoveFault
-    ensures { result ≡ fault_told fault }
+/// The text isn't UTF-8, for C.
+pub(crate) fn not_text() -> MaltcoveFault
+    ensures { result ≡ not_text_told }
+{
+    MaltcoveFault {
+        place: 0,
+        kind: NOT_TEXT,
+        offset: 0,
+        len: 0,
+    }
+}
+
+/// The word at that place of a text is wrong in that way, for C.
+fn word_of(text: &[u8], place: usize, kind: i32) -> MaltcoveFault
+    ensures { result ≡ word_told text.now place kind }
+{
+    let offset = word_start(text, place.saturating_sub(1));
+    MaltcoveFault {
+        place: place as u64,
+        kind,
+        offset: offset as u64,
+        len: bytes_in_front(&text[offset..]) as u64,
+    }
+}
+
+/// Which word of a text is wrong, for C.
+pub(crate) fn fault_of(text: &[u8], fault: ParamFault) -> MaltcoveFault
+    ensures { result ≡ fault_told text.now fault }
 {
     match fault {
-        ParamFault::UnknownWord(place) => MaltcoveFault {
-            place: place as u64,
-            kind: UNKNOWN_WORD,
-        },
-        ParamFault::MissingValue(place) => MaltcoveFault {
-            place: place as u64,
-            kind: MISSING_VALUE,
-        },
-        ParamFault::NotANumber(place) => MaltcoveFault {
-            place: place as u64,
-            kind: NOT_A_NUMBER,
-        },
-        ParamFault::OutOfRange(place) => MaltcoveFault {
-            place: place as u64,
-            kind: OUT_OF_RANGE,
-        },
+        ParamFault::UnknownWord(place) => word_of(text, place, UNKNOWN_WORD),
+        ParamFault::MissingValue(place) => word_of(text, place, MISSING_VALUE),
+        ParamFault::NotANumber(place) => word_of(text, place, NOT_A_NUMBER),
+        ParamFault::OutOfRange(place) => word_of(text, place, OUT_OF_RANGE),
     }
 }

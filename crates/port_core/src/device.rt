@@ -22,7 +22,8 @@ pub const MAX_BURST: u64 = 1024;
 /// that came out of a lane are those that the engine accepted from it, and what is shown is a beginning of its journal.
 /// The engine tells its events and its steps to recorders, which store all of them unless others are chosen. Contracts
 /// see the engine, the lanes and what was published. Only `publish` and the device's end wait, for monitors that are
-/// just reading: the other calls stand on a part of it that has no screen.
+/// just reading. The signatures don't show it, since a device holds its screen. `receipt` reads what is shown, and each
+/// of the other calls is one line on a part of the device that has neither screen nor handle.
 #[derive(Drop)]
 pub struct Device<
     J: BookName,

@@ -1,6 +1,6 @@
 //! What lies under a port's lock: the engine, and the books of both ledgers.
 
-ghost use Rattle.std.specs.Prelude.{◌≡◌, ◌≤◌, ◌<◌, ◌+◌, ◌^◌, ◌++◌, ◌∷◌, ◌⊎◌, [], length, sum_by, IfOk, IfErr, IfSome, IfNone, OnErr, OnOk, Some};
+ghost use Rattle.std.specs.Prelude.{◌≡◌, ◌≢◌, ◌≤◌, ◌<◌, ◌+◌, ◌^◌, ◌++◌, ◌∷◌, ◌⊎◌, [], length, sum_by, vec_capacity, vec_len, IfOk, IfErr, IfSome, IfNone, None, OnErr, OnOk, Some};
 ghost use Rattle.journal_core.specs.Calls.{admitted_at};
 ghost use Rattle.journal_core.specs.State.{IsRefusal, refusal_of};
 ghost use Rattle.journal_core.specs.Statistics.{statistics};
@@ -8,6 +8,7 @@ ghost use Rattle.journal_core.specs.declared.outcome.Answer.TheVariants as answe
 ghost use Rattle.journal_core.specs.declared.step.Refusal.TheVariants as refusal;
 ghost use Rattle.journal_core.specs.declared.step.Step.TheVariants.{Close, Dequeue, Enqueue};
 ghost use Rattle.sched_core.specs.Schedulers.{IsAdvanced, IsServed, discipline_of};
+ghost use Rattle.port_core.specs.LockedCalls.{IsRunOfItsSteps};
 ghost use Rattle.port_core.specs.Ports.{AreTotalsOfARun, Refuses, moment_at, sent_also, told_also};
 ghost use Rattle.port_core.specs.Settling.{Agrees, IsWhy};
 
@@ -54,21 +55,15 @@ impl<A: Ledger, S: Ledger> Front<A, S> {
             (Enqueue (moment_at self.old.engine now) seat.old.lane packet) answer.Accepted self.new.engine.sched) }
         ensures steps { OnOk result (self.new.engine.steps ≡ self.old.engine.steps
             ++ Enqueue (moment_at self.old.engine now) seat.old.lane packet ∷ []) }
+        ensures run { IsRunOfItsSteps self.old.engine }
         ensures order { IfErr result (IsRefusal (refusal_of self.old.engine.sched.standing.state
             (Enqueue (moment_at self.old.engine now) seat.old.lane packet))) }
         ensures kept { OnErr result (self.new.engine ≡ self.old.engine) }
     {
+        self.engine.run_of_steps();
         let moment = self.moment(now);
         let lane = seat.lane;
-        if seat.told.reserve(1).is_err() {
-            // Want of memory comes last.
-            self.engine.test(&Step::Enqueue {
-                moment,
-                lane,
-                packet,
-            })?;
-            return Err(Refusal::Memory);
-        }
+        make_room(&self.engine, &mut seat.told, moment, lane, packet)?;
         let admitted = self.engine.enqueue(moment, lane, packet)?;
         self.accepted.add(&mut seat.accepted_share, 1);
         seat.told.push_reserved(Event::Accepted {
@@ -97,10 +92,12 @@ impl<A: Ledger, S: Ledger> Front<A, S> {
             (moment_at self.old.engine now) sent self.new.engine.sched) }
         ensures steps { OnOk result (self.new.engine.steps
             ≡ self.old.engine.steps ++ Dequeue (moment_at self.old.engine now) ∷ []) }
+        ensures run { IsRunOfItsSteps self.old.engine }
         ensures order { IfErr result (IsRefusal (refusal_of self.old.engine.sched.standing.state
             (Dequeue (moment_at self.old.engine now)))) }
         ensures kept { OnErr result (self.new.engine ≡ self.old.engine) }
     {
+        self.engine.run_of_steps();
         let moment = self.moment(now);
         let sent = self.engine.dequeue(moment)?;
         if sent.is_some() {
@@ -124,10 +121,12 @@ impl<A: Ledger, S: Ledger> Front<A, S> {
             (Close (moment_at self.old.engine now)) answer.Closed self.new.engine.sched) }
         ensures steps { OnOk result (self.new.engine.steps
             ≡ self.old.engine.steps ++ Close (moment_at self.old.engine now) ∷ []) }
+        ensures run { IsRunOfItsSteps self.old.engine }
         ensures order { IfErr result (IsRefusal (refusal_of self.old.engine.sched.standing.state
             (Close (moment_at self.old.engine now)))) }
         ensures kept { OnErr result (self.new.engine ≡ self.old.engine) }
     {
+        self.engine.run_of_steps();
         let moment = self.moment(now);
         self.engine.close(moment)?;
         Ok(moment)
@@ -217,6 +216,34 @@ impl<A: Ledger, S: Ledger> Front<A, S> {
         sent.audit(&mut gone);
         engine
     }
+}
+
+/// Makes room for one acceptance more in what a seat was told. The list grows only for a packet that nothing else
+/// refuses.
+fn make_room(
+    engine: &Engine,
+    told: &mut Vec<Event>,
+    moment: u64,
+    lane: u32,
+    packet: Packet,
+) -> Result<(), Refusal>
+    ensures items { told.new.items ≡ told.old.items }
+    ensures room { OnOk result (vec_len told.new < vec_capacity told.new) }
+    ensures refused { IfErr result (IsRefusal (refusal_of engine.now.sched.standing.state
+        (Enqueue moment lane packet))) }
+    ensures grows_last { refusal_of engine.now.sched.standing.state (Enqueue moment lane packet) ≢ None
+        → vec_capacity told.new ≡ vec_capacity told.old }
+{
+    if told.len() < told.capacity() {
+        return Ok(());
+    }
+    engine.test(&Step::Enqueue {
+        moment,
+        lane,
+        packet,
+    })?;
+    told.reserve(1)?;
+    Ok(())
 }
 
 /// The shares of all seats in one.

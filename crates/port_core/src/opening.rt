@@ -115,7 +115,7 @@ pub fn lanes<J: BookName, R: Wait + Drop>(
 }
 
 /// The same with a device whose engine tells its events and its steps to recorders that were told none. Where the one
-/// of events says for how many packets it was made, that has to be for `limit` and one more.
+/// of events says for how many packets it was made, these have to be `limit` and one more, or more than that.
 pub fn lanes_with_recorders<J: BookName, R: Wait + Drop, K: Recorder, S: StepRecorder>(
     rt: R,
     alloc: Global,

@@ -1,2 +1,3 @@
+pub mod FaultLemmas
 pub mod RunLemmas
 pub mod WatchedLemmas

@@ -1,7 +1,8 @@
 -- What a run by senders comes to, where it wrote a journal and where it failed.
-use Rattle.std.proofs.Common.{◌≡◌, ◌≢◌, ◌∙◌, ℕ, List, Option, Some, None, Result, Ok, Err, codes, refl, rules, subst, sym}
+use Rattle.std.proofs.Common.{◌≡◌, ◌≢◌, ◌∙◌, ◌<◌, ℕ, List, Option, Some, None, Result, Ok, Err, IsOk, codes, refl, rules, subst, sym, ⊎_elim}
 use Rattle.std.specs.Prelude.{IfErr, IfSome, IsErrAnd, OnOk}
 use Rattle.std.specs.Io.KnownBytes.{Appends, Keeps}
+use Rattle.std.proofs.KnownBytes.{Keeps-refl}
 use Rattle.packet_core.specs.Words.{params_of_words}
 use Rattle.packet_core.specs.declared.flow.Seed.{Seed}
 use Rattle.packet_core.specs.declared.params.ParamFields.{ParamFields}
@@ -13,7 +14,10 @@ use Rattle.trace_core.specs.declared.journal_report.SenderRow.{SenderRow}
 use Rattle.trace_core.specs.declared.trace_run.RunFault.{RunFault}
 use Rattle.trace_core.specs.declared.trace_run.RunFault.TheVariants as run_fault
 use Rattle.command_core.specs.CommandLine.{AsksForHelp, AsksForLanes, AsksForLocked, AsksForTrace, IsMonitorCount, IsSenderCount, monitors_text, parameter_words, seed_text, senders_text}
-use Rattle.program_core.specs.Faults.{IsLanesFault, IsLockedFault, run_fault_told}
+use Rattle.program_core.specs.Faults.{AreGood, IsBegun, IsLanesFault, IsLockedFault, run_fault_told, senders_fault_told}
+use Rattle.run_core.specs.SendersFaults.{IsLanesRunFault, IsLockedRunFault}
+use Rattle.run_core.specs.declared.senders_fault.SendersFault.{SendersFault}
+use Rattle.run_core.specs.declared.senders_fault.SendersFault.TheVariants as senders_fault
 use Rattle.run_core.specs.Journals.{AreLanesJournal, AreLockedJournal, Journals}
 use Rattle.program_core.specs.Runs.{AnswersSenders, AnswersWatched, StartsJournal, IsJournalOf, IsSendersRunFor}
 use Rattle.program_core.specs.Watched.{TellsSeenOf}
@@ -37,23 +41,78 @@ senders_run Are seed_words words n input Wrote seed params steps events rows see
     go (Some bytes) h = (journal_text events rows, record { steps = steps; events = events; rows = rows; read = h; made = made; told = refl }, wrote)
     go None h = tt
 
+-- the seed and the parameters were good
+pub good : (seed_words : Option (List ℕ)) (words : List (List ℕ)) (seed : List ℕ) (params : ParamFields)
+    → seed_given seed_words ≡ Some seed → params_of_words words ≡ Ok params → AreGood seed_words words
+good seed_words words seed params seed_read params_read = record {
+  seed_read = λ none. (let same : Some seed ≡ None = sym seed_read ∙ none in absurd (search (rules, same)));
+  params_read = subst IsOk (sym params_read) refl;
+}
+
+-- and so was the trace
+pub begun : (seed_words : Option (List ℕ)) (words : List (List ℕ)) (input : Option (List ℕ)) (seed : List ℕ) (params : ParamFields) (steps : List Step)
+    → seed_given seed_words ≡ Some seed → params_of_words words ≡ Ok params → IfSome input (λ bytes. trace_of bytes ≡ Ok steps)
+    → IsBegun seed_words words input
+begun seed_words words input seed params steps seed_read params_read read = record {
+  good = good seed_words words seed params seed_read params_read;
+  read = go input read;
+}
+  where
+    go : (known : Option (List ℕ)) → IfSome known (λ bytes. trace_of bytes ≡ Ok steps) → IfSome known (λ bytes. IsOk (trace_of bytes))
+    go (Some bytes) h = subst IsOk (sym h) refl
+    go None h = tt
+
+-- a fault of the run itself
+pub locked_run_fault : (seed_words : Option (List ℕ)) (words : List (List ℕ)) (n : ℕ) (input old : Option (List ℕ)) (fault : SendersFault)
+    → IsLockedRunFault fault → IsBegun seed_words words input → IsLockedFault seed_words words n input old old (senders_fault_told fault)
+locked_run_fault seed_words words n input old senders_fault.Memory is begun' = (begun', Keeps-refl old)
+locked_run_fault seed_words words n input old senders_fault.Settle is begun' = (begun', Keeps-refl old)
+locked_run_fault seed_words words n input old (senders_fault.Lane lane) is begun' =
+    absurd (⊎_elim (λ one. search (rules, one)) (λ other. search (rules, other)) is)
+locked_run_fault seed_words words n input old (senders_fault.Monitor monitor) is begun' =
+    absurd (⊎_elim (λ one. search (rules, one)) (λ other. search (rules, other)) is)
+
+-- the same of a run through lanes
+pub lanes_run_fault : (seed_words : Option (List ℕ)) (words : List (List ℕ)) (n monitors : ℕ) (input old : Option (List ℕ)) (fault : SendersFault)
+    → IsLanesRunFault n monitors fault → IsBegun seed_words words input
+    → IsLanesFault seed_words words n monitors input old old (senders_fault_told fault)
+lanes_run_fault seed_words words n monitors input old senders_fault.Memory is begun' = (begun', Keeps-refl old)
+lanes_run_fault seed_words words n monitors input old senders_fault.Settle is begun' =
+    absurd (⊎_elim (⊎_elim (λ one. search (rules, one)) (λ t. search (rules, t.2))) (λ t. search (rules, t.2)) is)
+lanes_run_fault seed_words words n monitors input old (senders_fault.Lane lane) is begun' = (
+  ⊎_elim
+      (⊎_elim (λ one. absurd (search (rules, one))) (λ t. (let same : lane ≡ t.0 = cc t.2 in subst (λ k. k < n) (sym same) t.1)))
+      (λ t. absurd (search (rules, t.2)))
+      is,
+  begun',
+  Keeps-refl old,
+)
+lanes_run_fault seed_words words n monitors input old (senders_fault.Monitor monitor) is begun' = (
+  ⊎_elim
+      (⊎_elim (λ one. absurd (search (rules, one))) (λ t. absurd (search (rules, t.2))))
+      (λ t. (let same : monitor ≡ t.0 = cc t.2 in subst (λ k. k < monitors) (sym same) t.1))
+      is,
+  begun',
+  Keeps-refl old,
+)
+
 -- a fault of the journal's writing, told as one of the run
 pub locked_fault : (seed_words : Option (List ℕ)) (words : List (List ℕ)) (n : ℕ) (input old new : Option (List ℕ)) (fault : RunFault)
-    → (fault ≡ run_fault.Write → StartsJournal AreLockedJournal seed_words words n input old new) → (fault ≢ run_fault.Write → fault ≡ run_fault.Memory)
+    → IsBegun seed_words words input → (fault ≡ run_fault.Write → StartsJournal AreLockedJournal seed_words words n input old new) → (fault ≢ run_fault.Write → fault ≡ run_fault.Memory)
     → (fault ≢ run_fault.Write → Keeps old new) → IsLockedFault seed_words words n input old new (run_fault_told fault)
-locked_fault seed_words words n input old new run_fault.Write front memory kept = front refl
-locked_fault seed_words words n input old new run_fault.Memory front memory kept = kept (λ is. search (rules, is))
-locked_fault seed_words words n input old new (run_fault.Trace why) front memory kept =
+locked_fault seed_words words n input old new run_fault.Write begun' front memory kept = front refl
+locked_fault seed_words words n input old new run_fault.Memory begun' front memory kept = (begun', kept (λ is. search (rules, is)))
+locked_fault seed_words words n input old new (run_fault.Trace why) begun' front memory kept =
     let never : run_fault.Trace why ≡ run_fault.Memory = memory (λ is. search (rules, is)) in
     absurd (search (rules, never))
 
 -- the same of a run through lanes
-pub lanes_fault : (seed_words : Option (List ℕ)) (words : List (List ℕ)) (n : ℕ) (input old new : Option (List ℕ)) (fault : RunFault)
-    → (fault ≡ run_fault.Write → StartsJournal AreLanesJournal seed_words words n input old new) → (fault ≢ run_fault.Write → fault ≡ run_fault.Memory)
-    → (fault ≢ run_fault.Write → Keeps old new) → IsLanesFault seed_words words n input old new (run_fault_told fault)
-lanes_fault seed_words words n input old new run_fault.Write front memory kept = front refl
-lanes_fault seed_words words n input old new run_fault.Memory front memory kept = kept (λ is. search (rules, is))
-lanes_fault seed_words words n input old new (run_fault.Trace why) front memory kept =
+pub lanes_fault : (seed_words : Option (List ℕ)) (words : List (List ℕ)) (n monitors : ℕ) (input old new : Option (List ℕ)) (fault : RunFault)
+    → IsBegun seed_words words input → (fault ≡ run_fault.Write → StartsJournal AreLanesJournal seed_words words n input old new) → (fault ≢ run_fault.Write → fault ≡ run_fault.Memory)
+    → (fault ≢ run_fault.Write → Keeps old new) → IsLanesFault seed_words words n monitors input old new (run_fault_told fault)
+lanes_fault seed_words words n monitors input old new run_fault.Write begun' front memory kept = front refl
+lanes_fault seed_words words n monitors input old new run_fault.Memory begun' front memory kept = (begun', kept (λ is. search (rules, is)))
+lanes_fault seed_words words n monitors input old new (run_fault.Trace why) begun' front memory kept =
     let never : run_fault.Trace why ≡ run_fault.Memory = memory (λ is. search (rules, is)) in
     absurd (search (rules, never))
 

@@ -1,13 +1,13 @@
 -- Why the program fails, and what status it ends with then.
-use Rattle.std.specs.Prelude.{◌≡◌, ◌≢◌, ◌⊎◌, ◌<◌, ℕ, List, IfSome, IsOk, Option, None, Err}
+use Rattle.std.specs.Prelude.{◌≡◌, ◌≢◌, ◌⊎◌, ◌≤◌, ◌<◌, ℕ, List, IfSome, IsOk, Option, None, Err, length}
 use Rattle.std.specs.Io.KnownBytes.{Keeps}
 use Rattle.packet_core.specs.Words.{params_of_words}
-use Rattle.row_core.specs.Traces.{IsFaultOf}
+use Rattle.row_core.specs.Traces.{IsFaultOf, trace_of}
 use Rattle.row_core.specs.declared.faults.TraceFaultKind.{TraceFaultKind}
 use Rattle.row_core.specs.declared.faults.TraceFaultKind.TheVariants as trace_fault
 use Rattle.trace_core.specs.declared.trace_run.RunFault.{RunFault}
 use Rattle.trace_core.specs.declared.trace_run.RunFault.TheVariants as run_fault
-use Rattle.command_core.specs.CommandLine.{AsksForLanes, AsksForLocked, AsksForRun, IsMistake, parameter_words, seed_text}
+use Rattle.command_core.specs.CommandLine.{AsksForLanes, AsksForLocked, AsksForRun, IsMistake, IsMonitorCount, IsSenderCount, monitors_text, parameter_words, seed_text, senders_text}
 use Rattle.run_core.specs.Journals.{AreLanesJournal, AreLockedJournal}
 use Rattle.program_core.specs.Runs.{Begins, StartsJournal, BeginsReport}
 use Rattle.command_core.specs.Seeds.{seed_given}
@@ -35,6 +35,7 @@ status_of program_fault.Memory = 1
 status_of program_fault.Write = 1
 status_of program_fault.Settle = 1
 status_of (program_fault.Lane lane) = 1
+status_of (program_fault.Monitor monitor) = 1
 
 -- The fault is one of the words of a run: of the seed or of a parameter.
 abbrev pub IsOfWords : ProgramFault → Type 0
@@ -47,11 +48,26 @@ IsOfWords program_fault.Memory = ⊥
 IsOfWords program_fault.Write = ⊥
 IsOfWords program_fault.Settle = ⊥
 IsOfWords (program_fault.Lane lane) = ⊥
+IsOfWords (program_fault.Monitor monitor) = ⊥
+
+-- The seed of that text and the parameters of those words are good.
+pub record AreGood (seed : Option (List ℕ)) (words : List (List ℕ)) : Type 0 where
+  pub seed_read : seed_given seed ≢ None
+  pub params_read : IsOk (params_of_words words)
+
+-- So is the trace: a run of it was begun.
+pub record IsBegun (seed : Option (List ℕ)) (words : List (List ℕ)) (input : Option (List ℕ)) : Type 0 where
+  pub good : AreGood seed words
+  pub read : IfSome input (λ bytes. IsOk (trace_of bytes))
+
+-- The words ask for a run, and their seed and their parameters are good. Without that nothing is read.
+abbrev pub AsksForInput : List (List ℕ) → Type 0
+AsksForInput words = AsksForRun words × AreGood (seed_text words) (parameter_words words)
 
 -- The fault is one of a run of the input, with the seed of that text and the parameters of those words, by which the
 -- writer came from what it held to what it holds. The seed is looked at first, then the parameters, then the input.
--- With a failed write it holds a front of the report more, and with any other fault what it held. That memory was
--- wanting can't be said.
+-- With a failed write it holds a front of the report more, and with any other fault what it held. Memory is asked for
+-- once the input was read, which has no more than 134,217,728 bytes then. That it was wanting can't be said.
 abbrev pub IsRunFault : Option (List ℕ) → List (List ℕ) → Option (List ℕ) → Option (List ℕ) → Option (List ℕ)
     → ProgramFault → Type 0
 IsRunFault seed words input old new program_fault.Seed = (seed_given seed ≡ None) × Keeps old new
@@ -60,30 +76,38 @@ IsRunFault seed words input old new (program_fault.Params fault) =
 IsRunFault seed words input old new (program_fault.Trace fault) =
     (seed_given seed ≢ None) × IsOk (params_of_words words) × IfSome input (λ bytes. IsFaultOf bytes fault)
     × Keeps old new
-IsRunFault seed words input old new program_fault.Memory = Keeps old new
+IsRunFault seed words input old new program_fault.Memory =
+    AreGood seed words × IfSome input (λ bytes. length bytes ≤ 134217728) × Keeps old new
 IsRunFault seed words input old new program_fault.Write = BeginsReport seed words input old new
 IsRunFault seed words input old new (program_fault.CommandLine text) = ⊥
 IsRunFault seed words input old new program_fault.NotUtf8 = ⊥
 IsRunFault seed words input old new program_fault.Settle = ⊥
 IsRunFault seed words input old new (program_fault.Lane lane) = ⊥
+IsRunFault seed words input old new (program_fault.Monitor monitor) = ⊥
 
--- The fault is one of a run by so many senders, with a front of its journal where a write failed. What the engine has
--- may differ from what the seats were told.
+-- The fault is one of a run by so many senders, with a front of its journal where a write failed. Seed, parameters and
+-- input are looked at before a run is begun, so the others come once these are good. What the engine has may differ from
+-- what the seats were told.
 abbrev pub IsLockedFault : Option (List ℕ) → List (List ℕ) → ℕ → Option (List ℕ) → Option (List ℕ) → Option (List ℕ)
     → ProgramFault → Type 0
 IsLockedFault seed words senders input old new program_fault.Write =
     StartsJournal AreLockedJournal seed words senders input old new
-IsLockedFault seed words senders input old new program_fault.Settle = Keeps old new
+IsLockedFault seed words senders input old new program_fault.Memory = IsBegun seed words input × Keeps old new
+IsLockedFault seed words senders input old new program_fault.Settle = IsBegun seed words input × Keeps old new
 IsLockedFault seed words senders input old new fault = IsRunFault seed words input old new fault
 
--- The same where they have lanes. A sender may have more packets than its lane has room for, or its lane may have no
--- end.
-abbrev pub IsLanesFault : Option (List ℕ) → List (List ℕ) → ℕ → Option (List ℕ) → Option (List ℕ) → Option (List ℕ)
-    → ProgramFault → Type 0
-IsLanesFault seed words senders input old new program_fault.Write =
+-- The same where they have lanes, with so many monitors. A sender may have more packets than its lane has room for, or
+-- its lane may have no end. A monitor may have read more than the journal has.
+abbrev pub IsLanesFault : Option (List ℕ) → List (List ℕ) → ℕ → ℕ → Option (List ℕ) → Option (List ℕ)
+    → Option (List ℕ) → ProgramFault → Type 0
+IsLanesFault seed words senders monitors input old new program_fault.Write =
     StartsJournal AreLanesJournal seed words senders input old new
-IsLanesFault seed words senders input old new (program_fault.Lane lane) = (lane < senders) × Keeps old new
-IsLanesFault seed words senders input old new fault = IsRunFault seed words input old new fault
+IsLanesFault seed words senders monitors input old new program_fault.Memory = IsBegun seed words input × Keeps old new
+IsLanesFault seed words senders monitors input old new (program_fault.Lane lane) =
+    (lane < senders) × IsBegun seed words input × Keeps old new
+IsLanesFault seed words senders monitors input old new (program_fault.Monitor monitor) =
+    (monitor < monitors) × IsBegun seed words input × Keeps old new
+IsLanesFault seed words senders monitors input old new fault = IsRunFault seed words input old new fault
 
 -- The fault is one of these words and this input, by which the writer came from what it held to what it holds. Of
 -- the words nothing is said at want of memory, since `clap` may want it whatever they are.
@@ -98,8 +122,14 @@ IsFaultOn words input old new (program_fault.Trace fault) =
     AsksForRun words × IsRunFault (seed_text words) (parameter_words words) input old new (program_fault.Trace fault)
 IsFaultOn words input old new program_fault.Memory = Keeps old new
 IsFaultOn words input old new program_fault.Write = Begins words input old new
-IsFaultOn words input old new program_fault.Settle = AsksForLocked words × Keeps old new
-IsFaultOn words input old new (program_fault.Lane lane) = AsksForLanes words × Keeps old new
+IsFaultOn words input old new program_fault.Settle =
+    AsksForLocked words × IsBegun (seed_text words) (parameter_words words) input × Keeps old new
+IsFaultOn words input old new (program_fault.Lane lane) =
+    AsksForLanes words × ((senders : ℕ) × IsSenderCount (senders_text words) senders × (lane < senders))
+    × IsBegun (seed_text words) (parameter_words words) input × Keeps old new
+IsFaultOn words input old new (program_fault.Monitor monitor) =
+    AsksForLanes words × ((monitors : ℕ) × IsMonitorCount (monitors_text words) monitors × (monitor < monitors))
+    × IsBegun (seed_text words) (parameter_words words) input × Keeps old new
 
 -- the fault of the program for one of the command line
 abbrev pub command_fault_told : CommandFault → ProgramFault
@@ -117,3 +147,4 @@ abbrev pub senders_fault_told : SendersFault → ProgramFault
 senders_fault_told senders_fault.Memory = program_fault.Memory
 senders_fault_told senders_fault.Settle = program_fault.Settle
 senders_fault_told (senders_fault.Lane lane) = program_fault.Lane lane
+senders_fault_told (senders_fault.Monitor monitor) = program_fault.Monitor monitor

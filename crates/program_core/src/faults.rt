@@ -53,6 +53,9 @@ pub enum ProgramFault {
     /// The sender of that lane has more packets than a lane has room for, which is 1,048,576, or its lane has no end.
     #[error("lane {0}")]
     Lane(u32),
+    /// The monitor of that number read more events than the journal has. It would show a fault of the run itself.
+    #[error("monitor {0}")]
+    Monitor(usize),
 }
 
 impl ProgramFault {
@@ -69,6 +72,7 @@ impl ProgramFault {
             ProgramFault::Memory
             | ProgramFault::Write
             | ProgramFault::Settle
+            | ProgramFault::Monitor(_)
             | ProgramFault::Lane(_) => MACHINE_FAULT,
         }
     }
@@ -131,6 +135,7 @@ impl From<SendersFault> for ProgramFault {
             SendersFault::Memory => ProgramFault::Memory,
             SendersFault::Settle => ProgramFault::Settle,
             SendersFault::Lane(lane) => ProgramFault::Lane(lane),
+            SendersFault::Monitor(monitor) => ProgramFault::Monitor(monitor),
         }
     }
 }

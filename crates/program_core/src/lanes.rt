@@ -1,8 +1,10 @@
 //! The run of a trace by senders that are threads, through lanes into a device.
-ghost use Rattle.std.specs.Prelude.{◌≡◌, ◌≢◌, ◌≤◌, ◌<◌, IfErr, OnErr, OnOk, map, option_map};
+ghost use Rattle.std.specs.Prelude.{◌≡◌, ◌≢◌, ◌⊎◌, ◌≤◌, ◌<◌, ◌↔◌, Err, IfErr, IsErrOf, None, OnErr, OnOk, map, option_map};
 ghost use Rattle.std.specs.Io.KnownBytes.{Appends, Keeps};
+ghost use Rattle.packet_core.specs.Words.{params_of_words};
+ghost use Rattle.command_core.specs.Seeds.{seed_given};
 ghost use Rattle.command_core.specs.declared.command_line.TheConstants.{MAX_MONITORS, MAX_SENDERS};
-ghost use Rattle.program_core.specs.Faults.{IsLanesFault, IsOfWords};
+ghost use Rattle.program_core.specs.Faults.{AreGood, IsLanesFault, IsOfWords};
 ghost use Rattle.program_core.specs.Runs.{IsSendersRunFor};
 ghost use Rattle.program_core.specs.Watched.{TellsSeenOf, TellsSome};
 ghost use Rattle.program_core.specs.declared.faults.ProgramFault.TheVariants as program_fault;
@@ -12,7 +14,7 @@ use crate::faults::ProgramFault;
 use crate::monitors::tell_seen;
 use crate::program_run::seed_given;
 use command_core::{LanesRequest, MAX_MONITORS, MAX_SENDERS};
-use packet_core::read_params;
+use packet_core::{ParamFault, read_params};
 use run_core::run_lanes;
 use std::alloc::Global;
 use std::io::{Read, Write};
@@ -36,9 +38,14 @@ pub fn simulate_lanes<H: Threads + Wait + Sync, R: Read, W: Write, F: Write>(
     ensures journal { OnOk result (IsSendersRunFor AreLanesJournal (option_map (λ s. s.now) request.now.by.run.seed)
         (map (λ w. w.now) request.now.by.run.parameters.items) request.now.by.senders (R.remaining reader.old)
         (λ text. Appends (W.contents writer.old) (W.contents writer.new) text)) }
+    ensures seed { IsErrOf result program_fault.Seed
+        ↔ (seed_given (option_map (λ s. s.now) request.now.by.run.seed) ≡ None) }
+    ensures params { (fault : ParamFault) → IsErrOf result (program_fault.Params fault)
+        ↔ (seed_given (option_map (λ s. s.now) request.now.by.run.seed) ≢ None)
+        × (params_of_words (map (λ w. w.now) request.now.by.run.parameters.items) ≡ Err fault) }
     ensures fault { IfErr result (IsLanesFault (option_map (λ s. s.now) request.now.by.run.seed)
-        (map (λ w. w.now) request.now.by.run.parameters.items) request.now.by.senders (R.remaining reader.old)
-        (W.contents writer.old) (W.contents writer.new)) }
+        (map (λ w. w.now) request.now.by.run.parameters.items) request.now.by.senders request.now.monitors
+        (R.remaining reader.old) (W.contents writer.old) (W.contents writer.new)) }
     ensures untouched { IfErr result (λ fault. (fault ≢ program_fault.Write)
         → Keeps (W.contents writer.old) (W.contents writer.new)) }
     ensures told { OnOk result (TellsSome request.now.monitors (F.contents told.old) (F.contents told.new)) }
@@ -49,6 +56,8 @@ pub fn simulate_lanes<H: Threads + Wait + Sync, R: Read, W: Write, F: Write>(
         × TellsSeenOf request.now.monitors text (F.contents told.old) (F.contents told.new))) }
     ensures untold { OnErr result (Keeps (F.contents told.old) (F.contents told.new)) }
     ensures unread { IfErr result (λ fault. IsOfWords fault → reader.new ≡ reader.old) }
+    ensures reads { AreGood (option_map (λ s. s.now) request.now.by.run.seed)
+        (map (λ w. w.now) request.now.by.run.parameters.items) ⊎ (reader.new ≡ reader.old) }
     ensures quiet { request.now.monitors ≡ 0 → Keeps (F.contents told.old) (F.contents told.new) }
 {
     let run = &request.by.run;

@@ -12,5 +12,5 @@ pub use faults::{ProgramFault, tell};
 pub use lanes::simulate_lanes;
 pub use locked::simulate_locked;
 pub use program_run::program;
-pub use run_core::{Ending, SendersFault, read_on};
+pub use run_core::{Ending, SendersFault, of_journal, read_on};
 pub use sender_core::{lists_of, start_lanes, start_locked};

@@ -1,8 +1,10 @@
 //! The run of a trace by senders that are threads, through a locked port.
-ghost use Rattle.std.specs.Prelude.{◌≡◌, ◌≢◌, ◌≤◌, ◌<◌, IfErr, OnOk, map, option_map};
+ghost use Rattle.std.specs.Prelude.{◌≡◌, ◌≢◌, ◌⊎◌, ◌≤◌, ◌<◌, ◌↔◌, Err, IfErr, IsErrOf, None, OnOk, map, option_map};
 ghost use Rattle.std.specs.Io.KnownBytes.{Appends, Keeps};
+ghost use Rattle.packet_core.specs.Words.{params_of_words};
+ghost use Rattle.command_core.specs.Seeds.{seed_given};
 ghost use Rattle.command_core.specs.declared.command_line.TheConstants.{MAX_SENDERS};
-ghost use Rattle.program_core.specs.Faults.{IsLockedFault, IsOfWords};
+ghost use Rattle.program_core.specs.Faults.{AreGood, IsLockedFault, IsOfWords};
 ghost use Rattle.program_core.specs.Runs.{IsSendersRunFor};
 ghost use Rattle.program_core.specs.declared.faults.ProgramFault.TheVariants as program_fault;
 ghost use Rattle.run_core.specs.Journals.{AreLockedJournal};
@@ -10,7 +12,7 @@ ghost use Rattle.run_core.specs.Journals.{AreLockedJournal};
 use crate::faults::ProgramFault;
 use crate::program_run::seed_given;
 use command_core::{MAX_SENDERS, SendersRequest};
-use packet_core::read_params;
+use packet_core::{ParamFault, read_params};
 use run_core::run_locked;
 use std::alloc::Global;
 use std::io::{Read, Write};
@@ -31,10 +33,17 @@ pub fn simulate_locked<H: Threads + Wait + Sync, R: Read, W: Write>(
     ensures journal { OnOk result (IsSendersRunFor AreLockedJournal (option_map (λ s. s.now) request.now.run.seed)
         (map (λ w. w.now) request.now.run.parameters.items) request.now.senders (R.remaining reader.old)
         (λ text. Appends (W.contents writer.old) (W.contents writer.new) text)) }
+    ensures seed { IsErrOf result program_fault.Seed
+        ↔ (seed_given (option_map (λ s. s.now) request.now.run.seed) ≡ None) }
+    ensures params { (fault : ParamFault) → IsErrOf result (program_fault.Params fault)
+        ↔ (seed_given (option_map (λ s. s.now) request.now.run.seed) ≢ None)
+        × (params_of_words (map (λ w. w.now) request.now.run.parameters.items) ≡ Err fault) }
     ensures fault { IfErr result (IsLockedFault (option_map (λ s. s.now) request.now.run.seed)
         (map (λ w. w.now) request.now.run.parameters.items) request.now.senders (R.remaining reader.old)
         (W.contents writer.old) (W.contents writer.new)) }
     ensures unread { IfErr result (λ fault. IsOfWords fault → reader.new ≡ reader.old) }
+    ensures reads { AreGood (option_map (λ s. s.now) request.now.run.seed)
+        (map (λ w. w.now) request.now.run.parameters.items) ⊎ (reader.new ≡ reader.old) }
     ensures untouched { IfErr result (λ fault. (fault ≢ program_fault.Write)
         → Keeps (W.contents writer.old) (W.contents writer.new)) }
 {

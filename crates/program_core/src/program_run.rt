@@ -1,10 +1,10 @@
 //! The whole program over words and streams: it runs a trace or writes help, and reports a fault with its status.
 
-ghost use Rattle.std.specs.Prelude.{◌≡◌, ◌≢◌, ◌≤◌, ◌↔◌, ℕ, Err, IfErr, IfOk, IsErr, IsErrOf, None, OnErr, OnOk, Some, map, option_map, take};
+ghost use Rattle.std.specs.Prelude.{◌≡◌, ◌≢◌, ◌⊎◌, ◌≤◌, ◌↔◌, ℕ, Err, IfErr, IfOk, IsErr, IsErrOf, None, OnErr, OnOk, Some, map, option_map, take};
 ghost use Rattle.std.specs.Result.{IsOkUnless};
 ghost use Rattle.std.specs.Io.KnownBytes.{Appends, Keeps};
 ghost use Rattle.packet_core.specs.Words.{params_of_words};
-ghost use Rattle.program_core.specs.Faults.{IsFaultOn, IsRunFault, status_of};
+ghost use Rattle.program_core.specs.Faults.{AreGood, AsksForInput, IsFaultOn, IsRunFault, status_of};
 ghost use Rattle.program_core.specs.Runs.{Answers, AnswersWatched, IsRunFor, IsUnwatched};
 ghost use Rattle.command_core.specs.CommandLine.{AsksForLanes};
 ghost use Rattle.command_core.specs.Seeds.{seed_given};
@@ -56,6 +56,9 @@ pub fn program<H: Threads + Wait + Sync, R: Read, W: Write, F: Write>(
         (W.contents writer.old) (W.contents writer.new) fault
         × (result ≡ status_of fault) }
 
+    // Nothing is read, unless the words ask for a run with a good seed and good parameters: help doesn't wait for input.
+    ensures unread { AsksForInput (map (λ w. w.now) words.now) ⊎ (reader.new ≡ reader.old) }
+
     // With the status 2, where something that was given is wrong, nothing was written.
     ensures input_fault { result ≡ 2 → Keeps (W.contents writer.old) (W.contents writer.new) }
     ensures range { result ≤ 2 }
@@ -81,6 +84,7 @@ fn answer<H: Threads + Wait + Sync, R: Read, W: Write, F: Write>(
         (W.contents writer.old) (W.contents writer.new)) }
     ensures untouched { IfErr result (λ fault. (fault ≢ program_fault.Write)
         → Keeps (W.contents writer.old) (W.contents writer.new)) }
+    ensures unread { AsksForInput (map (λ w. w.now) words.now) ⊎ (reader.new ≡ reader.old) }
     ensures quiet { OnOk result (IsUnwatched (map (λ w. w.now) words.now)
         → Keeps (F.contents told.old) (F.contents told.new)) }
     ensures told { OnOk result (AsksForLanes (map (λ w. w.now) words.now)
@@ -126,6 +130,8 @@ fn simulate<R: Read, W: Write>(
         × (params_of_words (map (λ w. w.now) parameters.now) ≡ Err fault) }
     ensures fault { IfErr result (IsRunFault (option_map (λ s. s.now) seed.entry) (map (λ w. w.now) parameters.now)
         (R.remaining reader.old) (W.contents writer.old) (W.contents writer.new)) }
+    ensures reads { AreGood (option_map (λ s. s.now) seed.entry) (map (λ w. w.now) parameters.now)
+        ⊎ (reader.new ≡ reader.old) }
     ensures front { result ≡ Err program_fault.Write
         → IsRunFor (option_map (λ s. s.now) seed.entry) (map (λ w. w.now) parameters.now) (R.remaining reader.old)
         (λ text. (count : ℕ) × Appends (W.contents writer.old) (W.contents writer.new) (take count text)) }

@@ -32,7 +32,7 @@ use Rattle.sender_core.proofs.SenderLemmas.{member}
 use Rattle.sender_core.specs.Senders.{AreCalls, IsHeldUp, IsLaneDone, calls_of}
 use Rattle.run_core.specs.Journals.{AreLaneRows, AreLanesJournal, IsLaneRow, IsSameDevice, IsSent, submitted_of}
 use Rattle.run_core.specs.LaneRooms.{AreLanesFor, capacity_for}
-use Rattle.run_core.specs.SendersFaults.{IsEndingFault, IsLanesRunFault}
+use Rattle.run_core.specs.SendersFaults.{IsDeviceFault, IsEndingFault}
 use Rattle.run_core.specs.declared.senders_fault.SendersFault.{SendersFault}
 
 -- what follows from what holds where there is no fault
@@ -378,8 +378,8 @@ lanes_journal p seed n steps calls lists engine rows are listed told params_are 
     as_many : length lists ≡ n
     as_many = lists_number p seed n steps calls lists are listed
 
--- a fault of the end of a run is one of the run
-pub some_fault : (done : List LaneDone) (n : ℕ) (fault : SendersFault) → length done ≡ n → IsEndingFault done fault → IsLanesRunFault n fault
+-- a fault of the end of a run is one of the device's part
+pub some_fault : (done : List LaneDone) (n : ℕ) (fault : SendersFault) → length done ≡ n → IsEndingFault done fault → IsDeviceFault n fault
 some_fault done n fault number is = ⊎_elim (λ memory. inl memory)
     (λ t. inr (t.0, omega (arith, t.1, number), (t.2 (member done t.0 t.1)).is))
     is

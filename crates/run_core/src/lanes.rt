@@ -1,5 +1,5 @@
 //! The run of steps by senders that are threads, through lanes into a device.
-ghost use Rattle.std.specs.Prelude.{◌≡◌, ◌≢◌, ◌≤◌, ◌<◌, ◌-◌, ◌++◌, ◌⊎◌, [], ℕ, All, IfErr, IfOk, IsOk, None, OnErr, OnOk, false, length, max, slice_index_or, true};
+ghost use Rattle.std.specs.Prelude.{◌≡◌, ◌≢◌, ◌≤◌, ◌<◌, ◌-◌, ◌++◌, ◌⊎◌, [], ℕ, All, IfErr, IfOk, IsOk, None, OnErr, OnOk, false, length, map, max, slice_index_or, true};
 ghost use denote.Param.Send.{IsSync};
 ghost use Rattle.journal_core.specs.declared.step.Step.TheVariants.{Dequeue};
 ghost use Rattle.journal_core.specs.State.{IsRefusal};
@@ -12,7 +12,7 @@ ghost use Rattle.run_core.specs.DeviceRuns.{Dequeues, EmptiesLane, EndsRun, Fini
 ghost use Rattle.run_core.specs.Journals.{AreLaneRows, AreLanesJournal, FitsLane, IsLaneRow, IsLanesRunOf, IsSameDevice, ShowsAll, ShowsRow, submitted_of};
 ghost use Rattle.run_core.specs.LaneRooms.{AreLanesFor, IsTooLong, capacity_for};
 ghost use Rattle.run_core.specs.Seeing.{AreTotalsOf, IsSeenOf};
-ghost use Rattle.run_core.specs.SendersFaults.{IsEndingFault, IsEndless, IsLanesRunFault};
+ghost use Rattle.run_core.specs.SendersFaults.{IsDeviceFault, IsEndingFault, IsEndless, IsLanesRunFault, IsWatchingFault};
 ghost use Rattle.run_core.specs.declared.senders_fault.SendersFault.TheVariants as senders_fault;
 
 use crate::monitors::{read_all, seen_of_journal};
@@ -49,7 +49,7 @@ pub fn run_lanes<H: Threads + Wait + Sync>(
         r.0.sched.standing.events r.1.items) }
     ensures seen { IfOk result (λ r. (length r.2.items ≡ monitors)
         × All (IsSeenOf r.0.sched.standing.events) r.2.items) }
-    ensures fault { IfErr result (IsLanesRunFault senders) }
+    ensures fault { IfErr result (IsLanesRunFault senders monitors) }
 {
     let calls = lists_of(alloc, &params, &seed, senders, steps)?;
     let lists = packets_of(alloc, &calls)?;
@@ -73,7 +73,7 @@ fn capacity_of(lists: &[Vec<Packet>]) -> Result<u32, SendersFault>
     ensures ok { IfOk result (λ capacity. (0 < capacity) × (capacity ≤ MAX_CAPACITY)) }
     ensures room { IfOk result (λ capacity. capacity ≡ capacity_for lists.now) }
     ensures too_long { IfErr result (IsTooLong lists.now) }
-    ensures fault { IfErr result (IsLanesRunFault (length lists.now)) }
+    ensures fault { IfErr result (IsDeviceFault (length lists.now)) }
 {
     let mut capacity = 1;
     for lane in 0..lists.len() {
@@ -109,7 +109,7 @@ fn run_in_book<J: BookName + Send + Sync, H: Threads + Wait + Sync>(
     ensures none_left { IfOk result (λ r. has_close steps.now ≡ false → All (λ row. row.left ≡ 0) r.1.items) }
     ensures seen { IfOk result (λ r. (length r.2.items ≡ layout.monitors)
         × All (IsSeenOf r.0.sched.standing.events) r.2.items) }
-    ensures fault { IfErr result (IsLanesRunFault (length lists.now)) }
+    ensures fault { IfErr result (IsLanesRunFault (length lists.now) layout.monitors) }
 {
     let (events, made) = stores(alloc, Expected::of(steps));
     let opened = lanes_with_recorders::<J, _, _, _>(
@@ -141,7 +141,7 @@ fn run_opened<
         → All (λ row. row.left ≡ 0) r.1.items) }
     ensures seen { IfOk result (λ r. (length r.2.items ≡ length opened.monitors.items)
         × All (IsSeenOf r.0.sched.standing.events) r.2.items) }
-    ensures fault { IfErr result (IsLanesRunFault (length lists.now)) }
+    ensures fault { IfErr result (IsLanesRunFault (length lists.now) (length opened.monitors.items)) }
 {
     let Opened {
         senders,
@@ -174,7 +174,7 @@ fn run_watched<
     ensures made { IfOk result (λ r. IsLanesRunOf device steps.now lists.now r.0 r.1.items) }
     ensures seen { IfOk result (λ r. (length r.2.items ≡ length monitors.items)
         × All (IsSeenOf r.0.sched.standing.events) r.2.items) }
-    ensures fault { IfErr result (IsLanesRunFault (length lists.now)) }
+    ensures fault { IfErr result (IsLanesRunFault (length lists.now) (length monitors.items)) }
 {
     let ended = AtomicBool::new(false);
     let over = &ended;
@@ -183,7 +183,7 @@ fn run_watched<
             × (length lists.now ≤ MAX_SENDERS) }
         ensures { IfOk result (λ r. IsLanesRunOf device steps.entry.now lists.entry.now r.0.engine r.1.items
             × (0 < readers → ShowsAll r.0))
-            × IfErr result (IsLanesRunFault (length lists.entry.now)) }
+            × IfErr result (IsDeviceFault (length lists.entry.now)) }
     {
         let made = run_device(rt, alloc, senders, device, steps, lists, readers);
         over.store(true, Ordering::SeqCst);
@@ -207,21 +207,19 @@ fn seen_of<J: BookName, X: Screen<Shown<J>> + Drop>(
     alloc: Global,
     device: &Device<J, X>,
     read: Vec<(Monitor<J>, Seen)>,
-) -> Result<Vec<Seen>, AllocError>
+) -> Result<Vec<Seen>, SendersFault>
     requires saw { All (λ r. AreTotalsOf r.0 r.1) read.items }
     requires shown { 0 < length read.items → ShowsAll device.now }
     ensures number { IfOk result (λ seen. length seen.items ≡ length read.items) }
+    ensures read { IfOk result (λ seen. seen.items ≡ map (λ r. r.1) read.items) }
     ensures each { IfOk result (λ seen. All (IsSeenOf device.now.engine.sched.standing.events) seen.items) }
+    ensures fault { IfErr result (IsWatchingFault device.now.engine.sched.standing.events
+        (map (λ r. r.1) read.items)) }
 {
     if read.is_empty() {
         return Ok(Vec::new(alloc));
     }
-    let receipt = device.receipt();
-    let whole = Seen {
-        events: receipt.events(),
-        totals: device.engine().totals(),
-    };
-    seen_of_journal(alloc, read, &receipt, whole)
+    seen_of_journal(alloc, read, &device.receipt())
 }
 
 /// Has the packets of each list sent to its lane by a thread of its own and the other steps made by this one, and gives
@@ -240,7 +238,7 @@ fn run_device<J: BookName, X: Screen<Shown<J>> + Drop, H: Threads + Sync>(
     requires number { length lists.now ≤ MAX_SENDERS }
     ensures made { IfOk result (λ r. IsLanesRunOf device steps.now lists.now r.0.engine r.1.items) }
     ensures shown { 0 < readers → IfOk result (λ r. ShowsAll r.0) }
-    ensures fault { IfErr result (IsLanesRunFault (length lists.now)) }
+    ensures fault { IfErr result (IsDeviceFault (length lists.now)) }
 {
     let gates = vec![in alloc; Open; lists.len()]?;
     let part = move || -> Result<Device<J, X>, SendersFault>

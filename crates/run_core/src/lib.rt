@@ -10,5 +10,5 @@ mod senders_fault;
 
 pub use lanes::run_lanes;
 pub use locked::run_locked;
-pub use monitors::{Ending, read_on};
+pub use monitors::{Ending, of_journal, read_on};
 pub use senders_fault::SendersFault;

@@ -1,7 +1,11 @@
 //! The monitors of a run: threads that read its statistics while it lasts.
-ghost use Rattle.std.specs.Prelude.{◌≡◌, ℕ, All, IfOk, IsTrue, length};
+ghost use Rattle.std.specs.Prelude.{◌≡◌, ◌<◌, ◌↔◌, All, IfErr, IfOk, IsErr, IsTrue, length, map};
+ghost use Rattle.std.specs.Result.{IsOkUnless};
 ghost use Rattle.run_core.specs.Seeing.{AreTotalsOf, IsSeen, IsSeenOf};
+ghost use Rattle.run_core.specs.SendersFaults.{IsWatchingFault};
+ghost use Rattle.run_core.specs.declared.senders_fault.SendersFault.TheVariants as senders_fault;
 
+use crate::senders_fault::SendersFault;
 use port_core::{BookName, Monitor, Receipt, Seen};
 use std::alloc::{AllocError, Global};
 use std::marker::{Send, Sync};
@@ -72,44 +76,46 @@ fn read_until<J: BookName, H: Wait, E: Ending>(
     unreachable!()
 }
 
-/// What each of them saw of the journal that the receipt stands for, of which `whole` has the statistics.
+/// What each of them read last, of the journal that the receipt stands for. A monitor that read more is a fault.
 pub(crate) fn seen_of_journal<J: BookName>(
     alloc: Global,
     read: Vec<(Monitor<J>, Seen)>,
     receipt: &Receipt<J>,
-    whole: Seen,
-) -> Result<Vec<Seen>, AllocError>
-    requires saw { All (λ r. AreTotalsOf r.0 r.1) read.items }
-    requires whole { AreTotalsOf receipt.now whole }
+) -> Result<Vec<Seen>, SendersFault>
+    requires { All (λ r. AreTotalsOf r.0 r.1) read.items }
     ensures number { IfOk result (λ seen. length seen.items ≡ length read.items) }
+    ensures read { IfOk result (λ seen. seen.items ≡ map (λ r. r.1) read.items) }
     ensures each { IfOk result (λ seen. All (IsSeenOf receipt.now) seen.items) }
+    ensures fault { IfErr result (IsWatchingFault receipt.now (map (λ r. r.1) read.items)) }
 {
     let mut seen = Vec::new(alloc);
     for one in read {
         let (monitor, last) = one;
-        seen.push(of_journal(monitor, last, receipt, whole))?;
+        seen.push(of_journal(seen.len(), monitor, last, receipt)?)?;
     }
     Ok(seen)
 }
 
-/// What a monitor saw last, of the journal that the receipt stands for, of which `whole` has the statistics.
-fn of_journal<J: BookName>(
+/// What the monitor of that number read last, where it is of the journal that the receipt stands for. It fails where
+/// the monitor read more events than the journal has. Nobody published more, but that stands in no contract of another
+/// thread.
+pub fn of_journal<J: BookName>(
+    number: usize,
     monitor: Monitor<J>,
     last: Seen,
     receipt: &Receipt<J>,
-    whole: Seen,
-) -> Seen
-    requires saw { AreTotalsOf monitor last }
-    requires whole { AreTotalsOf receipt.now whole }
-    ensures { IsSeenOf receipt.now result }
+) -> Result<Seen, SendersFault>
+    requires { AreTotalsOf monitor last }
+    ensures read { IfOk result (λ seen. seen ≡ last) }
+    ensures seen { IfOk result (IsSeenOf receipt.now) }
+    ensures more { IsErr result ↔ (length receipt.now < last.events) }
+    ensures fault { IsOkUnless result (senders_fault.Monitor number) }
 {
-    let mut monitor = monitor;
-    // From here on what it saw and the journal are beginnings of one list.
-    monitor.learn(receipt);
-    // Nobody published more than the journal. That stands in no contract of another thread.
-    if last.events <= whole.events {
-        last
-    } else {
-        whole
+    if last.events > receipt.events() {
+        return Err(SendersFault::Monitor(number));
     }
+    let mut monitor = monitor;
+    // From here on what it read and the journal are beginnings of one list.
+    monitor.learn(receipt);
+    Ok(last)
 }

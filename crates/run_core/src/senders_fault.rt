@@ -16,6 +16,8 @@ pub enum SendersFault {
     Settle,
     /// The sender of that lane has more packets than a lane has room for, which is 1,048,576, or its lane has no end.
     Lane(u32),
+    /// The monitor of that number read more events than the journal has. It would show a fault of the run itself.
+    Monitor(usize),
 }
 
 /// Why a call of the locked port or of the device is refused, where it isn't for a second close: the moments of a trace

@@ -470,7 +470,7 @@ pub kept_made_for : (limit : ℕ) {p : ParamFields} {held held' : Held} {book bo
     → IsMadeFor limit book.made_for → IsMadeFor limit book'.made_for
 kept_made_for limit s h =
     let same = ap (λ (b : Book). b.made_for) s.answered.journal in
-    λ some. same ∙ h (omega (arith, some, same))
+    λ some. omega (arith, same, h (omega (arith, some, same)))
 
 -- what a scheduler's invariant says of the scheduler as callers see it
 pub seen_laws : {K : Type 0} (s : Inside K) (v : Scheduler) → scheduler_of s ≡ v → IsSchedulerKept s → JournalLaws (discipline_of v).flow_of v.standing.events

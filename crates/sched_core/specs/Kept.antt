@@ -61,7 +61,8 @@ pub record IsBookKept (p : ParamFields) (seed : Seed) (s : State FairQueues) (ca
   pub counts : AreCounts book.counts book.events
   pub credits : AreCreditsKept p.quantum (longest (acceptances book.events)) s.queues
 
--- What holds of a scheduler's fields. A recorder that says for how many packets it was made says `limit` and one more.
+-- What holds of a scheduler's fields. A recorder that says for how many packets it was made says `limit` and one more at
+-- least.
 pub record IsSchedulerKept {K : Type 0} (s : Inside K) : Type 0 where
   pub book :
       IsBookKept s.params s.seed ((scheduler_of s).standing.state) s.fair_queue.capacity s.journal

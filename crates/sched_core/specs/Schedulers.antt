@@ -47,9 +47,9 @@ discipline_of s = fq_codel s.params s.seed
 abbrev pub flows_of : Scheduler → FairQueues
 flows_of s = s.standing.state.queues
 
--- Where a recorder says for how many packets it was made, that is for `limit` and one more.
+-- Where a recorder says for how many packets it was made, that is for `limit` and one more, or for more than these.
 abbrev pub IsMadeFor : ℕ → ℕ → Type 0
-IsMadeFor limit made_for = 0 < made_for → made_for ≡ limit + 1
+IsMadeFor limit made_for = 0 < made_for → limit + 1 ≤ made_for
 
 -- A step is made that is no dequeue. What the scheduler was made with stays, and so do the turns of the last dequeue
 -- and the memory that there is.

@@ -16,6 +16,7 @@ use std::marker::Model;
 /// A scheduler that keeps the list of its steps. At every moment it is the run of those steps with the parameters and
 /// the seed that it was made with: whoever has the three has the whole of it again. It tells its steps to a recorder,
 /// as its journal tells another what becomes of packets; both store all that they are told unless others are chosen.
+/// What the calls say of memory leaves out what the recorder of events takes as it is told one.
 #[derive(Debug, Drop)]
 pub struct Engine<K: Recorder = EventList, S: StepRecorder = StepList> {
     sched: Sched<K>,
@@ -50,7 +51,7 @@ impl<K: Recorder, S: StepRecorder> Engine<K, S> {
     ghost use Rattle.journal_core.specs.declared.outcome.Answer.TheVariants as answer;
 
     /// An engine before its first step, over recorders of events and of steps that were told none. Where the one of
-    /// events says for how many packets it was made, that has to be for `limit` and one more.
+    /// events says for how many packets it was made, these have to be `limit` and one more, or more than that.
     pub fn try_with_recorders(
         alloc: Global,
         params: Params,

@@ -52,7 +52,8 @@ fn sent_of(served: &Served, moment: u64) -> Sent
 }
 
 /// A packet scheduler by FQ-CoDel (RFC 8290), with the journal of what became of every packet. A recorder is told each
-/// fate, and stores all of them unless another is chosen.
+/// fate, and stores all of them unless another is chosen. What the calls say of memory leaves out what a recorder takes
+/// as it is told an event: those of `journal_core` take none.
 #[derive(Debug, Drop)]
 pub struct Sched<K: Recorder = EventList> {
     params: Params,
@@ -93,8 +94,8 @@ impl<K: Recorder> Sched<K> {
     ghost use Rattle.journal_core.specs.declared.step.Step.TheVariants.{Enqueue, Dequeue, Close};
 
     /// A scheduler before its first step, over a recorder that was told nothing. Where the recorder says for how many
-    /// packets it was made, that has to be for `limit` and one more. Room for the close, for both lists of flows, for
-    /// the credits, for CoDel's states and for flow numbers is taken here.
+    /// packets it was made, these have to be `limit` and one more, or more than that. Room for the close, for both lists
+    /// of flows, for the credits, for CoDel's states and for flow numbers is taken here.
     pub fn try_with_recorder(
         alloc: Global,
         params: Params,
@@ -138,7 +139,8 @@ impl<K: Recorder> Sched<K> {
             .reserve(enqueues, &mut self.fair_queue, &mut self.journal)
     }
 
-    /// How many enqueues are reserved: the next ones that are accepted, so many, take no memory.
+    /// How many enqueues are reserved: the next ones that are accepted, so many, take no memory beyond what the recorder
+    /// takes.
     #[inline(always)]
     pub fn room(&self) -> u64
         ensures value { result ≡ self.now.room }
@@ -222,8 +224,8 @@ impl<K: Recorder> Sched<K> {
 
     /// Gives the packet that is next in turn, or nothing where none waits, at a moment in microseconds (RFC 8290,
     /// section 4.2). CoDel may drop packets before it, or mark it (RFC 8289, section 5), and one that CoDel doesn't
-    /// mark may be marked for the threshold (RFC 8290, section 5.2.7). It takes no memory. It refuses a moment of
-    /// 2^60 or more or before the last one.
+    /// mark may be marked for the threshold (RFC 8290, section 5.2.7). It takes no memory beyond what its recorder
+    /// takes. It refuses a moment of 2^60 or more or before the last one.
     // Merged into its callers, as all that most packets pass through is: the packet is then copied once, from its slot
     // to where the caller wants it, and only the parts that the caller reads.
     #[inline(always)]
@@ -259,8 +261,8 @@ impl<K: Recorder> Sched<K> {
         Some(sent)
     }
 
-    /// From here on nothing is accepted; dequeues go on. The moment is in microseconds. It takes no memory. It
-    /// refuses a moment of 2^60 or more or before the last one, then a second close.
+    /// From here on nothing is accepted; dequeues go on. The moment is in microseconds. It takes no memory beyond what
+    /// its recorder takes. It refuses a moment of 2^60 or more or before the last one, then a second close.
     pub fn close(&mut self, moment: u64) -> Result<(), CloseFault>
         ensures made { OnOk result (IsAdvanced self.old (Close moment) answer.Closed self.new) }
         ensures room { self.new.room ≡ self.old.room }

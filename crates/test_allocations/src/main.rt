@@ -38,7 +38,7 @@ const REFUSED: u32 = 1_000;
 const ALL: &str = "all";
 
 /// The names of the sequences.
-const SEQUENCES: [&str; 22] = [
+const SEQUENCES: [&str; 23] = [
     "flows",
     "sched",
     "engine",
@@ -54,6 +54,7 @@ const SEQUENCES: [&str; 22] = [
     "trace",
     "journal",
     "gathered",
+    "tallied",
     "lists",
     "run_closed",
     "run_dequeues",
@@ -167,6 +168,7 @@ fn make<H: Print + Threads + Wait + Sync>(
         "trace" => traces::trace(values, calls),
         "journal" => traces::journal(values, calls),
         "gathered" => recorders::gathered(values, calls),
+        "tallied" => recorders::tallied(values, calls),
         "lists" => runs::lists(values, calls),
         "run_closed" => runs::closed(rt, values, calls),
         "run_dequeues" => runs::dequeues(rt, values, calls),

@@ -1,11 +1,15 @@
-//! Recorders: memory for what they will be told, and one that makes packets of events.
+//! Recorders: memory for what they will be told, one that makes packets of events, and a tally beside one.
 
-ghost use Rattle.std.specs.Prelude.{◌≡◌, ◌-◌, ◌<◌, ◌≤◌, true};
+ghost use Rattle.std.specs.Prelude.{◌≡◌, ◌-◌, ◌<◌, ◌≤◌, ◌∷◌, [], IfSome, true};
+ghost use Rattle.journal_core.specs.Happened.{Acceptance};
+ghost use Rattle.journal_core.specs.Tallies.{HasSeen, tuple_of};
+ghost use Rattle.journal_core.specs.declared.event.Event.TheVariants.{Accepted};
 
 use crate::calls::Calls;
-use crate::values::Values;
+use crate::quiet::allocate;
+use crate::values::{SEED, Values};
 use codel_core::Served;
-use journal_core::{Mark, Recorder, StepRecorder};
+use journal_core::{Mark, Noted, Recorder, StepRecorder, Tally};
 use link_report::Gathered;
 use packet_core::{Ecn, Packet, Seed, Waiting};
 use test_support::tuple;
@@ -55,7 +59,11 @@ fn tell_next(gathered: &mut Gathered, packet: Packet)
 }
 
 /// The packet, as it waits since moment 1.
-fn waiting(id: u64, packet: Packet) -> Waiting {
+fn waiting(id: u64, packet: Packet) -> Waiting
+    ensures id { result.id ≡ id }
+    ensures stamp { result.stamp ≡ 1 }
+    ensures packet { result.packet ≡ packet }
+{
     Waiting {
         id,
         stamp: 1,
@@ -102,4 +110,53 @@ fn has_all(gathered: &Gathered) -> bool {
         }
         None => false,
     }
+}
+
+/// A packet comes to a tally and to a recorder of notes. What memory its row needs is taken then, so the rows take none.
+pub(crate) fn tallied(values: &Values, calls: &mut Calls<'_>) {
+    let Some(tally) = tally_of(values, calls) else {
+        return;
+    };
+    let Some(noted) = note_of(values, calls) else {
+        return;
+    };
+    let rows = tally.rows(&noted);
+    let is_right = match rows.first() {
+        Some(row) => rows.len() == 1 && row.accepted == 1 && row.queued == 1,
+        None => false,
+    };
+    calls.wanted(is_right, "Tally::rows");
+    allocate(values.alloc, calls);
+}
+
+/// A tally of the packet, in flow 0. Where memory is refused, the packet comes once more.
+fn tally_of(values: &Values, calls: &mut Calls<'_>) -> Option<Tally>
+    ensures { IfSome result (λ tally. (a : Acceptance) → tuple_of a ≡ values.now.packet.tuple → a.flow ≡ 0
+        → HasSeen tally (a ∷ [])) }
+{
+    let tuple = values.packet.tuple();
+    let mut tally = Tally::new(values.alloc, &SEED);
+    match tally.accept(tuple, 0) {
+        Ok(()) => return Some(tally),
+        Err(_) => calls.note(),
+    }
+    match tally.accept(tuple, 0) {
+        Ok(()) => Some(tally),
+        Err(_) => {
+            calls.wanted(false, "Tally::accept");
+            None
+        }
+    }
+}
+
+/// A note of the packet.
+fn note_of(values: &Values, calls: &mut Calls<'_>) -> Option<Noted>
+    ensures { IfSome result (λ noted. noted.events ≡ Accepted 0 0 1 0 values.now.packet ∷ []) }
+{
+    let mut noted = Noted::new(values.alloc);
+    if !take(&mut noted, 1, calls) {
+        return None;
+    }
+    noted.accept(&waiting(0, values.packet), 0, 0);
+    Some(noted)
 }

@@ -1,8 +1,8 @@
 //! Arrivals, links and what the tests read of runs. Where a step fails the test ends there.
 
-use link_core::{Arrival, Link, LinkFields, run_fifo, run_link};
+use link_core::{Arrival, Link, LinkFields, run_fifo, run_fifo_to_end, run_link, run_link_to_end};
 use packet_core::{Ecn, Packet, ParamFields, Params};
-use sched_core::{Cause, Event, Step};
+use sched_core::{Cause, Event, NullRecorder, Step};
 use std::process::Abort;
 use test_support::{SEED, tuple};
 
@@ -93,4 +93,41 @@ pub(crate) fn fifo_gives<R: Abort + AllocGlobal>(
     assert!(rt; Arrival::may_come(arrivals));
     let events = run_fifo(rt.alloc(), params, SEED, &link, arrivals).expect(rt, "memory");
     assert_eq!(rt; fates_in(rt, &events).as_slice(), fates);
+}
+
+/// The link has sent its last packet whole at that moment.
+pub(crate) fn link_ends_at<R: Abort + AllocGlobal>(
+    rt: &R,
+    fields: LinkFields,
+    params: ParamFields,
+    arrivals: &[Arrival],
+    moment: u64,
+) {
+    let link = Link::try_new(fields).ok().expect(rt, "a link");
+    let params = Params::try_new(params).ok().expect(rt, "parameters");
+    assert!(rt; Arrival::may_come(arrivals));
+    let (events, steps) = (NullRecorder::new(), NullRecorder::new());
+    let (_, end) = run_link_to_end(rt.alloc(), params, SEED, &link, arrivals, events, steps).expect(
+        rt, "memory",
+    );
+    assert_eq!(rt; end, moment);
+}
+
+/// The same over FQ-CoDel and over a plain queue.
+pub(crate) fn ends_at<R: Abort + AllocGlobal>(
+    rt: &R,
+    fields: LinkFields,
+    params: ParamFields,
+    arrivals: &[Arrival],
+    moment: u64,
+) {
+    link_ends_at(rt, fields, params, arrivals, moment);
+    let link = Link::try_new(fields).ok().expect(rt, "a link");
+    let params = Params::try_new(params).ok().expect(rt, "parameters");
+    assert!(rt; Arrival::may_come(arrivals));
+    let events = NullRecorder::new();
+    let (_, end) = run_fifo_to_end(rt.alloc(), params, SEED, &link, arrivals, events).expect(
+        rt, "memory",
+    );
+    assert_eq!(rt; end, moment);
 }

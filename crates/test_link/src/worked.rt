@@ -2,8 +2,9 @@
 //! 1,211.2 us, one of 214 bytes 171.2 us.
 
 use crate::runs::Fate::{Overflow, Sent};
-use crate::runs::{arrival, fifo_gives, link_asks, plain};
+use crate::runs::{arrival, ends_at, fifo_gives, link_asks, link_ends_at, plain};
 use link_core::{Arrival, LinkFields};
+use packet_core::ParamFields;
 use std::process::Abort;
 use test_support::by_port;
 
@@ -154,4 +155,48 @@ fn room_for_none(rt: HostRuntime) {
 fn nothing_comes(rt: HostRuntime) {
     link_asks(&rt, plain(1_000), by_port(1), &[], &[], &[]);
     fifo_gives(&rt, plain(1_000), by_port(1), &[], &[]);
+}
+
+/// The last packet starts at 9,000 and takes 171.2 us: it is sent at 9,171.2.
+#[test]
+fn the_end_of_the_last_packet(rt: HostRuntime) {
+    ends_at(&rt, plain(10_000_000), by_port(1_024), &example(&rt), 9_172);
+}
+
+/// Three packets of 1,500 bytes at 20 Mbit/s take 600 us each, one after another. A rate up to the last start, at 1,200, would
+/// be 30 Mbit/s.
+#[test]
+fn the_end_of_packets_that_wait(rt: HostRuntime) {
+    let all = [
+        arrival(&rt, 0, 443, 1_500),
+        arrival(&rt, 0, 443, 1_500),
+        arrival(&rt, 0, 443, 1_500),
+    ];
+    ends_at(&rt, plain(20_000_000), by_port(1_024), &all, 1_800);
+}
+
+/// 100 bytes at 7 Mbit/s take 800/7 us. Three in a row end at 342.86 us, and one that comes at 400 at 514.29. Where none came,
+/// none is sent.
+#[test]
+fn the_end_is_rounded_up_once(rt: HostRuntime) {
+    let all = [
+        arrival(&rt, 0, 443, 100),
+        arrival(&rt, 0, 443, 100),
+        arrival(&rt, 0, 443, 100),
+        arrival(&rt, 400, 443, 100),
+    ];
+    ends_at(&rt, plain(7_000_000), by_port(1_024), &all[..3], 343);
+    ends_at(&rt, plain(7_000_000), by_port(1_024), &all, 515);
+    ends_at(&rt, plain(7_000_000), by_port(1_024), &[], 0);
+}
+
+/// A packet above `memory_limit` comes to an idle link and is dropped at 500. The one before it is sent at 80 us.
+#[test]
+fn the_end_before_a_drop(rt: HostRuntime) {
+    let all = [arrival(&rt, 0, 443, 100), arrival(&rt, 500, 443, 1_000)];
+    let params = ParamFields {
+        memory_limit: Some(500),
+        ..by_port(1_024)
+    };
+    link_ends_at(&rt, plain(10_000_000), params, &all, 80);
 }

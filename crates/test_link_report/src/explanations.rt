@@ -1,7 +1,8 @@
 //! The two lines of each fault: one for programs, and one that says what was found and what is wanted.
 
 use crate::calls::called;
-use link_command::{Terminals, program};
+use link_command::{FieldName, Found, ProgramFault, RowFault, Terminals, program, tell};
+use row_core::{MAX_BYTES, TraceFaultKind};
 use std::io::{self, ErrorKind, Read};
 use std::process::Abort;
 
@@ -60,8 +61,8 @@ fn control_characters_of_mistakes_are_numbers(rt: HostRuntime) {
     let table: [(&[&str], &str); 2] = [
         (
             &["--rate", "1mbit", "--\u{1b}[2Jred"],
-            "error: unexpected argument '--\\u{1b}[2Jred' found\n\n  tip: to pass '--\\u{1b}[2Jred' as a value, \
-use '-- --\\u{1b}[2Jred'\n\nUsage: maltlink --rate <RATE> [PARAM]...\n\nFor more information, try '--help'.\n",
+            "error: unexpected argument '--\\u{1b}[2Jred' found\n  \"--\\u{1b}[2Jred\": no option has that name \
+('maltlink --help' lists them)\n\nUsage: maltlink --rate <RATE> [PARAM]...\n\nFor more information, try '--help'.\n",
         ),
         (
             &["--rate", "1mbit", "--write", "a\nb\u{7}\rc\u{7f}\u{9b}31m"],
@@ -120,6 +121,260 @@ fields; wanted is enq,MOMENT,PROTO,SRC,DST,SPORT,DPORT,LEN,ECN\n",
     for (input, wanted) in table {
         refuses(&rt, &["--rate", "10mbit"], input, wanted);
     }
+}
+
+/// A word with a dash that is no option: a parameter, the value of a parameter or of an option, or none of these. What
+/// `clap` says of a name that is nearly right stays.
+#[test]
+fn words_with_dashes_are_explained(rt: HostRuntime) {
+    let one =
+        "\n\nUsage: maltlink --rate <RATE> [PARAM]...\n\nFor more information, try '--help'.\n";
+    let any =
+        "\n\nUsage: maltlink [OPTIONS] --rate <RATE> [PARAM]...\n\nFor more information, try '--help'.\n";
+    let table: [(&[&str], &str, &str, &str); 9] = [
+        (
+            &["--rate", "1mbit", "--limit", "200"],
+            "'--limit'",
+            "  \"--limit\": a parameter is written without dashes, as in 'limit 10240'",
+            one,
+        ),
+        (
+            &["--rate", "1mbit", "--noecn"],
+            "'--noecn'",
+            "  \"--noecn\": a parameter is written without dashes, as in 'noecn'",
+            one,
+        ),
+        (
+            &["--rate", "1mbit", "limit", "-5"],
+            "'-5'",
+            "  limit \"-5\": wanted is a value without a sign, as in 'limit 10240'",
+            any,
+        ),
+        (
+            &["--rate", "1mbit", "--overhead", "-14"],
+            "'-1'",
+            "  --overhead \"-14\": wanted is a number from 0 to 1000, in bytes",
+            any,
+        ),
+        (
+            &["--rate", "-20mbit"],
+            "'-2'",
+            "  --rate \"-20mbit\": wanted is 1000bit to 1tbit, as in 10mbit or 1250kbps",
+            any,
+        ),
+        (
+            &["--rate", "1mbit", "--seed", "-1"],
+            "'-1'",
+            "  --seed \"-1\": wanted is 32 hexadecimal digits",
+            any,
+        ),
+        (
+            &["--rate", "1mbit", "--write", "-f"],
+            "'-f'",
+            "  --write \"-f\": wanted is one of those that 'maltlink --help' lists",
+            any,
+        ),
+        (
+            &["--rate", "1mbit", "ecn", "-x"],
+            "'-x'",
+            "  \"-x\": no option has that name ('maltlink --help' lists them)",
+            any,
+        ),
+        (
+            &["--rate", "1mbit", "--rates", "3"],
+            "'--rates'",
+            "\n  tip: a similar argument exists: '--rate'",
+            one,
+        ),
+    ];
+    for (words, found, line, rest) in table {
+        let wanted = format!(in rt.alloc();
+            "error: unexpected argument {found} found\n{line}{rest}"
+        );
+        refuses(&rt, words, "", wanted.expect(&rt, "memory").as_str());
+    }
+}
+
+/// A word that is no parameter, as a file's name is, and values in forms that aren't read.
+#[test]
+fn words_that_are_no_parameters(rt: HostRuntime) {
+    let table: [(&[&str], &str); 4] = [
+        (
+            &["--rate", "1mbit", "arrivals.csv"],
+            "maltlink: parameter word 1: UnknownWord\n  \"arrivals.csv\": no parameter has that name; rows are read from \
+standard input, as in 'maltlink .. < FILE'\n",
+        ),
+        (
+            &["--rate", "1mbit", "ecn", "/tmp/arrivals"],
+            "maltlink: parameter word 2: UnknownWord\n  \"/tmp/arrivals\": no parameter has that name; rows are read from \
+standard input, as in 'maltlink .. < FILE'\n",
+        ),
+        (
+            &["--rate", "1mbit", "limit", "10,240"],
+            "maltlink: parameter word 2: NotANumber\n  \"10,240\": a number is wanted without commas, as in 10240\n",
+        ),
+        (
+            &["--rate", "1mbit", "target", "5.5msec"],
+            "maltlink: parameter word 2: NotANumber\n  \"5.5msec\": a time with a point is wanted as in 5.5ms: one to six \
+digits, and us, ms or s, to a whole microsecond\n",
+        ),
+    ];
+    for (words, wanted) in table {
+        refuses(&rt, words, "", wanted);
+    }
+}
+
+/// Of a long field the first 200 bytes are shown.
+#[test]
+fn fields_are_shown(rt: HostRuntime) {
+    for length in [63, 64, 65, 199, 200, 201] {
+        let field = "x".repeat(rt.alloc(), length).expect(&rt, "memory");
+        let seen = "x"
+            .repeat(rt.alloc(), length.min(200))
+            .expect(&rt, "memory");
+        let input = format!(in rt.alloc(); "enq,{field},6,10.0.0.1,10.0.0.9,1,443,1514,2\n");
+        let wanted = format!(in rt.alloc();
+            "maltlink: row 1: BadNumber\n  row 1, field 2 (MOMENT): \"{seen}\" is no such number; \
+wanted is 0 to 576460752303423487, in microseconds, never falling\n"
+        );
+        let input = input.expect(&rt, "memory");
+        refuses(
+            &rt,
+            &["--rate", "10mbit"],
+            input.as_str(),
+            wanted.expect(&rt, "memory").as_str(),
+        );
+    }
+}
+
+/// A row of one byte, without a line feed, is shown.
+#[test]
+fn a_row_of_one_byte_is_shown(rt: HostRuntime) {
+    let wanted =
+        "maltlink: row 1: BadKind\n  row 1, field 1 (KIND): \"x\" is no kind of row; wanted is enq\n";
+    refuses(&rt, &["--rate", "10mbit"], "x", wanted);
+}
+
+/// Rows that are nearly right: the row of the version at another place, and a moment in seconds.
+#[test]
+fn rows_that_are_nearly_right(rt: HostRuntime) {
+    let table = [
+        (
+            "enq,0,6,10.0.0.1,10.0.0.9,5000,443,1514,2\nversion,2\n",
+            "maltlink: row 2: BadKind\n  row 2, field 1 (KIND): \"version\" stands in the first row alone; wanted is enq\n",
+        ),
+        (
+            "enq,0.25,6,10.0.0.1,10.0.0.9,5000,443,1514,2\n",
+            "maltlink: row 1: BadNumber\n  row 1, field 2 (MOMENT): \"0.25\" is no whole number; wanted is \
+0 to 576460752303423487, in microseconds, never falling\n",
+        ),
+    ];
+    for (input, wanted) in table {
+        refuses(&rt, &["--rate", "10mbit"], input, wanted);
+    }
+}
+
+/// The program refuses these bytes, and reports these lines.
+fn refuses_bytes<R: Abort + AllocGlobal>(rt: &R, input: &[u8], wanted: &str) {
+    let mut output = Vec::new(rt.alloc());
+    let mut told = Vec::new(rt.alloc());
+    let terminals = Terminals {
+        input: false,
+        faults: false,
+    };
+    let words = ["--rate", "10mbit"];
+    let mut reader = input;
+    let status = program(
+        rt.alloc(),
+        &words,
+        &mut reader,
+        &mut output,
+        &mut told,
+        terminals,
+    );
+    assert_eq!(rt; status, 2);
+    assert_eq!(rt; output.len(), 0);
+    assert_eq!(rt; str::from_utf8(&told).ok(), Some(wanted));
+}
+
+/// Input that isn't rows at all: captures, by the magic numbers of pcap in both orders of bytes, with microseconds and with
+/// nanoseconds, and of pcapng; and text in UTF-16.
+#[test]
+fn input_of_other_kinds(rt: HostRuntime) {
+    let captures: [&[u8]; 6] = [
+        b"\xd4\xc3\xb2\xa1\x02\x00\x04\x00",
+        b"\xa1\xb2\xc3\xd4\x00\x02\x00\x04",
+        b"\x4d\x3c\xb2\xa1\x02\x00\x04\x00",
+        b"\xa1\xb2\x3c\x4d\x00\x02\x00\x04",
+        b"\x0a\x0d\x0d\x0a\x1c\x00\x00\x00\x4d\x3c\x2b\x1a\x01\x00\x00\x00",
+        b"\x0a\x0d\x0d\x0a\x00\x00\x00\x1c\x1a\x2b\x3c\x4d\x00\x01\x00\x00",
+    ];
+    for input in captures {
+        refuses_bytes(
+            &rt,
+            input,
+            "maltlink: row 1: BadKind\n  the input is a capture of packets; wanted are rows, as \
+'tools/pcap-to-arrivals FILE' makes of it\n",
+        );
+    }
+    let texts: [&[u8]; 4] = [
+        b"\xff\xfee\x00n\x00q\x00,\x000\x00\n\x00",
+        b"\xfe\xff\x00e\x00n\x00q\x00,\x000\x00\n",
+        b"e\x00n\x00q\x00,\x000\x00\n\x00",
+        b"\x00e\x00n\x00q\x00,\x000\x00\n",
+    ];
+    for input in texts {
+        refuses_bytes(
+            &rt,
+            input,
+            "maltlink: row 1: BadKind\n  the input is UTF-16; wanted is UTF-8, as 'iconv -f UTF-16 -t UTF-8' makes of it\n",
+        );
+    }
+}
+
+/// What a fault is reported as.
+fn explains<R: Abort + AllocGlobal>(rt: &R, fault: &ProgramFault, status: u8, wanted: &str) {
+    let mut told = Vec::new(rt.alloc());
+    assert_eq!(rt; tell(&mut told, fault), status);
+    assert_eq!(rt; str::from_utf8(&told).ok(), Some(wanted));
+}
+
+/// Faults of the machine at a row, and a row too many.
+#[test]
+fn faults_at_a_row(rt: HostRuntime) {
+    for (what, status, wanted) in [
+        (
+            TraceFaultKind::Memory,
+            1,
+            "maltlink: row 7: Memory\n  row 7: \"enq,0\" had no memory\n",
+        ),
+        (
+            TraceFaultKind::Read,
+            1,
+            "maltlink: row 7: Read\n  row 7: \"enq,0\" couldn't be read\n",
+        ),
+        (
+            TraceFaultKind::TooLarge,
+            2,
+            "maltlink: row 7: TooLarge\n  row 7: \"enq,0\" is one too many; wanted are at most 1000000 rows\n",
+        ),
+    ] {
+        let found = String::from_str(rt.alloc(), "enq,0").expect(&rt, "memory");
+        let fault = ProgramFault::Row(7, RowFault::Trace(what), Found::Row(found));
+        explains(&rt, &fault, status, wanted);
+    }
+    let found = String::from_str(rt.alloc(), "7").expect(&rt, "memory");
+    let fault = ProgramFault::Row(
+        0,
+        RowFault::Trace(TraceFaultKind::Memory),
+        Found::Field(FieldName::Len, found),
+    );
+    explains(
+        &rt,
+        &fault,
+        1,
+        "maltlink: row 0: Memory\n  the input had no memory\n",
+    );
 }
 
 /// Fields that no other test has wrong, and a row of more than 32 bytes, which is shown whole.
@@ -196,4 +451,47 @@ fn a_failed_read_is_explained(rt: HostRuntime) {
     assert_eq!(rt; output.len(), 0);
     let wanted = "maltlink: row 0: Read\n  the input couldn't be read\n";
     assert_eq!(rt; str::from_utf8(&told).ok(), Some(wanted));
+}
+
+/// A reader of one byte more than a trace may have.
+#[derive(Drop)]
+struct Endless {
+    left: usize,
+}
+
+impl Read for Endless {
+    fn read(&mut self, buf: &mut [u8]) -> io::Result<usize> {
+        let count = buf.len().min(self.left);
+        self.left -= count;
+        Ok(count)
+    }
+}
+
+/// Too many bytes are a fault of the input, and not of the machine.
+#[test]
+fn too_many_bytes_are_explained(rt: HostRuntime) {
+    let mut output = Vec::new(rt.alloc());
+    let mut told = Vec::new(rt.alloc());
+    let terminals = Terminals {
+        input: false,
+        faults: false,
+    };
+    let mut reader = Endless {
+        left: MAX_BYTES + 1,
+    };
+    let words = ["--rate", "10mbit"];
+    let status = program(
+        rt.alloc(),
+        &words,
+        &mut reader,
+        &mut output,
+        &mut told,
+        terminals,
+    );
+    let wanted =
+        "maltlink: row 0: TooLarge\n  the input has more than 134217728 bytes; wanted are at most so many, in at most \
+1000000 rows\n";
+    assert_eq!(rt; str::from_utf8(&told).ok(), Some(wanted));
+    assert_eq!(rt; status, 2);
+    assert_eq!(rt; output.len(), 0);
 }

@@ -2,7 +2,7 @@
 
 use crate::calls::{called, called_at};
 use crate::runs::rows;
-use link_command::{Terminals, plain_words, program, read_rate};
+use link_command::{Terminals, plain_words, program};
 use std::process::Abort;
 
 /// The program with these words and this input answers the status, writes nothing, and reports these lines.
@@ -152,7 +152,8 @@ fn words_before_rows(rt: HostRuntime) {
         &["--rate", "1mbit", "target", "5.0001ms"],
         "",
         2,
-        "maltlink: parameter word 2: NotANumber\n  \"5.0001ms\": a number is wanted, or a time as in 5ms\n",
+        "maltlink: parameter word 2: NotANumber\n  \"5.0001ms\": a time with a point is wanted as in 5.5ms: one to six digits, and \
+us, ms or s, to a whole microsecond\n",
     );
 }
 
@@ -179,7 +180,9 @@ fn reads_at_a_terminal(rt: HostRuntime) {
     assert_eq!(rt;
         str::from_utf8(&told).ok(),
         Some(
-            "maltlink: arrivals are read from this terminal; Ctrl-D at the start of a line ends them\n"
+            "maltlink: arrivals are read from this terminal; Ctrl-D at the start of a line ends them\n\
+maltlink: no packet came\n  standard input has no row 'enq': rows are read from there, as in \
+'maltlink --rate 10mbit < arrivals.csv'\n"
         )
     );
 }
@@ -227,26 +230,6 @@ maltlink: the FIFO has sent its last packet\n";
     watched(&rt, &series, &text, run);
     watched(&rt, &steps, &text, run);
     watched(&rt, &both_steps, &text, run);
-}
-
-/// Rates, worked out by hand: a byte has 8 bits, and `ki` is 1,024.
-#[test]
-fn rates(rt: HostRuntime) {
-    for (text, wanted) in [
-        ("10mbit", Some(10_000_000)),
-        ("1250kbps", Some(10_000_000)),
-        ("1000", Some(1_000)),
-        ("8bps", Some(64)),
-        ("2mibit", Some(2_097_152)),
-        ("1kibps", Some(8_192)),
-        ("18446745tbit", Some(u64::MAX)),
-        ("10Mbit", None),
-        ("10 mbit", None),
-        ("mbit", None),
-        ("1.5mbit", None),
-    ] {
-        assert_eq!(rt; read_rate(text), wanted, "{text}");
-    }
 }
 
 /// The line `limit 10240p flows 1024 quantum 1514 target 5.0ms interval 100.0ms memory_limit 32Mb ecn drop_batch 64`, as

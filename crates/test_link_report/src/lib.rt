@@ -13,6 +13,8 @@ mod journals;
 #[cfg(test)]
 mod notes;
 #[cfg(test)]
+mod rates;
+#[cfg(test)]
 mod rows;
 #[cfg(test)]
 mod runs;

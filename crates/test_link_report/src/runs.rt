@@ -1,10 +1,11 @@
 //! The tables and the picture that the program writes of a run are those of the journals of the same run.
 
 use crate::calls::called;
+use journal_core::{EventList, StepList};
 use link_command::read_arrivals;
-use link_core::{Arrival, Link, LinkFields, run_fifo, run_link};
+use link_core::{Arrival, Link, LinkFields, run_fifo_to_end, run_link_to_end};
 use link_picture::picture_text;
-use link_report::{MAX_EVENTS, flows_text, packets_text, series_text, steps_text};
+use link_report::{MAX_EVENTS, RunEvents, flows_text, packets_text, series_text, steps_text};
 use packet_core::{Seed, read_params};
 use std::process::Abort;
 
@@ -115,8 +116,15 @@ fn of_journals<R: Abort + AllocGlobal>(
         .expect(rt, "arrivals");
     assert!(rt; Arrival::may_come(&arrivals));
     let seed = Seed([0; 16]);
-    let engine = run_link(alloc, params, seed, &link, &arrivals).expect(rt, "memory");
-    let fifo = run_fifo(alloc, params, seed, &link, &arrivals).expect(rt, "memory");
+    let (events, steps) = (EventList::new(alloc), StepList::new(alloc));
+    let (engine, end) = run_link_to_end(
+        alloc, params, seed, &link, &arrivals, events, steps,
+    ).expect(rt, "memory");
+    let events = EventList::new(alloc);
+    let (fifo, fifo_end) = run_fifo_to_end(alloc, params, seed, &link, &arrivals, events).expect(
+        rt, "memory",
+    );
+    let fifo = fifo.into_events();
     let events = engine.events();
     assert!(rt; events.len() <= MAX_EVENTS && fifo.len() <= MAX_EVENTS);
     let fifo = if with_fifo {
@@ -125,7 +133,13 @@ fn of_journals<R: Abort + AllocGlobal>(
         None
     };
     let made = match table {
-        Table::Flows => flows_text(alloc, events, fifo),
+        Table::Flows => {
+            let fifo = fifo.map(|events| RunEvents {
+                events,
+                end: fifo_end,
+            });
+            flows_text(alloc, RunEvents { events, end }, fifo)
+        }
         Table::Packets => packets_text(alloc, events, fifo),
         Table::Series => series_text(alloc, EVERY, events, fifo),
         Table::Steps => steps_text(alloc, engine.steps()),

@@ -6,8 +6,8 @@ use crate::journals::{closed_journal, crowd, journal, late_journal};
 use codel_core::Served;
 use journal_core::{Event, Recorder, Step};
 use link_report::{
-    Binned, Gathered, MAX_EVENTS, Packets, Queue, flows_text, flows_text_of, packets_text,
-    packets_text_of, percentile, series_text, steps_text,
+    Binned, Gathered, MAX_EVENTS, Packets, Queue, RunEvents, RunPackets, flows_text, flows_text_of,
+    packets_text, packets_text_of, percentile, series_text, steps_text,
 };
 use packet_core::{Ecn, FiveTuple, Ip, Packet, Seed, Waiting};
 use std::process::Abort;
@@ -17,13 +17,18 @@ fn are<R: Abort>(rt: &R, bytes: &[u8], wanted: &str) {
     assert_eq!(rt; str::from_utf8(bytes).ok(), Some(wanted));
 }
 
-/// Delays are those of packets sent alone; both kinds of marks are counted; the rate is that of the whole run.
+/// The table of a journal whose packets are sent at that moment.
+fn flows_by<R: Abort + AllocGlobal>(rt: &R, events: &[Event], end: u64) -> Vec<u8> {
+    assert!(rt; events.len() <= MAX_EVENTS);
+    flows_text(rt.alloc(), RunEvents { events, end }, None).expect(rt, "memory")
+}
+
+/// Delays are those of packets sent alone; both kinds of marks are counted; the rate is that of the whole run. The packets
+/// are sent before the last fate, at 5,000.
 #[test]
 fn flows_of_two_tuples(rt: HostRuntime) {
     let events = journal(&rt);
-    let text = flows_text(rt.alloc(), &events, None)
-        .ok()
-        .expect(&rt, "memory");
+    let text = flows_by(&rt, &events, 4_999);
     are(
         &rt,
         &text,
@@ -35,10 +40,29 @@ fq_codel,all,,,,,,,6,2650,4,1550,1,1,2,0,500,1,1500,1500,1500,2480000\n",
     );
 }
 
+/// The last packet starts at 5,000 and is sent at 5,500: 1,050, 500 and 1,550 bytes in 5,500 microseconds.
+#[test]
+fn rates_to_the_end_of_the_last_packet(rt: HostRuntime) {
+    let text = flows_by(&rt, &journal(&rt), 5_500);
+    let text = str::from_utf8(&text).unwrap_or("");
+    for (row, rate) in [(1, ",1527272"), (2, ",727272"), (3, ",2254545")] {
+        assert!(&rt;
+            text.lines()
+                .nth(row)
+                .is_some_and(|line| line.ends_with(rate)),
+            "{text}"
+        );
+    }
+}
+
 /// Nothing arrived, in either queue: an `all` row for each, with no delay and no rate.
 #[test]
 fn flows_of_nothing(rt: HostRuntime) {
-    let text = flows_text(rt.alloc(), &[], Some(&[]))
+    let nothing = RunEvents {
+        events: &[],
+        end: 0,
+    };
+    let text = flows_text(rt.alloc(), nothing, Some(nothing))
         .ok()
         .expect(&rt, "memory");
     are(
@@ -170,8 +194,8 @@ fn series_of_a_crowd(rt: HostRuntime) {
 #[test]
 fn tables_of_a_closed_journal(rt: HostRuntime) {
     let events = closed_journal(&rt);
-    let flows = flows_text(rt.alloc(), &events, None).expect(&rt, "memory");
-    let open = flows_text(rt.alloc(), &events[..2], None).expect(&rt, "memory");
+    let flows = flows_by(&rt, &events, 0);
+    let open = flows_by(&rt, &events[..2], 0);
     assert_eq!(rt; flows.as_slice(), open.as_slice());
     let rows = packets_text(rt.alloc(), &events, None).expect(&rt, "memory");
     let open = packets_text(rt.alloc(), &events[..2], None).expect(&rt, "memory");
@@ -182,7 +206,8 @@ fn tables_of_a_closed_journal(rt: HostRuntime) {
     assert!(rt; packets_text(rt.alloc(), &whole[5..], None).is_ok());
 }
 
-/// The recorder is told that event. A packet that leaves is any that has the field which it is sent with.
+/// The recorder is told that event. A packet that leaves is any that has the field which it is sent with, and it came at
+/// another moment than that at which it leaves.
 fn tell<R: Abort, K: Recorder>(rt: &R, recorder: &mut K, event: &Event)
     requires { 0 < K.room recorder.old }
 {
@@ -201,14 +226,14 @@ fn tell<R: Abort, K: Recorder>(rt: &R, recorder: &mut K, event: &Event)
             mark,
         } => {
             let served = Served {
-                waiting: waiting(id, moment, any_packet(rt, ecn)),
+                waiting: waiting(id, another(moment), any_packet(rt, ecn)),
                 mark,
             };
             recorder.send(&served, moment);
         }
         Event::Dropped { id, moment, cause } => {
             recorder.lose(
-                &waiting(id, moment, any_packet(rt, Ecn::NotEct)),
+                &waiting(id, another(moment), any_packet(rt, Ecn::NotEct)),
                 moment,
                 cause,
             );
@@ -220,6 +245,11 @@ fn tell<R: Abort, K: Recorder>(rt: &R, recorder: &mut K, event: &Event)
 /// The packet, as it waits from that moment on.
 fn waiting(id: u64, stamp: u64, packet: Packet) -> Waiting {
     Waiting { id, stamp, packet }
+}
+
+/// A moment that isn't this one.
+fn another(moment: u64) -> u64 {
+    moment ^ 1_000_000
 }
 
 /// A packet with that field.
@@ -272,8 +302,26 @@ fn tables_of_a_recorder(rt: HostRuntime) {
     assert!(rt; packets.records().len() <= MAX_EVENTS);
     let first = Packets::of(rt.alloc(), &events[..3]).expect(&rt, "memory");
     assert!(rt; first.records().len() <= MAX_EVENTS);
-    let flows = flows_text(rt.alloc(), &events, Some(&events[..3])).expect(&rt, "memory");
-    let same = flows_text_of(rt.alloc(), packets, Some(&first)).expect(&rt, "memory");
+    let run = RunEvents {
+        events: &events,
+        end: 5_500,
+    };
+    let fifo = RunEvents {
+        events: &events[..3],
+        end: 1_800,
+    };
+    let flows = flows_text(rt.alloc(), run, Some(fifo)).expect(&rt, "memory");
+    let (run, fifo) = (
+        RunPackets {
+            packets,
+            end: 5_500,
+        },
+        RunPackets {
+            packets: &first,
+            end: 1_800,
+        },
+    );
+    let same = flows_text_of(rt.alloc(), run, Some(fifo)).expect(&rt, "memory");
     assert_eq!(rt; same.as_slice(), flows.as_slice());
     let rows = packets_text(rt.alloc(), &events, Some(&events[..3])).expect(&rt, "memory");
     let same = packets_text_of(rt.alloc(), packets, Some(&first)).expect(&rt, "memory");

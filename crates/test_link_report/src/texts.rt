@@ -4,7 +4,7 @@ use crate::calls::{called, called_interrupted};
 use std::process::Abort;
 
 /// How many lines the page of the manual has.
-const PAGE_LINES: usize = 155;
+const PAGE_LINES: usize = 188;
 
 /// The version is its number and the toolchain, and help is the page of the manual.
 #[test]
@@ -33,6 +33,37 @@ fn version_and_help(rt: HostRuntime) {
     }
 }
 
+/// Help lists each parameter with its range, as `fqsim trace --help` does.
+#[test]
+fn help_lists_the_parameters(rt: HostRuntime) {
+    let (_, output, _) = called(&rt, &["--help"], "");
+    let text = str::from_utf8(&output).unwrap_or("");
+    let (_, behind) = text.split_once("\nPARAMETERS\n").expect(&rt, "parameters");
+    let (page, _) = behind.split_once("\nTABLES\n").expect(&rt, "tables");
+    for (name, range) in [
+        ("limit", "1 to 1048576"),
+        ("flows", "1 to 65536"),
+        ("quantum", "1 to 1000000"),
+        ("mtu", "0 to 65535"),
+        ("target", "0 to 1000s"),
+        ("interval", "1us to 1000s"),
+        ("ce_threshold", "0 to 1000s"),
+        ("memory_limit", "1 to 1099511627776"),
+        ("drop_batch", "1 to 1048576"),
+        ("ecn | noecn", ""),
+        ("classify hash|dport", ""),
+    ] {
+        let begin = format!(in rt.alloc(); "        {name} ").expect(&rt, "memory");
+        let mut found = 0;
+        for line in page.lines() {
+            if line.starts_with(begin.as_str()) && line.contains(range) {
+                found += 1;
+            }
+        }
+        assert_eq!(rt; found, 1, "{name}");
+    }
+}
+
 /// The page has its sections in their order, ends with what the status 2 is, and has as many lines as the manual.
 fn is_whole<R: Abort>(rt: &R, text: &str) {
     let mut rest = text;
@@ -43,6 +74,7 @@ fn is_whole<R: Abort>(rt: &R, text: &str) {
         "\nPARAMETERS\n",
         "\nTABLES\n",
         "\nFAULTS\n",
+        "\nNOTES\n",
         "\nEXAMPLES\n",
         "\nEXIT STATUS\n",
     ] {

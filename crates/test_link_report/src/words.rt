@@ -48,3 +48,18 @@ fn parameters_as_tc_prints_them(rt: HostRuntime) {
 fq_codel,0,0,443,1514,2,0,sent,0,0,2,,0\n";
     assert_eq!(rt; str::from_utf8(&output).ok(), Some(wanted));
 }
+
+/// A bin may be no whole number of milliseconds wide. A packet takes 800 microseconds.
+#[test]
+fn bins_of_a_millisecond_and_a_half(rt: HostRuntime) {
+    let words = ["--rate", "10mbit", "--every", "1500us", "--write", "series"];
+    let input =
+        "enq,0,6,10.0.0.1,10.0.0.9,5000,443,1000,2\nenq,1600,6,10.0.0.1,10.0.0.9,5000,443,1000,2\n";
+    let (status, output, told) = called(&rt, &words, input);
+    assert_eq!(rt; str::from_utf8(&told).ok(), Some(""));
+    assert_eq!(rt; status, 0);
+    let wanted =
+        "queue,from,tuple,packets,bytes,sent,sent_bytes,dropped,marked,delay_mean,delay_max,waiting,waiting_bytes\n\
+fq_codel,0,0,1,1000,1,1000,0,0,0,0,0,0\nfq_codel,1500,0,1,1000,1,1000,0,0,0,0,0,0\n";
+    assert_eq!(rt; str::from_utf8(&output).ok(), Some(wanted));
+}

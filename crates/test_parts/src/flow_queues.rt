@@ -177,6 +177,91 @@ const POPS: [Call; 9] = [
 ];
 
 #[test]
+fn each_comparison_is_counted(rt: HostRuntime) {
+    plays(&rt, 8, &COUNTED);
+}
+
+/// Among eight flows, where two, four and eight are below the three nodes above each. The comments say which flow is
+/// compared with which others.
+const COUNTED: [Call; 22] = [
+    // 0 with the winner so far, which has nothing.
+    Call::Push(0, 5_000),
+    Call::Comparisons(1),
+    // 4 with 0, where their ways meet.
+    Call::Push(4, 200),
+    Call::Comparisons(2),
+    // 7 with 0, the winner of all, then with 6, and with 4, the winner of four.
+    Call::Push(7, 300),
+    Call::Comparisons(5),
+    // 7 with 0: below the root it won already.
+    Call::Push(7, 100),
+    Call::Comparisons(6),
+    // 5 with 0, and with 4, which still wins.
+    Call::Push(5, 100),
+    Call::Comparisons(8),
+    // 5 with 0, with 4, and with 7.
+    Call::Push(5, 350),
+    Call::Comparisons(11),
+    // 0 with 1, with 2, the winner of two that have nothing, and with 5.
+    Call::Pop(0, Some(0)),
+    Call::Comparisons(14),
+    Call::Fattest(Some(5), 1_050),
+    // 5 with 4, and with 7, which wins; 7 with 0.
+    Call::Pop(5, Some(4)),
+    Call::Comparisons(17),
+    Call::Fattest(Some(7), 950),
+    // 4 won nowhere.
+    Call::Pop(4, Some(1)),
+    Call::Comparisons(17),
+    Call::Fattest(Some(7), 750),
+    Call::Levels(3),
+];
+
+/// The first flow has the most bytes, and one comes in the other half. Then the last flow is compared with the first
+/// one and at each level but the highest, where it wins. As it leaves it is compared at these again, and the first one
+/// at all levels.
+#[test]
+fn comparisons_at_each_level(rt: HostRuntime) {
+    for (count, half, last, made) in AT_EACH_LEVEL {
+        let [one, two, grown, fallen, all] = made;
+        let calls = [
+            Call::Push(0, 5_000),
+            Call::Comparisons(one),
+            Call::Push(half, 100),
+            Call::Comparisons(two),
+            Call::Push(last, 200),
+            Call::Comparisons(grown),
+            Call::Pop(last, Some(2)),
+            Call::Comparisons(fallen),
+            Call::Pop(0, Some(0)),
+            Call::Comparisons(all),
+            Call::Fattest(Some(half), 100),
+        ];
+        plays(&rt, count, &calls);
+    }
+}
+
+/// How many flows, the first one of the other half, the last one, and the comparisons so far after each packet: of 3,
+/// 10 and 16 levels.
+const AT_EACH_LEVEL: [(u32, u32, u32, [u64; 5]); 3] = [
+    (8, 4, 7, [1, 2, 5, 7, 10]),
+    (1024, 512, 1023, [1, 2, 12, 21, 31]),
+    (65536, 32768, 65535, [1, 2, 18, 33, 49]),
+];
+
+#[test]
+fn one_flow_is_compared_with_none(rt: HostRuntime) {
+    let calls = [
+        Call::Push(0, 100),
+        Call::Push(0, 200),
+        Call::Pop(0, Some(0)),
+        Call::Comparisons(0),
+        Call::Fattest(Some(0), 200),
+    ];
+    plays(&rt, 1, &calls);
+}
+
+#[test]
 fn levels_over_the_flows(rt: HostRuntime) {
     for &(count, levels) in &LEVELS {
         plays(&rt, count, &[Call::Levels(levels), Call::Fattest(None, 0)]);

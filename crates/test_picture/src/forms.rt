@@ -3,7 +3,6 @@
 
 use crate::journals::Fate::{Lost, Sent};
 use crate::journals::{Given, has_all, journal, picture};
-use link_picture::picture_text;
 use std::process::Abort;
 
 /// Each element that is opened is closed, in the reverse order, and no bracket stands alone.
@@ -62,22 +61,6 @@ fn flows<R: Abort + AllocGlobal>(rt: &R, count: u16) -> Vec<Given> {
         }
     }
     packets
-}
-
-/// Where no packet came there is a title alone.
-#[test]
-fn no_flow(rt: HostRuntime) {
-    let text = picture(&rt, &[], None);
-    assert_eq!(rt;
-        text.as_str(),
-        "<svg xmlns=\"http://www.w3.org/2000/svg\" width=\"1010\" height=\"850\" \
-         viewBox=\"0 0 1010 850\" font-family=\"sans-serif\" font-size=\"12\">\n\
-         <title>fq_codel before a link of 10 Mbit/s: 0 packets</title>\n\
-         <rect width=\"1010\" height=\"850\" fill=\"#fff\"/>\n\
-         <text x=\"80\" y=\"27\" text-anchor=\"start\" font-size=\"16\" font-weight=\"bold\">\
-         fq_codel before a link of 10 Mbit/s: 0 packets</text>\n</svg>\n"
-    );
-    assert!(rt; is_balanced(&rt, &text));
 }
 
 /// One flow has one colour, one tick for its loss, and no dashes without another queue.
@@ -200,30 +183,4 @@ fn seven_steps_of_time(rt: HostRuntime) {
         &text,
         &[">1 ms</text>", ">6 ms</text>", ">7 ms</text>"],
     );
-}
-
-/// The rate of a link in the greatest unit in which it is whole.
-#[test]
-fn rates_of_links(rt: HostRuntime) {
-    for (rate, wanted) in [
-        (
-            1_001,
-            "<title>fq_codel before a link of 1001 bit/s: 0 packets</title>",
-        ),
-        (
-            512_000,
-            "<title>fq_codel before a link of 512 kbit/s: 0 packets</title>",
-        ),
-        (
-            64_000_000,
-            "<title>fq_codel before a link of 64 Mbit/s: 0 packets</title>",
-        ),
-        (
-            2_000_000_000,
-            "<title>fq_codel before a link of 2 Gbit/s: 0 packets</title>",
-        ),
-    ] {
-        let text = picture_text(rt.alloc(), rate, 1_000, &[], None).expect(&rt, "memory");
-        has_all(&rt, str::from_utf8(&text).unwrap_or(""), &[wanted]);
-    }
 }

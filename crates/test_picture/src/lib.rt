@@ -6,6 +6,8 @@ mod addresses;
 #[cfg(test)]
 mod beside;
 #[cfg(test)]
+mod empty;
+#[cfg(test)]
 mod forms;
 #[cfg(test)]
 mod journals;
@@ -13,5 +15,7 @@ mod journals;
 mod long_run;
 #[cfg(test)]
 mod numbers;
+#[cfg(test)]
+mod texts;
 #[cfg(test)]
 mod worked;

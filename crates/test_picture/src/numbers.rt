@@ -56,6 +56,11 @@ fn scales_of_rates(rt: HostRuntime) {
         (12_112_000, 15_000_000, 5_000_000),
         (40_000_000_000, 40_000_000_000, 10_000_000_000),
         (1_000_000_000_000, 1_000_000_000_000, 200_000_000_000),
+        (
+            400_000_000_000_000_000,
+            400_000_000_000_000_000,
+            100_000_000_000_000_000,
+        ),
     ] {
         let scale = RateScale::upto(most);
         assert_eq!(rt; scale.top, top, "for {most}");
@@ -63,37 +68,17 @@ fn scales_of_rates(rt: HostRuntime) {
     }
 }
 
-/// Few powers of ten have twice and five times these between them. The longest wait of 10,240 packets of 1,514 bytes at
-/// 9,600 bits a second is below 13,000 seconds.
+/// Few powers of ten have twice and five times these between them: up to a scale of 13,499 steps, from 6,720 for 100 us to
+/// 20,219. That is 635 in 1,024 and 128 steps above 2^19.
 #[test]
-fn marks_of_waits(rt: HostRuntime) {
-    let table: [(u64, &[u64]); 4] = [
+fn marks_of_short_waits(rt: HostRuntime) {
+    let table: [(u64, &[u64]); 2] = [
         (2_592, &[100, 200, 500, 1_000, 2_000]),
-        (3_000_000, &[100, 1_000, 10_000, 100_000, 1_000_000]),
         (
-            300_000_000,
+            849_919,
             &[
-                100,
-                1_000,
-                10_000,
-                100_000,
-                1_000_000,
-                10_000_000,
-                100_000_000,
-            ],
-        ),
-        (
-            13_000_000_000,
-            &[
-                100,
-                1_000,
-                10_000,
-                100_000,
-                1_000_000,
-                10_000_000,
-                100_000_000,
-                1_000_000_000,
-                10_000_000_000,
+                100, 200, 500, 1_000, 2_000, 5_000, 10_000, 20_000, 50_000, 100_000, 200_000,
+                500_000,
             ],
         ),
     ];
@@ -102,5 +87,28 @@ fn marks_of_waits(rt: HostRuntime) {
             .marks(rt.alloc())
             .expect(&rt, "memory");
         assert_eq!(rt; marks.as_slice(), wanted, "up to {longest}");
+    }
+}
+
+/// The powers of ten alone with a step more. The longest wait of 10,240 packets of 1,514 bytes at 9,600 bits a second is
+/// below 13,000 seconds, and that of a million packets of 65,000 bytes at 1,000 bits a second 520,000,000 seconds.
+#[test]
+fn marks_of_long_waits(rt: HostRuntime) {
+    for (longest, count) in [
+        (849_920, 4),
+        (3_000_000, 5),
+        (300_000_000, 7),
+        (13_000_000_000, 9),
+        (520_000_000_000_000, 13),
+    ] {
+        let marks = WaitScale::upto(longest)
+            .marks(rt.alloc())
+            .expect(&rt, "memory");
+        assert_eq!(rt; marks.len(), count, "up to {longest}");
+        let mut tens = 100u64;
+        for mark in &marks {
+            assert_eq!(rt; *mark, tens, "up to {longest}");
+            tens = tens.saturating_mul(10);
+        }
     }
 }

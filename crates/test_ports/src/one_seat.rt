@@ -4,7 +4,7 @@
 use crate::calls::Call;
 use crate::fixtures::{Form, counted, flows, packet};
 use crate::seats::{Part, plays, plays_in_room};
-use packet_core::{Classify, Ecn, ParamFields, Params};
+use packet_core::{Classify, Ecn, Packet, ParamFields, Params};
 use sched_core::{Engine, Event, Mark, MomentFault, Refusal, Step, Totals};
 use std::alloc::Global;
 use std::process::Abort;
@@ -92,6 +92,67 @@ fn has_the_steps<R: Abort>(rt: &R, engine: &Engine) {
         Step::Dequeue { moment: LAST },
     ];
     assert_eq!(rt; engine.steps(), &wanted[..]);
+}
+
+/// A close alone closes. Packets are accepted behind the statistics, a dequeue that finds none, refused calls and a
+/// refusal to settle. None of these makes a step of its own but that dequeue, and neither does the settling.
+#[test]
+fn only_a_close_closes(rt: HostRuntime) {
+    let (alloc, params) = (rt.alloc(), flows(&rt, 1));
+    let part = Part::Alone(&STAYS_OPEN);
+    let engine = plays(&rt, alloc, params, 1, part, &AFTER_THE_REFUSAL);
+    assert!(&rt; !engine.is_closed());
+    has_steps_of_open_port(&rt, &engine);
+}
+
+const STAYS_OPEN: [Call<'static>; 13] = [
+    Call::Counts(0, 0),
+    Call::Comes(1, PACKET, 0, 0, 1),
+    Call::Comes(1, PACKET, 1, 0, 1),
+    Call::Counts(2, 0),
+    Call::Comes(2, PACKET, 2, 0, 2),
+    Call::Goes(3, PACKET, 0, 3, Mark::NoMark),
+    Call::Goes(3, PACKET, 1, 3, Mark::NoMark),
+    Call::Goes(3, PACKET, 2, 3, Mark::NoMark),
+    Call::Idle(4),
+    Call::Comes(5, PACKET, 3, 0, 5),
+    Call::ComesNot(LAST + 1, PACKET, TOO_LARGE),
+    Call::GoesNot(LAST + 1, TOO_LARGE),
+    Call::Comes(6, PACKET, 4, 0, 6),
+];
+
+const AFTER_THE_REFUSAL: [Call<'static>; 3] = [
+    Call::Comes(7, PACKET, 5, 0, 7),
+    Call::Goes(8, PACKET, 3, 8, Mark::NoMark),
+    Call::Counts(6, 4),
+];
+
+/// Those of each answered call, in order.
+fn has_steps_of_open_port<R: Abort>(rt: &R, engine: &Engine) {
+    let packet = packet(rt, PACKET);
+    let wanted = [
+        enqueue(packet, 1),
+        enqueue(packet, 1),
+        enqueue(packet, 2),
+        Step::Dequeue { moment: 3 },
+        Step::Dequeue { moment: 3 },
+        Step::Dequeue { moment: 3 },
+        Step::Dequeue { moment: 4 },
+        enqueue(packet, 5),
+        enqueue(packet, 6),
+        enqueue(packet, 7),
+        Step::Dequeue { moment: 8 },
+    ];
+    assert_eq!(rt; engine.steps(), &wanted[..]);
+}
+
+/// The packet comes at that moment.
+fn enqueue(packet: Packet, moment: u64) -> Step {
+    Step::Enqueue {
+        moment,
+        lane: 0,
+        packet,
+    }
 }
 
 /// More than 2^20 packets pass, and the port goes on, also after a dequeue that finds none.

@@ -49,6 +49,13 @@ fn lanes_that_are_full_are_told(rt: HostRuntime) {
 }
 
 #[test]
+fn a_monitor_that_read_more_is_told(rt: HostRuntime) {
+    for (monitor, line) in [(0, "fqsim: monitor 0\n"), (63, "fqsim: monitor 63\n")] {
+        expect_line(&rt, ProgramFault::Monitor(monitor), 1, line);
+    }
+}
+
+#[test]
 fn unread_rows_are_told(rt: HostRuntime) {
     let what = TraceFaultKind::Read;
     let fault = ProgramFault::Trace(TraceFault { row: 7, what });

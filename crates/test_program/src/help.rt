@@ -53,7 +53,7 @@ static SENDERS: [&str; 9] = [
 ];
 
 /// What it says of senders with a lane each.
-static LANES: [&str; 14] = [
+static LANES: [&str; 17] = [
     "Usage: fqsim lanes [OPTIONS] [PARAM]...\n",
     "--seed <HEX32>",
     "--senders <N>",
@@ -68,6 +68,9 @@ static LANES: [&str; 14] = [
     "[default: 0]",
     "\n  monitor I EVENTS ACCEPTED SENT DROPPED QUEUED\n",
     "'fqsim: lane LANE'",
+    "that lane has no end",
+    "more than 1048576 packets",
+    "'fqsim: monitor I'",
 ];
 
 /// What it says of the formats.

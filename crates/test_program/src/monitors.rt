@@ -1,10 +1,10 @@
-//! A monitor that reads until a run has ended.
+//! Monitors at the end of a run: one that reads until then, and one that read more than the journal has.
 ghost use Rattle.std.specs.Prelude.{◌≡◌};
 
 use crate::packets::packet;
 use packet_core::{Seed, read_params};
 use port_core::{BookBlank, BookName, Device, Layout, Opened, Screen, Shown, lanes};
-use program_core::{Ending, read_on};
+use program_core::{Ending, SendersFault, of_journal, read_on};
 use std::alloc::Global;
 use std::marker::Brand;
 use std::process::Abort;
@@ -97,4 +97,48 @@ fn reads_to_the_end<J: BookName, X: Screen<Shown<J>> + Drop, R: Wait + Abort>(
         (2, 1, 1)
     );
     assert_eq!(rt; (seen.events, totals.closed), (5, true));
+}
+
+/// A monitor that read more events than the journal has is a fault, by its number. What another one read is told as it is.
+#[test]
+fn a_monitor_ahead_of_the_journal_is_a_fault(rt: HostRuntime) {
+    is_ahead::<Brand, _>(&rt, rt.alloc(), BookBlank::new());
+}
+
+fn is_ahead<J: BookName, R: Wait + Abort>(rt: &R, alloc: Global, blank: BookBlank)
+    requires { blank ≡ J.book }
+{
+    let params = read_params(&["flows", "1"]).expect(rt, "parameters");
+    let layout = Layout {
+        lanes: 1,
+        capacity: 1,
+        monitors: 2,
+    };
+    let opened = lanes::<J, _>(rt, alloc, blank, params, Seed([0; 16]), layout).expect(rt, "lanes");
+    reads_beside_receipts(rt, opened);
+}
+
+/// Two monitors read what was published last, the close. One of them is compared with the journal before it.
+fn reads_beside_receipts<J: BookName, X: Screen<Shown<J>> + Drop, R: Abort>(
+    rt: &R,
+    opened: Opened<J, X>,
+) {
+    let Opened {
+        senders: _senders,
+        mut device,
+        mut monitors,
+    } = opened;
+    let early = device.publish().expect(rt, "memory");
+    assert!(rt; device.close(7).is_ok());
+    let late = device.publish().expect(rt, "memory");
+
+    let mut ahead = monitors.pop().expect(rt, "a monitor");
+    let seen = ahead.totals();
+    assert_eq!(rt; (seen.events, early.events(), late.events()), (1, 0, 1));
+    let fault = SendersFault::Monitor(3);
+    assert_eq!(rt; of_journal(3, ahead, seen, &early), Err(fault));
+
+    let mut other = monitors.pop().expect(rt, "another monitor");
+    let seen = other.totals();
+    assert_eq!(rt; of_journal(0, other, seen, &late), Ok(seen));
 }

@@ -105,3 +105,24 @@ fn texts_of_refusals(rt: HostRuntime) -> Result<(), std::test::Fail> {
     }
     Ok(())
 }
+
+/// And of each of a close.
+#[test]
+fn texts_of_refused_closes(rt: HostRuntime) -> Result<(), std::test::Fail> {
+    let late = MomentFault::Backwards { last: 5 };
+    for (fault, wanted) in [
+        (
+            CloseFault::Moment(late),
+            "the moment is before 5 microseconds, that of the last step",
+        ),
+        (
+            CloseFault::Moment(MomentFault::TooLarge),
+            "the moment is 2^60 microseconds or more",
+        ),
+        (CloseFault::ClosedAlready, "there was a close already"),
+    ] {
+        let text = format!(in rt.alloc(); "{fault}")?;
+        assert_eq!(rt; text.as_str(), wanted);
+    }
+    Ok(())
+}

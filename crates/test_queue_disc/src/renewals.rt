@@ -185,6 +185,29 @@ fn drops_keep_their_ids(rt: HostRuntime) {
     drop_after_renewal(&rt, &mut disc);
 }
 
+/// Of four packets CoDel drops the second one: from 10 to 110 milliseconds each head waited for longer than the target.
+fn pass_four_with_a_drop<R: Abort>(rt: &R, disc: &mut QueueDisc) {
+    for id in 0..4 {
+        come(rt, disc, 0, 2, id);
+    }
+    send(rt, disc, 10_000, 0);
+    send(rt, disc, 110_000, 2);
+    send(rt, disc, 110_000, 3);
+    let dropped = disc.next_drop().expect(rt, "a drop");
+    assert!(rt; dropped.id == 1 && dropped.tag == tag_of(1) && disc.unread() == 0);
+    let totals = disc.totals();
+    assert!(rt; totals.dropped_codel == 1 && totals.sent == 3 && credits_of(rt, disc, 2) != 0);
+}
+
+/// The packet after them comes to a scheduler as new, whose flow 2 has no credits. What CoDel dropped is still counted.
+#[test]
+fn renewed_after_a_drop_of_codel(rt: HostRuntime) {
+    let mut disc = disc_renewed_after(&rt, 4, 4);
+    pass_four_with_a_drop(&rt, &mut disc);
+    come(&rt, &mut disc, 110_000, 1, 4);
+    assert!(rt; credits_of(&rt, &disc, 2) == 0 && disc.totals().dropped_codel == 1);
+}
+
 #[test]
 fn closed_queue_disc_stays_closed(rt: HostRuntime) {
     let mut disc = disc_renewed_after(&rt, 4, 3);

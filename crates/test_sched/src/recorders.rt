@@ -15,11 +15,15 @@ use std::process::Abort;
 /// How many buffers there are. A packet's tag is the number of its buffer, from 0.
 const BUFFERS: usize = 120;
 
-/// A recorder that gives the buffer of each packet back where the packet is sent or lost.
+/// How often each buffer was given back.
+type Returns = [u8; BUFFERS];
+
+/// A recorder that gives the buffer of each packet back where the packet is lost, and notes which it was told of as
+/// sent. It is made for as many packets as there are buffers.
 #[derive(Debug, Drop)]
 struct Pool {
-    /// How often each buffer was given back.
-    returns: [u8; BUFFERS],
+    given_back: Returns,
+    departed: Returns,
     told: GhostList<Event>,
     sent: GhostList<Waiting>,
     lost: GhostList<Waiting>,
@@ -34,6 +38,8 @@ impl Recorder for Pool {
 
     ghost room = { λ pool. pool.told.room };
 
+    ghost made_for = { λ _. 120 };
+
     fn accept(&mut self, packet: &Waiting, lane: u32, flow: u32) {
         self.told = self.told.and(&Event::acceptance(packet, lane, flow));
     }
@@ -41,13 +47,13 @@ impl Recorder for Pool {
     fn send(&mut self, served: &Served, moment: u64) {
         self.told = self.told.and(&Event::departure(served, moment));
         self.sent = self.sent.and(&served.waiting);
-        give_back(&mut self.returns, &served.waiting.packet);
+        give_back(&mut self.departed, &served.waiting.packet);
     }
 
     fn lose(&mut self, packet: &Waiting, moment: u64, cause: Cause) {
         self.told = self.told.and(&Event::loss(packet, moment, cause));
         self.lost = self.lost.and(packet);
-        give_back(&mut self.returns, &packet.packet);
+        give_back(&mut self.given_back, &packet.packet);
     }
 
     fn close(&mut self, moment: u64) {
@@ -61,57 +67,75 @@ impl Recorder for Pool {
 }
 
 /// The buffer of the packet is given back once more.
-fn give_back(returns: &mut [u8; BUFFERS], packet: &Packet) {
+fn give_back(returns: &mut Returns, packet: &Packet) {
     if packet.tag() < BUFFERS as u64 {
         let times = &mut returns[packet.tag() as usize];
         *times = times.saturating_add(1);
     }
 }
 
-/// A new scheduler with four flows, over no buffer given back, in which 30 packets may wait.
+/// A new scheduler with four flows, over no buffer given back, in which 30 packets may wait: fewer than its recorder is
+/// made for.
 fn pooled(rt: &(impl Abort + AllocGlobal)) -> Sched<Pool> {
     let mut fields = four_flows();
     fields.limit = 30;
+    let params = params_of(rt, fields);
+    assert!(rt; (params.limit() as usize) < BUFFERS - 1);
     let pool = Pool {
-        returns: [0; BUFFERS],
+        given_back: [0; BUFFERS],
+        departed: [0; BUFFERS],
         told: GhostList::new(),
         sent: GhostList::new(),
         lost: GhostList::new(),
     };
-    Sched::try_with_recorder(rt.alloc(), params_of(rt, fields), SEED, pool).expect(
-        rt,
-        "a scheduler",
-    )
+    Sched::try_with_recorder(rt.alloc(), params, SEED, pool).expect(rt, "a scheduler")
+}
+
+/// The next packet is sent, if one waits: its buffer is given back.
+fn send_next<R: Abort>(rt: &R, sched: &mut Sched<Pool>, moment: u64, sent: &mut Returns) {
+    let dequeued = sched.dequeue(moment).ok().expect(rt, "a dequeue");
+    if let Some(given) = &dequeued {
+        assert!(rt; given.packet.tag() == given.id && given.moment == moment);
+        give_back(sent, &given.packet);
+    }
 }
 
 /// Packets come from each buffer in turn, three every 10 milliseconds, to three flows, and one is sent each time.
-fn pass_buffers<R: Abort>(rt: &R, sched: &mut Sched<Pool>) {
+fn pass_buffers<R: Abort>(rt: &R, sched: &mut Sched<Pool>, sent: &mut Returns) {
     for round in 0..40 {
         for port in 0..3 {
             let tag = 3 * round + u64::from(port);
             let tagged = packet(rt, port, 1_000).with_tag(tag);
             come(rt, sched, 1, 10_000 * round, tagged);
         }
-        assert!(rt; sched.dequeue(10_000 * round).is_ok());
+        send_next(rt, sched, 10_000 * round, sent);
     }
 }
 
-/// Each buffer was given back once at most, and so many weren't yet.
-fn left_out<R: Abort>(rt: &R, pool: &Pool) -> usize {
-    assert!(rt; pool.returns.iter().all(|times| *times <= 1));
-    pool.returns.iter().filter(|times| **times == 0).count()
+/// Each buffer was given back once at most, where a dequeue gave its packet or where that was lost, and so many weren't
+/// yet. The recorder was told of those as sent that a dequeue gave.
+fn left_out<R: Abort>(rt: &R, pool: &Pool, sent: &Returns) -> usize {
+    assert!(rt; pool.departed == *sent);
+    for (sent, lost) in sent.iter().zip(pool.given_back.iter()) {
+        assert!(rt; *sent <= 1 && *lost <= 1 && (*sent == 0 || *lost == 0));
+    }
+    sent.iter()
+        .zip(pool.given_back.iter())
+        .filter(|times| *times.0 == 0 && *times.1 == 0)
+        .count()
 }
 
 #[test]
 fn each_buffer_given_back_once(rt: HostRuntime) {
     let mut sched = pooled(&rt);
-    pass_buffers(&rt, &mut sched);
-    let waiting = left_out(&rt, sched.recorder());
+    let mut sent = [0; BUFFERS];
+    pass_buffers(&rt, &mut sched, &mut sent);
+    let waiting = left_out(&rt, sched.recorder(), &sent);
     assert!(rt; waiting > 0 && waiting as u64 == sched.queued());
     for round in 40..100 {
-        assert!(rt; sched.dequeue(10_000 * round).is_ok());
+        send_next(&rt, &mut sched, 10_000 * round, &mut sent);
     }
-    assert!(rt; left_out(&rt, sched.recorder()) == 0);
+    assert!(rt; left_out(&rt, sched.recorder(), &sent) == 0);
     let totals = sched.totals();
     assert!(rt; totals.dropped_codel > 0 && totals.dropped_overflow > 0);
     assert!(rt; totals.accepted == 120 && totals.queued == 0);
@@ -120,15 +144,16 @@ fn each_buffer_given_back_once(rt: HostRuntime) {
 #[test]
 fn what_waits_comes_back(rt: HostRuntime) {
     let mut sched = pooled(&rt);
-    pass_buffers(&rt, &mut sched);
+    let mut sent = [0; BUFFERS];
+    pass_buffers(&rt, &mut sched, &mut sent);
     let waiting = sched.queued();
     let mut given_up = sched.give_up();
     for _ in 0..waiting {
         let left = given_up.remains.next().expect(&rt, "a packet");
-        give_back(&mut given_up.recorder.returns, &left.packet);
+        give_back(&mut given_up.recorder.given_back, &left.packet);
     }
     assert!(rt; given_up.remains.next().is_none());
-    assert!(rt; left_out(&rt, &given_up.recorder) == 0);
+    assert!(rt; left_out(&rt, &given_up.recorder, &sent) == 0);
 }
 
 /// A new scheduler with four flows, whose events aren't stored.

@@ -6,8 +6,8 @@ use link_core::{
 };
 use link_picture::picture_text;
 use link_report::{
-    Binned, Gathered, MAX_EVENTS, Packets, Queue, flows_text, packets_text, series_text_with_seed,
-    steps_text,
+    Binned, Gathered, MAX_EVENTS, Packets, Queue, RunEvents, flows_text, packets_text,
+    series_text_with_seed, steps_text,
 };
 use sched_core::{Event, NullRecorder};
 use std::process::Abort;
@@ -136,7 +136,7 @@ fn tables(rt: &(impl Abort + AllocGlobal), events: &[Event]) {
     assert!(rt; events.len() <= MAX_EVENTS);
     let packets = Packets::with_seed(alloc, &SEED, events).expect(rt, "memory");
     assert_eq!(rt; packets.tuples().len(), packets.records().len());
-    assert!(rt; flows_text(alloc, events, None).is_ok());
+    assert!(rt; flows_text(alloc, RunEvents { events, end: 0 }, None).is_ok());
     assert!(rt; packets_text(alloc, events, None).is_ok());
 }
 

@@ -1,6 +1,6 @@
 -- A text's steps, made as its rows are taken.
-use Rattle.std.proofs.Common.{◌≡◌, ◌⊎◌, ◌∙◌, inl, inr, ℕ, List, [], ◌∷◌, ◌++◌, Option, Some, None, Result, Ok, Err, length, map, drop, refl, sym, ap, arith, ◌-◌, take, append-nil, append_assoc, length-append}
-use Rattle.std.specs.Prelude.{IfOk, MatchOption, OnOk}
+use Rattle.std.proofs.Common.{◌≡◌, ◌≤◌, ◌⊎◌, ◌∙◌, subst, inl, inr, ℕ, List, [], ◌∷◌, ◌++◌, Option, Some, None, Result, Ok, Err, length, map, drop, refl, sym, ap, arith, ◌-◌, take, append-nil, append_assoc, length-append}
+use Rattle.std.specs.Prelude.{IfOk, IfSome, MatchOption, OnOk}
 use Rattle.std.specs.List.{flat_map}
 use Rattle.std.proofs.Math.Seq.{drop-append_seam}
 use Rattle.std.proofs.lemmas.List.{flat_map_more, map-append, take_all}
@@ -148,3 +148,9 @@ other_seen r tally step old new (inr (moment, is)) takes seen = close_seen r tal
 pub always : {T E A : Type 0} (r : Result T E) → A → OnOk r A
 always (Ok x) a = a
 always (Err e) a = tt
+
+-- the bytes that were read are no more than the text has
+pub bytes_bound : (known : Option (List ℕ)) (text : List ℕ) (most : ℕ) → IfSome known (λ bytes. text ≡ bytes) → length text ≤ most
+    → IfSome known (λ bytes. length bytes ≤ most)
+bytes_bound (Some bytes) text most same few = subst (λ all. length all ≤ most) same few
+bytes_bound None text most same few = tt

@@ -50,7 +50,7 @@ impl Rows {
     {
         self.totals(&sched.totals())?;
         sched.journal_laws();
-        self.tuples(&tally.rows(&sched.seed(), sched.recorder())?)
+        self.tuples(&tally.rows(sched.recorder()))
     }
 
     /// The text of an engine's journal: the rows so far, of which there are none, a row for each event, the row of the

@@ -86,6 +86,9 @@ pub fn run<R: Read + Source, W: Write + Sink>(
         (EndsWith R.Answered IsReadFailure reader.old reader.new) why.row) }
     ensures write { IfErr result (λ fault. fault ≡ RunFault.Write
         → EndsWith W.Answered IsWriteFailure writer.old writer.new) }
+    ensures memory { IfErr result (λ fault. fault ≡ RunFault.Memory
+        → EndsWith R.Answered IsEnd reader.old reader.new
+        × IfSome (R.Source.remaining reader.old) (λ bytes. length bytes ≤ MAX_BYTES)) }
     ensures ended { OnOk result (EndsWith R.Answered IsEnd reader.old reader.new) }
     ensures wrote { OnOk result (WentOn W.Answered writer.old writer.new) }
 {
@@ -116,6 +119,11 @@ pub fn run_between<S: Source, K: Sink>(
         (EndsWith S.Answered IsReadFailure source.old source.new) why.row) }
     ensures write { IfErr result (λ fault. fault ≡ RunFault.Write
         → EndsWith K.Answered IsWriteFailure sink.old sink.new) }
+
+    // Memory comes only once the whole text was read, which isn't too long.
+    ensures memory { IfErr result (λ fault. fault ≡ RunFault.Memory
+        → EndsWith S.Answered IsEnd source.old source.new
+        × IfSome (S.remaining source.old) (λ bytes. length bytes ≤ MAX_BYTES)) }
     ensures ended { OnOk result (EndsWith S.Answered IsEnd source.old source.new) }
     ensures wrote { OnOk result (WentOn K.Answered sink.old sink.new) }
 {
@@ -147,7 +155,7 @@ fn text_of(alloc: Global, text: &[u8], sched: &mut Sched<Noted>) -> Result<Vec<u
     ensures write { IfErr result (λ fault. fault ≢ RunFault.Write) }
 {
     let mut report = Rows::new(alloc);
-    let mut tally = Tally::new(alloc);
+    let mut tally = Tally::new(alloc, &sched.seed());
     run_rows(
         sched,
         &mut TraceRows::new(alloc, text),

@@ -7,7 +7,7 @@ use Rattle.link_command.proofs.program_run.bins_text.Goals as goal
 pub returns-then-not-request-clause-text : goal.returns-then-not-request-clause-text
 returns-then-not-request-clause-text g c =
     let alone : c.args.request.now.has_fifo ≡ false = search (rules) in
-    let ran = c.in_ok-text.ensures in
+    let ran = c.in_ok-report.ensures.rows in
     record {
       steps = ran.steps;
       events = ran.events;
@@ -16,14 +16,14 @@ returns-then-not-request-clause-text g c =
     }
 
 pub returns-in_err-extend_from_slice-clause-quiet : goal.returns-in_err-extend_from_slice-clause-quiet
-returns-in_err-extend_from_slice-clause-quiet g c = λ none. Keeps-trans _ _ _ (c.note_stage.ensures none) (c.note_stage-2.ensures none)
+returns-in_err-extend_from_slice-clause-quiet g c = λ none. Keeps-trans _ _ _ (c.note_stage.ensures none) (c.note_rows.ensures none)
 
 pub returns-clause-text : goal.returns-clause-text
 returns-clause-text g c =
     let has : c.args.request.now.has_fifo ≡ true = search (rules) in
-    let ran = c.in_ok-text.ensures in
+    let ran = c.in_ok-report.ensures.rows in
     let beside = c.in_ok-rows.ensures in
-    let both = (c.in_ok-extend_from_slice.ensures {u = tt}).items ∙ (λ i. ran.text i ++ (c.deref.ensures.value ∙ beside.text) i) in
+    let both = (c.in_ok-extend_from_slice.ensures {u = tt}).items ∙ (λ i. ran.text i ++ (c.deref-2.ensures.value ∙ beside.text) i) in
     record {
       steps = ran.steps;
       events = ran.events;
@@ -32,4 +32,4 @@ returns-clause-text g c =
     }
 
 pub returns-clause-quiet : goal.returns-clause-quiet
-returns-clause-quiet g c = λ none. Keeps-trans _ _ _ (c.note_stage.ensures none) (c.note_stage-2.ensures none)
+returns-clause-quiet g c = λ none. Keeps-trans _ _ _ (c.note_stage.ensures none) (c.note_rows.ensures none)

@@ -2,6 +2,7 @@ use Rattle.std.proofs.Common.{map, subst, sym}
 use Rattle.std.proofs.KnownBytes.{Keeps-refl}
 use Rattle.link_command.specs.Runs.{IsAsked}
 use Rattle.link_command.specs.declared.faults.ProgramFault.TheVariants.{Write}
+use Rattle.link_command.proofs.NoteLemmas.{kept_appends}
 use Rattle.link_command.proofs.RunLemmas.{fails_unwritten}
 use Rattle.link_command.proofs.program_run.program.Goals as goal
 
@@ -17,3 +18,8 @@ returns-clause-fault g c =
     let unwritten =
     fails_unwritten (map (λ w. w.now) c.args.words.now) (g.R.Read.remaining c.args.reader.now) old old c.in-Err.fault c.in-Err.ensures.fault (Keeps-refl old) in
     λ bad. (c.in-Err.fault, unwritten, c.tell-in-Err.ensures)
+
+pub returns-in-Ok-write_text-clause-quiet : goal.returns-in-Ok-write_text-clause-quiet
+returns-in-Ok-write_text-clause-quiet g c = λ well input faults.
+    let written = rw c.deref-in-Ok-write_text.ensures.value at c.write_note.ensures in
+    (c.in-Ok.report.note.items, c.in-Ok.ensures.note, written.0, kept_appends _ _ _ _ (c.text_asked.ensures.quiet input faults) written.1)

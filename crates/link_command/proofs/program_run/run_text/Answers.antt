@@ -19,7 +19,7 @@ pub returns-clause-text : goal.returns-clause-text
 returns-clause-text g c =
     let made = rw c.deref.ensures.value at c.table_text.ensures.text in
     IfOk-weaker c.table_text.result _ _
-    (λ text table. record {
+    (λ report table. record {
       run = run_parts_of c.in_ok-run.run';
       said = c.in_ok-run.ensures.run;
       arrivals = c.in_ok-arrivals.arrivals.items;
@@ -31,3 +31,16 @@ returns-clause-text g c =
 pub returns-clause-fault : goal.returns-clause-fault
 returns-clause-fault g c =
     IfErr-weaker c.table_text.result _ _ (λ why memory. table_fails (texts_of c.args.request.now) (g.R.Read.remaining c.args.reader.now) why memory) c.table_text.ensures.fault
+
+pub returns-clause-note : goal.returns-clause-note
+returns-clause-note g c =
+    let made = rw c.deref.ensures.value at c.table_text.ensures.note in
+    IfOk-weaker c.table_text.result _ _
+    (λ report note. record {
+      run = run_parts_of c.in_ok-run.run';
+      said = c.in_ok-run.ensures.run;
+      arrivals = c.in_ok-arrivals.arrivals.items;
+      are = c.in_ok-arrivals.ensures.arrivals;
+      read = c.in_ok-arrivals.ensures.text;
+      of_run = note;
+    }) made

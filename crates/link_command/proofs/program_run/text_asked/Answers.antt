@@ -11,7 +11,7 @@ returns-in_err-request-clause-fault g c =
 
 pub returns-in-Run-clause-text : goal.returns-in-Run-clause-text
 returns-in-Run-clause-text g c =
-    IfOk-weaker c.run_text.result _ _ (λ text h. inl (texts_of c.in-Run.request, c.in_ok-request.ensures.run c.in-Run.request c.in-Run.is, h)) c.run_text.ensures.text
+    IfOk-weaker c.run_text.result _ _ (λ report h. inl (texts_of c.in-Run.request, c.in_ok-request.ensures.run c.in-Run.request c.in-Run.is, h)) c.run_text.ensures.text
 
 pub returns-in-Run-clause-fault : goal.returns-in-Run-clause-fault
 returns-in-Run-clause-fault g c =
@@ -21,3 +21,10 @@ returns-in-Run-clause-fault g c =
 
 pub returns-in-Text-clause-text : goal.returns-in-Text-clause-text
 returns-in-Text-clause-text g c = inr (c.in_ok-request.ensures.text c.in-Text.text c.in-Text.is)
+
+pub returns-in-Run-clause-note : goal.returns-in-Run-clause-note
+returns-in-Run-clause-note g c =
+    IfOk-weaker c.run_text.result _ _ (λ report h. inl (texts_of c.in-Run.request, c.in_ok-request.ensures.run c.in-Run.request c.in-Run.is, h)) c.run_text.ensures.note
+
+pub returns-in-Text-clause-note : goal.returns-in-Text-clause-note
+returns-in-Text-clause-note g c = inr (c.in_ok-request.ensures.text c.in-Text.text c.in-Text.is, c.new.ensures.items)

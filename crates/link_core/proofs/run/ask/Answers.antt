@@ -14,8 +14,8 @@ offset_bounds-arrivals-sent g c =
     let below = sent_within c.args.engine.now.sched c.dequeue.new.self.sched c.dequeue.new.self.steps c.args.now.moment c.in-Ok.sent c.in-Some.sent c.in-Ok.ensures.made c.run_of_steps.ensures c.in-Some.is in
     omega (arith, below)
 
-pub returns-in-Some : goal.returns-in-Some
-returns-in-Some g c =
+pub returns-in-Some-clause-asked : goal.returns-in-Some-clause-asked
+returns-in-Some-clause-asked g c =
     let serves = c.in-Ok.ensures.made in
     let one = given_of c.args.now.moment serves.gives.given c.in-Ok.sent c.in-Some.sent serves.gives.told c.in-Some.is in
     let below = sent_within c.args.engine.now.sched c.dequeue.new.self.sched c.dequeue.new.self.steps c.args.now.moment c.in-Ok.sent c.in-Some.sent serves c.run_of_steps.ensures c.in-Some.is in
@@ -28,8 +28,8 @@ returns-in-Some g c =
       sends = rw one.gives (rw long at c.after.ensures);
     }
 
-pub returns-in-None : goal.returns-in-None
-returns-in-None g c =
+pub returns-in-None-clause-asked : goal.returns-in-None-clause-asked
+returns-in-None-clause-asked g c =
     let serves = c.in-Ok.ensures.made in
     record {
       sent = c.in-Ok.sent;

@@ -1,9 +1,10 @@
-use Rattle.std.proofs.Common.{IsTrue, sym, ◌≤◌, ◌∙◌, arith}
+use Rattle.std.proofs.Common.{IsTrue, Some, sym, ◌≤◌, ◌∙◌, arith}
 use Rattle.std.proofs.lemmas.Bool.{false≢true}
-use Rattle.link_core.specs.Underway.{HasAsked, IsFreeInTime, sent_count}
+use Rattle.link_core.specs.Underway.{HasAsked, HasSentBy, IsFreeInTime, sent_count}
 use Rattle.link_core.specs.declared.arrival.TheConstants.{MAX_ARRIVALS}
 use Rattle.link_core.proofs.LinkEngines.{asked_count, asked_on_link, sent_bound}
 use Rattle.link_core.proofs.LinkTimes.{asks_free, coming_after, dequeue_fits, not_by, soon_enough}
+use Rattle.link_core.proofs.SentWhole.{asked_busy, engine_asked}
 use Rattle.link_core.proofs.run.ask_before.Goals as goal
 
 pub ask-requires : goal.ask-requires
@@ -27,13 +28,18 @@ loop-busy-preserved g c =
     let old = c.loop-busy.engine in
     let new = c.ask.new.engine in
     let busy = c.in_ok-busy.busy in
-    let asked : HasAsked c.args.link.now c.args.arrivals.now c.in-Some.free old busy new = c.in_ok-busy.ensures {u = tt} in
+    let asked : HasAsked c.args.link.now c.args.arrivals.now c.in-Some.free old busy new = (c.in_ok-busy.ensures {u = tt}).asked in
     let frees : IsFreeInTime c.args.link.now old.sched.standing.state.last (sent_count old.sched.standing.events) c.in-Some.free = rw c.in-Some.is at inv.on_link.on_time.frees in
     let under = rw c.in-Some.is at inv.on_link.underway in
     let later = not_by c.in-Some.free.moment c.args.coming.now (λ by. let t : IsTrue c.comes_by.result = c.comes_by.ensures.1 by in absurd (false≢true (sym c.if-comes_by.false ∙ t))) in
+    let bound = sent_bound c.args.link.now c.args.arrivals.now old _ inv.on_link.underway in
+    let few : sent_count old.sched.standing.events ≤ MAX_ARRIVALS = omega (arith, bound.0, c.requires.few) in
+    let sent : HasSentBy c.args.link.now c.args.arrivals.now old.sched.standing.events (Some c.in-Some.free) c.args.coming.now c.loop-busy.done = rw c.in-Some.is at inv.sent in
+    let from = asked_busy c.args.link.now c.args.arrivals.now old.sched.standing.events c.in-Some.free c.args.coming.now c.loop-busy.done sent frees.rest later (soon_enough c.in-Some.free.moment (sent_count old.sched.standing.events) frees.soon few) in
     record {
       on_link = asked_on_link c.args.link.now c.args.arrivals.now old new c.in-Some.free busy _ under asked (λ events. asks_free c.args.link.now c.args.arrivals.now c.in-Some.free c.args.coming.now events frees.rest later) frees.soon
           (coming_after old.sched.standing.state.last c.in-Some.free.moment c.args.coming.now later inv.on_link.on_time.comes);
+      sent = rw (c.in_ok-busy.ensures {u = tt}).done (engine_asked c.args.link.now c.args.arrivals.now old new c.in-Some.free busy c.args.coming.now c.loop-busy.done asked from);
       kept = record { params = asked.serves.params ∙ inv.kept.params; seed = asked.serves.seed ∙ inv.kept.seed };
     }
 
@@ -42,7 +48,7 @@ loop-busy-smaller g c =
     let old = c.loop-busy.engine in
     let new = c.ask.new.engine in
     let busy = c.in_ok-busy.busy in
-    let asked : HasAsked c.args.link.now c.args.arrivals.now c.in-Some.free old busy new = c.in_ok-busy.ensures {u = tt} in
+    let asked : HasAsked c.args.link.now c.args.arrivals.now c.in-Some.free old busy new = (c.in_ok-busy.ensures {u = tt}).asked in
     let more = asked_count c.args.link.now c.args.arrivals.now old new c.in-Some.free busy asked in
     let inv = loop-busy-preserved g c in
     let bound = (sent_bound c.args.link.now c.args.arrivals.now new _ inv.on_link.underway).0 in

@@ -1,8 +1,8 @@
-use Rattle.std.proofs.Common.{◌≡◌, Ok, map, option_map, rules}
+use Rattle.std.proofs.Common.{◌≡◌, Ok, map, inl, inr, option_map, refl, rules}
 use Rattle.packet_core.specs.Words.{params_of_words}
-use Rattle.program_core.specs.Faults.{run_fault_told}
+use Rattle.program_core.specs.Faults.{run_fault_told, senders_fault_told}
 use Rattle.run_core.specs.Journals.{AreLockedJournal}
-use Rattle.program_core.proofs.RunLemmas.{err_told, locked_fault, senders_run}
+use Rattle.program_core.proofs.RunLemmas.{begun, err_told, good, locked_fault, locked_run_fault, senders_run}
 use Rattle.program_core.proofs.locked.simulate_locked.Goals as goal
 
 pub returns-in_err-write_journal-clause-fault : goal.returns-in_err-write_journal-clause-fault
@@ -13,6 +13,7 @@ returns-in_err-write_journal-clause-fault g c =
     err_told c.from_residual-in_err-write_journal.result (run_fault_told fault) _ c.from_residual-in_err-write_journal.ensures.1
     (locked_fault (option_map (λ s. s.now) c.args.request.now.run.seed) (map (λ w. w.now) c.args.request.now.run.parameters.items)
     c.args.request.now.senders (g.R.Read.remaining c.args.reader.now) (g.W.Write.contents c.args.writer.now) (g.W.Write.contents c.write_journal.new.writer) fault
+    (begun (option_map (λ s. s.now) c.args.request.now.run.seed) _ _ c.in_ok-seed.seed.0 c.in_ok-params.params c.in_ok-steps.steps.items c.in_ok-seed.ensures.ok params_read c.in_ok-steps.ensures.steps)
     (λ is.
     senders_run AreLockedJournal (option_map (λ s. s.now) c.args.request.now.run.seed) _ _ _ _ c.in_ok-seed.seed c.in_ok-params.params c.in_ok-steps.steps.items c.in_ok-engine.engine.sched.standing.events c.deref-3.result.now
     c.in_ok-seed.ensures.ok params_read c.in_ok-steps.ensures.steps made (c.in_err-write_journal.ensures.front is))
@@ -24,3 +25,38 @@ returns-clause-journal g c =
     let made : AreLockedJournal c.in_ok-params.params c.in_ok-seed.seed c.args.request.now.senders c.in_ok-steps.steps.items c.in_ok-engine.engine.sched.standing.events c.deref-3.result.now = search rules in
     senders_run AreLockedJournal (option_map (λ s. s.now) c.args.request.now.run.seed) _ _ _ _ c.in_ok-seed.seed c.in_ok-params.params c.in_ok-steps.steps.items c.in_ok-engine.engine.sched.standing.events c.deref-3.result.now
     c.in_ok-seed.ensures.ok params_read c.in_ok-steps.ensures.steps made c.in_ok-write_journal.ensures.text
+
+pub returns-in_err-engine-clause-fault : goal.returns-in_err-engine-clause-fault
+returns-in_err-engine-clause-fault g c =
+    let fault = c.in_err-engine.field-0.0 in
+    let params_read : params_of_words (map (λ w. w.now) c.args.request.now.run.parameters.items) ≡ Ok c.in_ok-params.params = search rules in
+    err_told c.from_residual-in_err-engine.result (senders_fault_told fault) _ c.from_residual-in_err-engine.ensures.1
+    (locked_run_fault (option_map (λ s. s.now) c.args.request.now.run.seed) (map (λ w. w.now) c.args.request.now.run.parameters.items) c.args.request.now.senders (g.R.Read.remaining c.args.reader.now) (g.W.Write.contents c.args.writer.now) fault
+    c.in_err-engine.ensures.fault
+    (begun (option_map (λ s. s.now) c.args.request.now.run.seed) _ _ c.in_ok-seed.seed.0 c.in_ok-params.params c.in_ok-steps.steps.items c.in_ok-seed.ensures.ok params_read c.in_ok-steps.ensures.steps))
+
+pub returns-in_err-steps-clause-reads : goal.returns-in_err-steps-clause-reads
+returns-in_err-steps-clause-reads g c =
+    let params_read : params_of_words (map (λ w. w.now) c.args.request.now.run.parameters.items) ≡ Ok c.in_ok-params.params = search rules in
+    inl (good (option_map (λ s. s.now) c.args.request.now.run.seed) _ c.in_ok-seed.seed.0 c.in_ok-params.params c.in_ok-seed.ensures.ok params_read)
+
+pub returns-in_err-engine-clause-reads : goal.returns-in_err-engine-clause-reads
+returns-in_err-engine-clause-reads g c =
+    let params_read : params_of_words (map (λ w. w.now) c.args.request.now.run.parameters.items) ≡ Ok c.in_ok-params.params = search rules in
+    inl (good (option_map (λ s. s.now) c.args.request.now.run.seed) _ c.in_ok-seed.seed.0 c.in_ok-params.params c.in_ok-seed.ensures.ok params_read)
+
+pub returns-in_err-write_journal-clause-reads : goal.returns-in_err-write_journal-clause-reads
+returns-in_err-write_journal-clause-reads g c =
+    let params_read : params_of_words (map (λ w. w.now) c.args.request.now.run.parameters.items) ≡ Ok c.in_ok-params.params = search rules in
+    inl (good (option_map (λ s. s.now) c.args.request.now.run.seed) _ c.in_ok-seed.seed.0 c.in_ok-params.params c.in_ok-seed.ensures.ok params_read)
+
+pub returns-clause-reads : goal.returns-clause-reads
+returns-clause-reads g c =
+    let params_read : params_of_words (map (λ w. w.now) c.args.request.now.run.parameters.items) ≡ Ok c.in_ok-params.params = search rules in
+    inl (good (option_map (λ s. s.now) c.args.request.now.run.seed) _ c.in_ok-seed.seed.0 c.in_ok-params.params c.in_ok-seed.ensures.ok params_read)
+
+pub returns-in_err-seed-clause-reads : goal.returns-in_err-seed-clause-reads
+returns-in_err-seed-clause-reads g c = inr refl
+
+pub returns-in_err-params-clause-reads : goal.returns-in_err-params-clause-reads
+returns-in_err-params-clause-reads g c = inr refl

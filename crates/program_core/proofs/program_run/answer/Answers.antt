@@ -1,5 +1,6 @@
-use Rattle.std.proofs.Common.{inl, inr, map}
+use Rattle.std.proofs.Common.{◌≡◌, inl, inr, map, refl}
 use Rattle.run_core.specs.Journals.{AreLanesJournal, AreLockedJournal}
+use Rattle.program_core.proofs.FaultLemmas.{input_asked, lanes_fault_on, locked_fault_on, trace_fault_on}
 use Rattle.program_core.proofs.RunLemmas.{answers_senders, answers_so, answers_watched, help_has_no_lanes, locked_has_no_lanes, on_ok, trace_has_no_lanes}
 use Rattle.program_core.proofs.program_run.answer.Goals as goal
 
@@ -52,3 +53,56 @@ pub returns-in-Help-clause-told : goal.returns-in-Help-clause-told
 returns-in-Help-clause-told g c =
     let text = c.in-Help.text in
     on_ok c.show.result _ (λ lanes. absurd (help_has_no_lanes _ (c.in_ok-trace.ensures.help text c.in-Help.is) lanes))
+
+pub returns-in-Trace-clause-fault : goal.returns-in-Trace-clause-fault
+returns-in-Trace-clause-fault g c =
+    let trace = c.in-Trace.trace in
+    let same = c.in-Trace.is in
+    trace_fault_on (map (λ w. w.now) c.args.words.now) _ _ (g.R.Read.remaining c.args.reader.now) (g.W.Write.contents c.args.writer.now)
+    (g.W.Write.contents c.simulate.new.writer) c.simulate.result (c.in_ok-trace.ensures.seed trace same) (c.in_ok-trace.ensures.parameters trace same)
+    (c.in_ok-trace.ensures.trace trace same) (rw c.deref.ensures.value at c.simulate.ensures.fault)
+
+pub returns-in-Locked-clause-fault : goal.returns-in-Locked-clause-fault
+returns-in-Locked-clause-fault g c =
+    let senders = c.in-Locked.senders in
+    let same = c.in-Locked.is in
+    locked_fault_on (map (λ w. w.now) c.args.words.now) _ _ senders.senders (g.R.Read.remaining c.args.reader.now) (g.W.Write.contents c.args.writer.now)
+    (g.W.Write.contents c.simulate_locked.new.writer) c.simulate_locked.result (c.in_ok-trace.ensures.locked_seed senders same)
+    (c.in_ok-trace.ensures.locked_parameters senders same) (c.in_ok-trace.ensures.senders senders same) (c.in_ok-trace.ensures.locked senders same)
+    c.simulate_locked.ensures.fault
+
+pub returns-in-Lanes-clause-fault : goal.returns-in-Lanes-clause-fault
+returns-in-Lanes-clause-fault g c =
+    let lanes = c.in-Lanes.lanes in
+    let same = c.in-Lanes.is in
+    lanes_fault_on (map (λ w. w.now) c.args.words.now) _ _ lanes.by.senders lanes.monitors (g.R.Read.remaining c.args.reader.now) (g.W.Write.contents c.args.writer.now)
+    (g.W.Write.contents c.simulate_lanes.new.writer) c.simulate_lanes.result (c.in_ok-trace.ensures.lanes_seed lanes same)
+    (c.in_ok-trace.ensures.lanes_parameters lanes same) (c.in_ok-trace.ensures.lanes_senders lanes same) (c.in_ok-trace.ensures.monitors lanes same)
+    (c.in_ok-trace.ensures.lanes lanes same) c.simulate_lanes.ensures.fault
+
+pub returns-in-Trace-clause-unread : goal.returns-in-Trace-clause-unread
+returns-in-Trace-clause-unread g c =
+    let trace = c.in-Trace.trace in
+    let same = c.in-Trace.is in
+    input_asked (map (λ w. w.now) c.args.words.now) _ _ (c.simulate.new.reader ≡ c.args.reader.now) (c.in_ok-trace.ensures.seed trace same)
+    (c.in_ok-trace.ensures.parameters trace same) (c.in_ok-trace.ensures.trace trace same).0 (rw c.deref.ensures.value at c.simulate.ensures.reads)
+
+pub returns-in-Locked-clause-unread : goal.returns-in-Locked-clause-unread
+returns-in-Locked-clause-unread g c =
+    let senders = c.in-Locked.senders in
+    let same = c.in-Locked.is in
+    input_asked (map (λ w. w.now) c.args.words.now) _ _ (c.simulate_locked.new.reader ≡ c.args.reader.now) (c.in_ok-trace.ensures.locked_seed senders same)
+    (c.in_ok-trace.ensures.locked_parameters senders same) (c.in_ok-trace.ensures.locked senders same).0 c.simulate_locked.ensures.reads
+
+pub returns-in-Lanes-clause-unread : goal.returns-in-Lanes-clause-unread
+returns-in-Lanes-clause-unread g c =
+    let lanes = c.in-Lanes.lanes in
+    let same = c.in-Lanes.is in
+    input_asked (map (λ w. w.now) c.args.words.now) _ _ (c.simulate_lanes.new.reader ≡ c.args.reader.now) (c.in_ok-trace.ensures.lanes_seed lanes same)
+    (c.in_ok-trace.ensures.lanes_parameters lanes same) (c.in_ok-trace.ensures.lanes lanes same).0 c.simulate_lanes.ensures.reads
+
+pub returns-in_err-trace-clause-unread : goal.returns-in_err-trace-clause-unread
+returns-in_err-trace-clause-unread g c = inr refl
+
+pub returns-in-Help-clause-unread : goal.returns-in-Help-clause-unread
+returns-in-Help-clause-unread g c = inr refl

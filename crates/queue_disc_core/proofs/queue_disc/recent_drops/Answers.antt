@@ -1,4 +1,4 @@
-use Rattle.std.proofs.Common.{◌+◌, List, ap, length, sym, ◌∙◌}
+use Rattle.std.proofs.Common.{◌+◌, List, ap, length, sym, ◌∙◌, arith}
 use Rattle.journal_core.specs.declared.event.Event.{Event}
 use Rattle.queue_disc_core.specs.Drops.{settled_drops}
 use Rattle.queue_disc_core.proofs.Memory.{few_recent}
@@ -6,8 +6,9 @@ use Rattle.queue_disc_core.proofs.queue_disc.recent_drops.Goals as goal
 
 pub kept-requires : goal.kept-requires
 kept-requires c =
-    rw (c.recorder-drops.ensures.lost, c.recorder-drops.ensures.told, c.recorder-drops.ensures.made_for c.is_made_for_some.ensures)
-    (few_recent c.args.sched.now c.has_laws.ensures.laws c.has_laws.ensures.counted c.requires)
+    let enough = c.recorder-drops.ensures.made_for c.is_made_for_some.ensures in
+    rw (c.recorder-drops.ensures.lost, c.recorder-drops.ensures.told)
+    (omega (arith, few_recent c.args.sched.now c.has_laws.ensures.laws c.has_laws.ensures.counted c.requires, enough))
 
 pub returns-clause-lost : goal.returns-clause-lost
 returns-clause-lost c =

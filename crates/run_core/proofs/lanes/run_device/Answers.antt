@@ -6,7 +6,7 @@ use Rattle.port_core.specs.declared.lane_sender.LaneDone.{LaneDone}
 use Rattle.run_core.specs.DeviceRuns.{EndsRun, HasServed}
 use Rattle.run_core.proofs.DeviceRunLemmas.{served_open}
 use Rattle.run_core.specs.Journals.{IsSameDevice, IsSent}
-use Rattle.run_core.specs.SendersFaults.{IsEndingFault, IsLanesRunFault}
+use Rattle.run_core.specs.SendersFaults.{IsDeviceFault, IsEndingFault}
 use Rattle.sender_core.proofs.SenderLemmas.{member}
 use Rattle.sender_core.specs.Senders.{IsHeldUp}
 use Rattle.run_core.proofs.LaneRunLemmas.{lane_rows, same_more, sent_each, some_fault}

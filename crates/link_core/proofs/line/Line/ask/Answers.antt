@@ -24,7 +24,8 @@ returns-clause-given g c =
       journal = rw (c.and.ensures.items, c.departure.ensures) refl;
       departed = c.and-2.ensures.items;
       gone = refl;
-      sends = rw (← long) c.after.ensures;
+      sends = rw (← long) c.after-self.ensures;
       arrived = refl;
+      done = refl;
       kept = record { params = refl; seed = refl };
     }

@@ -1,9 +1,10 @@
-use Rattle.std.proofs.Common.{IsTrue, sym, ◌∙◌}
+use Rattle.std.proofs.Common.{IsTrue, Some, sym, ◌∙◌}
 use Rattle.std.proofs.lemmas.Bool.{false≢true}
 use Rattle.link_core.specs.Lines.{HasGiven}
-use Rattle.link_core.specs.Underway.{IsFreeInTime, sent_count}
+use Rattle.link_core.specs.Underway.{HasSentBy, IsFreeInTime, sent_count}
 use Rattle.link_core.proofs.LineLemmas.{arrived_few, given_on_fifo}
 use Rattle.link_core.proofs.LinkTimes.{asks_free, coming_after, not_by, soon_enough}
+use Rattle.link_core.proofs.SentWhole.{asked_busy}
 use Rattle.link_core.proofs.line.Line.ask_before.Goals as goal
 
 pub loop-busy-preserved : goal.loop-busy-preserved
@@ -19,9 +20,11 @@ loop-busy-preserved g c =
     let under = rw c.in-Some.is at on.underway in
     let later = not_by free.moment c.args.coming.now (λ by. let t : IsTrue c.comes_by.result = c.comes_by.ensures.1 by in absurd (false≢true (sym c.if-comes_by.false ∙ t))) in
     let few = (arrived_few c.args.link.now c.args.arrivals.now old c.loop-busy.busy c.args.coming.now on c.requires.few).1 in
+    let sent : HasSentBy c.args.link.now c.args.arrivals.now old.events.items (Some free) c.args.coming.now old.done = rw c.in-Some.is at on.sent in
+    let from = asked_busy c.args.link.now c.args.arrivals.now old.events.items free c.args.coming.now old.done sent frees.rest later (soon_enough free.moment (sent_count old.events.items) frees.soon few) in
     record {
       on_link = given_on_fifo c.args.link.now c.args.arrivals.now on.steps on.last old new free busy _ under on.in_line given (λ events. asks_free c.args.link.now c.args.arrivals.now free c.args.coming.now events frees.rest later)
-          (soon_enough free.moment (sent_count old.events.items) frees.soon few) frees.later frees.soon (coming_after on.last free.moment c.args.coming.now later on.on_time.comes);
+          (soon_enough free.moment (sent_count old.events.items) frees.soon few) frees.later frees.soon (coming_after on.last free.moment c.args.coming.now later on.on_time.comes) from;
       kept = record { params = given.kept.params ∙ inv.kept.params; seed = given.kept.seed ∙ inv.kept.seed };
       told = (c.in_ok-busy.ensures {u = tt}).told;
     }

@@ -1,4 +1,6 @@
+use Rattle.std.proofs.Common.{◌∙◌, ap}
 use Rattle.journal_core.specs.declared.event.Event.TheVariants.{Closed}
+use Rattle.link_report.specs.Gatherings.{Gathering}
 use Rattle.link_report.proofs.BinLemmas.{binned_still}
 use Rattle.link_report.proofs.binned.BinnedRecorder.close.Goals as goal
 
@@ -6,4 +8,9 @@ pub invariant_of-self : goal.invariant_of-self
 invariant_of-self c =
     let old = c.self.inside in
     let follow = c.follow in
-    binned_still old.bins.value.series follow.new.self.series old.bins.value.table follow.new.self.table old.bins.value.is_short follow.new.self.is_short old.gathered.events c.close.new.self.events (Closed c.args.moment) (rw c.deref_mut.ensures.value at follow.ensures.queue) (rw c.deref_mut.ensures.value at follow.ensures.every) c.close.ensures.told (rw c.deref_mut.ensures.value at follow.ensures.walk) c.self.invariant
+    let gathered = follow.ensures.gathered in
+    record {
+      most = ap (λ (g : Gathering). g.most) gathered ∙ c.close.ensures.on.most ∙ c.self.invariant.most;
+      short = ap (λ (g : Gathering). g.is_short) gathered;
+      rows = rw (ap (λ (g : Gathering). g.events) gathered) (binned_still old.bins.value.series follow.new.self.series old.bins.value.table follow.new.self.table old.bins.value.is_short follow.new.self.is_short old.gathered.events c.close.new.self.events (Closed c.args.moment) (rw c.deref_mut.ensures.value at follow.ensures.queue) (rw c.deref_mut.ensures.value at follow.ensures.every) c.close.ensures.told (rw c.deref_mut.ensures.value at follow.ensures.walk) c.self.invariant.rows);
+    }

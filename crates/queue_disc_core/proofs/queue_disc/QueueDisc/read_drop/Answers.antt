@@ -13,8 +13,9 @@ use Rattle.queue_disc_core.proofs.queue_disc.QueueDisc.read_drop.Goals as goal
 
 pub dropped-dropped-requires-clause-few : goal.dropped-dropped-requires-clause-few
 dropped-dropped-requires-clause-few c =
-    rw (c.recorder-drops.ensures.lost, c.recorder-drops.ensures.told, c.recorder-drops.ensures.made_for c.is_made_for_some.ensures)
-    (few_recent c.self.inside.sched c.has_laws.ensures.laws c.has_laws.ensures.counted c.self.invariant.memory)
+    let enough = c.recorder-drops.ensures.made_for c.is_made_for_some.ensures in
+    rw (c.recorder-drops.ensures.lost, c.recorder-drops.ensures.told)
+    (omega (arith, few_recent c.self.inside.sched c.has_laws.ensures.laws c.has_laws.ensures.counted c.self.invariant.memory, enough))
 
 pub overflow_add-dropped : goal.overflow_add-dropped
 overflow_add-dropped c =

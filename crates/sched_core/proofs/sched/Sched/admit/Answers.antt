@@ -51,7 +51,7 @@ accepts g c =
 kept_made_for : (g : given.Over) (c : After-overflow g) → IsMadeFor c.self.inside.params.limit c.overflow.new.journal.made_for
 kept_made_for g c =
     let same = ap (λ (b : Book). b.made_for) (accepts g c).drops.journal in
-    λ some. same ∙ c.self.invariant.made_for (omega (arith, some, same))
+    λ some. omega (arith, same, c.self.invariant.made_for (omega (arith, some, same)))
 
 -- an arrival is one packet more
 arrival_fits : (queues : List (List Waiting)) (flow : ℕ) (w : Waiting) (room : ℕ) → flow < length queues → sum_by length queues + 1 ≤ room

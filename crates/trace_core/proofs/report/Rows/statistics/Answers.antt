@@ -9,5 +9,5 @@ pub returns : goal.returns
 unfolding AddsToReport
 returns c =
     on_ok_weaker c.tuples.result
-    (λ adds written h. rw (c.totals.ensures.value, c.deref.ensures.value, c.in_ok-rows.ensures.rows, c.recorder.ensures.told) at (adds _ (c.in_ok-totals.ensures {u = tt} _ h)))
+    (λ adds written h. rw (c.totals.ensures.value, c.deref.ensures.value, c.rows.ensures.rows, c.recorder.ensures.told) at (adds _ (c.in_ok-totals.ensures {u = tt} _ h)))
     c.tuples.ensures

@@ -1,10 +1,11 @@
-use Rattle.std.proofs.Common.{◌∙◌, refl, sym, ap, List, get_or, subst, arith}
+use Rattle.std.proofs.Common.{◌∙◌, [], sym, ap, List, get_or, subst, arith}
 use Rattle.journal_core.specs.Losses.{departed_packets, lost_packets}
 use Rattle.link_core.specs.declared.arrival.Arrival.{Arrival}
 use Rattle.link_core.specs.Lines.{HasFlow, IsOnFifo}
 use Rattle.link_core.proofs.LineLemmas.{fifo_has_run, opening_on_fifo}
 use Rattle.link_core.proofs.LinkEngines.{first_from, next_of, none_left, rest_of}
-use Rattle.link_core.proofs.fifo.run_fifo_with_recorder.Goals as goal
+use Rattle.link_core.proofs.SentWhole.{ends_at}
+use Rattle.link_core.proofs.fifo.run_fifo_to_end.Goals as goal
 
 pub loop-i-init : goal.loop-i-init
 loop-i-init g c =
@@ -55,3 +56,13 @@ pub returns-clause-lost : goal.returns-clause-lost
 returns-clause-lost g c =
     let done = c.in_ok-ask_before.ensures {u = tt} in
     done.told.lost_are ∙ done.on_link.in_line.named.gone ∙ ap lost_packets (sym done.told.events_are)
+
+pub rounded_up-requires : goal.rounded_up-requires
+rounded_up-requires g c =
+    let sent = (c.in_ok-ask_before.ensures {u = tt}).on_link.sent in
+    rw c.done.ensures (record { soon = omega (arith, sent.soon); rest = sent.rest })
+
+pub returns-clause-end : goal.returns-clause-end
+returns-clause-end g c =
+    let done = c.in_ok-ask_before.ensures {u = tt} in
+    rw done.told.events_are (ends_at c.args.link.now c.args.arrivals.now c.ask_before.new.self.events.items c.in_ok-ask_before.field-0 [] c.ask_before.new.self.done c.rounded_up.result done.on_link.sent (rw c.done.ensures at c.rounded_up.ensures))

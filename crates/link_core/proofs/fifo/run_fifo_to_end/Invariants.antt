@@ -1,6 +1,6 @@
 use Rattle.std.proofs.Common.{◌≡◌, drop}
 use Rattle.link_core.specs.Lines.{AreTold, IsOnFifo}
-use Rattle.link_core.proofs.fifo.run_fifo_with_recorder.Given as goal
+use Rattle.link_core.proofs.fifo.run_fifo_to_end.Given as goal
 
 -- the arrivals so far were met, the recorder was told of it, and flows are chosen by the same parameters and seed
 abbrev pub invariant-loop-i : goal.invariant-loop-i

@@ -19,7 +19,7 @@ static int failures;
 static void expect(bool holds, const char *what)
 {
 	if (!holds) {
-		fprintf(stderr, "threads: %s\n", what);
+		fprintf(stderr, "handed_over: %s\n", what);
 		failures++;
 	}
 }
@@ -156,6 +156,6 @@ int main(void)
 		if (came_back[tag] != 1)
 			expect(false, "a tag didn't come back");
 	if (failures == 0)
-		puts("threads: a scheduler went from thread to thread, and each tag came back once");
+		puts("handed_over: a scheduler went from thread to thread, and each tag came back once");
 	return failures != 0;
 }

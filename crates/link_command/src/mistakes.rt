@@ -1,0 +1,124 @@
+//! What a word that begins with a dash was to be, where it is no option. `clap` would have it behind `--`, where the
+//! parameters' words are read, and it is none of these either.
+
+use crate::explanations::wanted;
+use crate::faults::ValueName;
+use clap::Error;
+use clap::error::ErrorKind;
+use std::alloc::{AllocError, Global};
+
+/// How the tip of `clap` begins that is left out.
+const TIP: &str = "\n  tip: to pass '";
+
+/// What a value is of which the line says no more.
+const LISTED: &str = "one of those that 'maltlink --help' lists";
+
+/// The text of a mistake: what `clap` says, with a second line in place of its tip where that misleads.
+pub(crate) fn mistake_text(
+    alloc: Global,
+    words: &[&str],
+    error: &Error,
+) -> Result<String, AllocError> {
+    let text = format!(in alloc; "{error}")?;
+    if error.kind() != ErrorKind::UnknownArgument {
+        return Ok(text);
+    }
+    let (Some((head, tip)), Some((before, word))) = (text.split_once(TIP), no_option(words)) else {
+        return Ok(text);
+    };
+    let rest = match tip.split_once("\n") {
+        Some((_, rest)) => rest,
+        None => "",
+    };
+    let line = meant(alloc, before, word)?;
+    format!(in alloc; "{head}{line}\n{rest}")
+}
+
+/// The first word that begins with a dash and is no option, and the word before it.
+fn no_option<'a>(words: &[&'a str]) -> Option<(&'a str, &'a str)> {
+    let mut before = "";
+    for word in words {
+        if *word == "--" {
+            return None;
+        }
+        if word.starts_with("-") && word.len() > 1 && !is_option(word) {
+            return Some((before, *word));
+        }
+        before = *word;
+    }
+    None
+}
+
+/// Whether a word is an option, which may have its value behind `=`.
+fn is_option(word: &str) -> bool {
+    let name = name_of(word);
+    takes_value(name) || name == "--help" || name == "--version" || word == "-h" || word == "-V"
+}
+
+/// What stands before the first `=` of a word.
+fn name_of(word: &str) -> &str {
+    match word.split_once("=") {
+        Some((name, _)) => name,
+        None => word,
+    }
+}
+
+/// Whether an option of that name has a value.
+fn takes_value(name: &str) -> bool {
+    match name {
+        "--rate" | "--overhead" | "--mpu" | "--every" => true,
+        "--seed" | "--compare" | "--write" => true,
+        _ => false,
+    }
+}
+
+/// What that word was to be, behind the one before it.
+fn meant(alloc: Global, before: &str, word: &str) -> Result<String, AllocError> {
+    if takes_value(before) {
+        return format!(in alloc; "  {before} {word:?}: wanted is {}", wanted_after(before));
+    }
+    let bare = word.trim_start_matches('-');
+    if let Some(form) = form_of(name_of(bare)) {
+        return format!(in alloc;
+            "  {word:?}: a parameter is written without dashes, as in '{form}'"
+        );
+    }
+    if form_of(before).is_some() && before != "ecn" && before != "noecn" {
+        return format!(in alloc;
+            "  {before} {word:?}: wanted is a value without a sign, as in '{}'",
+            form_of(before).unwrap_or("")
+        );
+    }
+    format!(in alloc; "  {word:?}: no option has that name ('maltlink --help' lists them)")
+}
+
+/// What the value of an option is.
+fn wanted_after(option: &str) -> &'static str {
+    match option {
+        "--rate" => wanted(ValueName::Rate),
+        "--overhead" => wanted(ValueName::Overhead),
+        "--mpu" => wanted(ValueName::Mpu),
+        "--every" => wanted(ValueName::Every),
+        "--seed" => "32 hexadecimal digits",
+        _ => LISTED,
+    }
+}
+
+/// How the parameter of that name is written, if there is one.
+fn form_of(name: &str) -> Option<&'static str> {
+    match name {
+        "limit" => Some("limit 10240"),
+        "flows" => Some("flows 1024"),
+        "quantum" => Some("quantum 1514"),
+        "mtu" => Some("mtu 1514"),
+        "target" => Some("target 5ms"),
+        "interval" => Some("interval 100ms"),
+        "ce_threshold" => Some("ce_threshold 1ms"),
+        "memory_limit" => Some("memory_limit 32Mb"),
+        "drop_batch" => Some("drop_batch 64"),
+        "ecn" => Some("ecn"),
+        "noecn" => Some("noecn"),
+        "classify" => Some("classify dport"),
+        _ => None,
+    }
+}
