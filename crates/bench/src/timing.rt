@@ -198,7 +198,7 @@ fn run_with_recorder<R: AllocGlobal + Clock, K: Recorder>(
     requires untold { K.told recorder ≡ [] }
     requires none_sent { K.sent recorder ≡ [] }
     requires no_loss { K.lost recorder ≡ [] }
-    requires made_for { K.made_for recorder ≡ 0 }
+    requires made_for { K.made_for recorder ≡ record { packets = 0; numbers = [] } }
 {
     let mut sched = Sched::try_with_recorder(rt.alloc(), params_of(workload)?, SEED, recorder)?;
     run_through(rt, workload, &mut sched)

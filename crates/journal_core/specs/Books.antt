@@ -6,21 +6,22 @@ use Rattle.journal_core.specs.declared.event.Cause.{Cause}
 use Rattle.journal_core.specs.declared.event.Cause.TheVariants.{Codel, Overflow}
 use Rattle.journal_core.specs.declared.event.Event.{Event}
 use Rattle.journal_core.specs.declared.journal.Counts.{Counts}
+use Rattle.journal_core.specs.MadeFor.{MadeFor}
 use Rattle.journal_core.specs.declared.journal.TheConstants.{MAX_EVENTS}
 
 -- the journal as the scheduler sees it: the events, the packets that its recorder was told of as sent and as lost, the
--- counts that run along, how many events more take no memory, and for how many packets its recorder was made
+-- counts that run along, how many events more take no memory, and what its recorder was made for
 pub record Book : Type 0 where
   pub events : List Event
   pub sent : List Waiting
   pub lost : List Waiting
   pub counts : Counts
   pub room : ℕ
-  pub made_for : ℕ
+  pub made_for : MadeFor
 
--- that of a recorder which was told those events, departures and losses, has so much room, and was made for so many
--- packets; there is no more room than the most events leave
-abbrev pub book_of : List Event → List Waiting → List Waiting → Counts → ℕ → ℕ → Book
+-- that of a recorder which was told those events, departures and losses, has so much room, and was made for that; there
+-- is no more room than the most events leave
+abbrev pub book_of : List Event → List Waiting → List Waiting → Counts → ℕ → MadeFor → Book
 book_of events sent lost counts room made_for = record {
   events = events;
   sent = sent;

@@ -12,5 +12,6 @@ pub mod Books
 pub mod Recorders
 pub mod JournalDrops
 pub mod Losses
+pub mod MadeFor
 pub mod Calls
 pub mod History

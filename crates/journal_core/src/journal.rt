@@ -122,6 +122,7 @@ impl<K: Recorder> Journal<K> {
         ensures told { K.told result ≡ self.events }
         ensures sent { K.sent result ≡ self.sent }
         ensures lost { K.lost result ≡ self.lost }
+        ensures made_for { K.made_for result ≡ self.made_for }
     {
         let Journal {
             recorder,

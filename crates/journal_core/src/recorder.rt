@@ -2,6 +2,7 @@
 
 ghost use Rattle.std.specs.Prelude.{◌≡◌, ◌-◌, ◌<◌, ◌≤◌, ℕ, List, [], ◌∷◌, ◌++◌, OnErr, OnOk};
 ghost use Rattle.packet_core.specs.declared.packet.Waiting.{Waiting};
+ghost use Rattle.journal_core.specs.MadeFor.{MadeFor, made_for_any};
 ghost use Rattle.journal_core.specs.Recorders.{listed_events, listed_losses, listed_room, listed_sent, listed_step_room, listed_steps, null_events, null_losses, null_room, null_sent, null_step_room, null_steps};
 ghost use Rattle.journal_core.specs.Steps.{accepted_event, drop_event, sent_event};
 ghost use Rattle.journal_core.specs.declared.event.Event.{Event};
@@ -36,8 +37,9 @@ pub trait Recorder: Drop {
     /// How many events more it can be told before it must reserve.
     ghost room: { Self → ℕ };
 
-    /// For how many packets it was made, where that matters to who reads it. No call changes it.
-    ghost made_for: { Self → ℕ } = { λ _. 0 };
+    /// What it was made for, where that matters to who reads it: for how many packets, and numbers of its own kind. No
+    /// call changes it.
+    ghost made_for: { Self → MadeFor } = { λ _. made_for_any };
 
     /// That a `reserve` of its kind can be refused. A recorder whose `reserve` never answers Err says `⊥`.
     ghost can_refuse: { Type 0 } = { Unit {0} };
@@ -100,6 +102,9 @@ pub trait StepRecorder: Drop {
     /// How many more it can be told before it must reserve.
     ghost room: { Self → ℕ };
 
+    /// That a `reserve` of its kind can be refused. A recorder whose `reserve` never answers Err says `⊥`.
+    ghost can_refuse: { Type 0 } = { Unit {0} };
+
     /// A step was made. It takes no memory.
     fn record(&mut self, step: Step)
         requires { 0 < room self.old }
@@ -112,7 +117,8 @@ pub trait StepRecorder: Drop {
         ensures room { room self.old ≤ room self.new }
         ensures ok { OnOk result (more ≤ room self.new) }
         ensures missing { OnErr result (room self.old < more) }
-        ensures err { OnErr result (room self.new ≡ room self.old) };
+        ensures err { OnErr result (room self.new ≡ room self.old) }
+        ensures refused { OnErr result can_refuse };
 }
 
 /// It stores each event, and takes memory in `reserve` alone. The packets that are sent and lost stand in proofs alone.
@@ -331,6 +337,8 @@ impl StepRecorder for NullRecorder {
     ghost told = { null_steps };
 
     ghost room = { null_step_room };
+
+    ghost can_refuse = { ⊥ };
 
     fn record(&mut self, step: Step) {
         self.steps = self.steps.and(&step);

@@ -1,7 +1,7 @@
 //! The whole program over words and streams: it writes a table of a link's run, or help, and reports a fault with its
 //! status.
 
-ghost use Rattle.std.specs.Prelude.{◌≡◌, ◌≢◌, [], ◌≤◌, ◌<◌, ℕ, IfErr, IfOk, IfSome, List, OnErr, OnOk, Some, false, length, map, option_map, take};
+ghost use Rattle.std.specs.Prelude.{◌≡◌, ◌≢◌, [], ◌≤◌, ◌<◌, ℕ, IfErr, IfOk, IfSome, List, OnErr, OnOk, Some, false, length, map, option_map, take, true};
 ghost use Rattle.std.specs.Io.KnownBytes.{Appends, Keeps};
 ghost use Rattle.link_core.specs.Arrivals.{AreArrivals};
 ghost use Rattle.link_core.specs.Fifo.{IsFifoJournal};
@@ -14,7 +14,7 @@ ghost use Rattle.link_command.specs.declared.faults.ProgramFault.{ProgramFault};
 ghost use Rattle.link_command.specs.Notes.{run_note};
 ghost use Rattle.link_command.specs.Runs.{Answers, FailsBy, HasFifoRows, HasRunRows, IsAsked, IsFaultOn, IsJournalText, IsComparedText, IsNoteAsked, IsNoteFor, IsNoteOf, IsNoted, IsRunFault, IsTableFor, IsTableOf, IsTraceOf};
 ghost use Rattle.link_command.specs.RunsSaid.{run_parts_of};
-ghost use Rattle.link_report.specs.Binnings.{AreToldInOrder};
+ghost use Rattle.link_report.specs.Binnings.{AreToldInOrder, binning_shape, shape_of};
 ghost use Rattle.link_command.specs.RunsTold.{EndsBy, known_told};
 ghost use Rattle.link_report.specs.FlowTables as Tables;
 ghost use Rattle.link_report.specs.Packets.{known_of};
@@ -203,6 +203,7 @@ fn noted_text<F: Write>(
     requires arrivals { AreArrivals arrivals.now }
     requires few { length arrivals.now ≤ MAX_ROWS }
     requires events_few { length told.events.now.events ≤ MAX_EVENTS }
+    requires taken { length told.events.now.events ≤ told.events.now.most }
     requires end { told.end ≡ end_of run.now.link arrivals.now told.events.now.events }
     requires steps { request.now.table ≢ TableName.Steps }
     requires series { request.now.table ≢ TableName.Series }
@@ -225,6 +226,7 @@ fn gathered_note(
     arrivals: &[Arrival],
     events: &Gathered,
 ) -> Result<Vec<u8>, Memory>
+    requires { length events.now.events ≤ events.now.most }
     ensures { IfOk result (λ note. note.items
         ≡ run_note arrivals.now run.now.params (known_of events.now.events)) }
 {
@@ -245,7 +247,8 @@ fn run_told<K: Recorder, S: StepRecorder>(
     requires no_loss { K.lost events ≡ [] }
     requires made_for { IsMadeFor run.now.params.limit (K.made_for events) }
     requires steps { S.told steps ≡ [] }
-    ensures { IfOk result (HasRunLink run.now.params run.now.seed run.now.link arrivals.now) }
+    ensures run { IfOk result (HasRunLink run.now.params run.now.seed run.now.link arrivals.now) }
+    ensures made_for { IfOk result (λ engine. engine.sched.made_for ≡ K.made_for events) }
 {
     run_link_with_recorders(
         alloc, run.params, run.seed, &run.link, arrivals, events, steps,
@@ -285,7 +288,8 @@ fn trace_text<F: Write>(
     notes: &mut F,
     terminals: Terminals,
 ) -> Result<Report, ProgramFault>
-    requires { AreArrivals arrivals.now }
+    requires arrivals { AreArrivals arrivals.now }
+    requires few { length arrivals.now ≤ MAX_ROWS }
     ensures text { IfOk result (λ report. IsTraceOf (run_parts_of run.now) arrivals.now report.text.items) }
     ensures note { IfOk result (λ report. IsNoteOf (run_parts_of run.now) arrivals.now report.note.items) }
     ensures fault { IfErr result (λ fault. fault ≡ ProgramFault.Memory) }
@@ -295,6 +299,8 @@ fn trace_text<F: Write>(
     let steps = StepList::new(alloc);
     let engine = run_told(alloc, run, arrivals, events, steps)?;
     note_stage(notes, terminals, Stage::Run, arrivals.len());
+    // The recorder takes as many events as a million arrivals have.
+    few_events();
     let (left, steps) = engine.give_up();
     let note = last_note(alloc, run, arrivals, left.recorder)?;
     let text = steps_text(alloc, &steps.into_steps())?;
@@ -308,6 +314,7 @@ fn last_note(
     arrivals: &[Arrival],
     events: Gathered,
 ) -> Result<Vec<u8>, Memory>
+    requires { length events.events ≤ events.most }
     ensures { IfOk result (λ note. note.items ≡ run_note arrivals.now run.now.params (known_of events.events)) }
 {
     gathered_note(alloc, run, arrivals, &events)
@@ -416,16 +423,13 @@ fn fifo_rows(alloc: Global, run: &Run, arrivals: &[Arrival]) -> Result<Vec<u8>, 
     rows_of_bins(told, Queue::Fifo, run.every)
 }
 
-/// The text of a recorder of that queue with bins of that width. Runs say of a recorder only what it was told, so the queue
-/// and the width are looked at. They are always these.
-fn rows_of_bins(binned: Binned, queue: Queue, every: u64) -> Result<Vec<u8>, Memory>
-    ensures { IfOk result (λ text. AreToldInOrder binned.events → text.items ≡ queue_text queue every binned.events) }
+/// The text of a recorder that was made for that queue and for bins of that width.
+fn rows_of_bins(binned: Binned, _queue: Queue, _every: u64) -> Result<Vec<u8>, Memory>
+    requires { binning_shape binned ≡ shape_of _queue _every }
+    ensures { IfOk result (λ text. AreToldInOrder binned.events
+        → text.items ≡ queue_text _queue _every binned.events) }
 {
-    if binned.queue() == queue && binned.every() == every {
-        binned.into_text()
-    } else {
-        Err(AllocError)
-    }
+    binned.into_text()
 }
 
 /// What was told of a run, and the moment at which its link has sent the last packet whole.
@@ -449,6 +453,7 @@ fn compared_text<F: Write>(
     requires arrivals { AreArrivals arrivals.now }
     requires few { length arrivals.now ≤ MAX_ROWS }
     requires events_few { length told.events.now.events ≤ MAX_EVENTS }
+    requires taken { length told.events.now.events ≤ told.events.now.most }
     requires end { told.end ≡ end_of run.now.link arrivals.now told.events.now.events }
     requires steps { request.now.table ≢ TableName.Steps }
     requires series { request.now.table ≢ TableName.Series }
@@ -480,6 +485,8 @@ fn packets_table(
 ) -> Result<Vec<u8>, ProgramFault>
     requires few { length told.events.now.events ≤ MAX_EVENTS }
     requires fifo_few { IfSome fifo (λ t. length t.events.now.events ≤ MAX_EVENTS) }
+    requires taken { length told.events.now.events ≤ told.events.now.most }
+    requires fifo_taken { IfSome fifo (λ t. length t.events.now.events ≤ t.events.now.most) }
     requires steps { table ≢ TableName.Steps }
     requires series { table ≢ TableName.Series }
 
@@ -509,9 +516,11 @@ fn packets_table(
     }
 }
 
-/// The packets of a recorder. It takes as many events as its table shows, and was told no more.
+/// The packets of a recorder that was told of no more events than it takes. It has none where one found no memory.
 fn packets_of<'a>(events: &'a Gathered) -> Result<&'a Packets, Memory>
-    ensures { IfOk result (λ packets. packets.now ≡ known_of events.now.events) }
+    requires { length events.now.events ≤ events.now.most }
+    ensures packets { IfOk result (λ packets. packets.now ≡ known_of events.now.events) }
+    ensures short { IfErr result (λ _. events.now.is_short ≡ true) }
 {
     match events.packets() {
         Some(packets) => Ok(packets),
@@ -521,6 +530,7 @@ fn packets_of<'a>(events: &'a Gathered) -> Result<&'a Packets, Memory>
 
 /// The packets of the other queue, where there is one.
 fn others_of<'a>(fifo: Option<Told<'a>>) -> Result<Option<&'a Packets>, Memory>
+    requires { IfSome fifo (λ t. length t.events.now.events ≤ t.events.now.most) }
     ensures { IfOk result (λ packets. option_map (λ p. p.now) packets
         ≡ option_map (λ t. known_of t.events.now.events) fifo.entry) }
 {
@@ -532,6 +542,7 @@ fn others_of<'a>(fifo: Option<Told<'a>>) -> Result<Option<&'a Packets>, Memory>
 
 /// The packets of a run, with its end.
 fn ended_packets_of<'a>(told: Told<'a>) -> Result<RunPackets<'a>, Memory>
+    requires { length told.events.now.events ≤ told.events.now.most }
     ensures { IfOk result (λ run. Tables.packets_of run ≡ known_told told.entry) }
 {
     Ok(RunPackets {
@@ -542,6 +553,7 @@ fn ended_packets_of<'a>(told: Told<'a>) -> Result<RunPackets<'a>, Memory>
 
 /// The same of the other queue, where there is one.
 fn ended_others_of<'a>(fifo: Option<Told<'a>>) -> Result<Option<RunPackets<'a>>, Memory>
+    requires { IfSome fifo (λ t. length t.events.now.events ≤ t.events.now.most) }
     ensures { IfOk result (λ runs. option_map Tables.packets_of runs ≡ option_map known_told fifo.entry) }
 {
     match fifo {

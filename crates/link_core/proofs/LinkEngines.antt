@@ -18,7 +18,8 @@ use Rattle.journal_core.specs.Runs.{IsRunOf, Made, is_refused}
 use Rattle.journal_core.specs.State.{refusal_of}
 use Rattle.journal_core.specs.Statistics.{sent_of}
 use Rattle.journal_core.specs.Steps.{Serves, dequeue_answer}
-use Rattle.sched_core.specs.Engines.{Running, new_engine}
+use Rattle.journal_core.specs.MadeFor.{MadeFor}
+use Rattle.sched_core.specs.Engines.{Running, new_engine_for}
 use Rattle.sched_core.specs.Schedulers.{IsAdvanced, IsServed, Scheduler, discipline_of}
 use Rattle.link_core.specs.declared.arrival.Arrival.{Arrival}
 use Rattle.link_core.specs.declared.arrival.TheConstants.{MAX_ARRIVAL_MOMENT}
@@ -168,8 +169,8 @@ taken_on_link link arrivals old new f a rest on made steps by =
     }
 
 -- before the first step
-pub opening_on_link : (p : ParamFields) (seed : Seed) (link : LinkFields) (arrivals : List Arrival) → AreArrivals arrivals → IsOnLink link arrivals (new_engine p seed) None arrivals
-opening_on_link p seed link arrivals are = record {
+pub opening_on_link : (p : ParamFields) (seed : Seed) (made_for : MadeFor) (link : LinkFields) (arrivals : List Arrival) → AreArrivals arrivals → IsOnLink link arrivals (new_engine_for p seed made_for) None arrivals
+opening_on_link p seed made_for link arrivals are = record {
   underway = record {
     made = [];
     follows = refl;

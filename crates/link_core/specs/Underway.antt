@@ -111,10 +111,11 @@ abbrev pub ComesAfter : ℕ → List Arrival → Type 0
 ComesAfter moment [] = Unit {0}
 ComesAfter moment (a ∷ rest) = moment < a.moment
 
--- the parameters and the seed stay
+-- the parameters and the seed stay, and what the recorder was made for
 pub record KeepsParams (old new : Running) : Type 0 where
   pub params : new.sched.params ≡ old.sched.params
   pub seed : new.sched.seed ≡ old.sched.seed
+  pub made_for : new.sched.made_for ≡ old.sched.made_for
 
 -- whether the link is busy, as a number
 abbrev pub busy_count : Option FreeAt → ℕ

@@ -48,6 +48,9 @@ pub fn run_fifo_with_recorder<K: Recorder>(
     ensures journal { IfOk result (λ recorder. IsFifoJournal params seed link.now arrivals.now (K.told recorder)) }
     ensures sent { IfOk result (λ recorder. K.sent recorder ≡ departed_packets (K.told recorder)) }
     ensures lost { IfOk result (λ recorder. K.lost recorder ≡ lost_packets (K.told recorder)) }
+
+    // It stays what it was made for.
+    ensures made_for { IfOk result (λ recorder. K.made_for recorder ≡ K.made_for events) }
 {
     let (recorder, _) = run_fifo_to_end(alloc, params, seed, link, arrivals, events)?;
     Ok(recorder)
@@ -71,6 +74,7 @@ pub fn run_fifo_to_end<K: Recorder>(
     ensures sent { IfOk result (λ ran. K.sent ran.0 ≡ departed_packets (K.told ran.0)) }
     ensures lost { IfOk result (λ ran. K.lost ran.0 ≡ lost_packets (K.told ran.0)) }
     ensures end { IfOk result (λ ran. ran.1 ≡ end_of link.now arrivals.now (K.told ran.0)) }
+    ensures made_for { IfOk result (λ ran. K.made_for ran.0 ≡ K.made_for events) }
 {
     // A digest takes more time than all else that is done for a packet.
     let mut chooser = FlowChooser::try_new_for(alloc, params, seed, arrivals.len() as u64)?;

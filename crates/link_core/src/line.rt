@@ -72,6 +72,7 @@ impl Line {
         ensures kept { OnOk result (KeepsLine self.old self.new) }
         ensures told { OnOk result
             (AreTold (K.told recorder.new) (K.sent recorder.new) (K.lost recorder.new) self.new) }
+        ensures made_for { OnOk result (K.made_for recorder.new ≡ K.made_for recorder.old) }
     {
         let left = self.ask_before(recorder, link, arrivals, busy, coming)?;
         let next = &coming[0];
@@ -99,6 +100,7 @@ impl Line {
         ensures kept { OnOk result (KeepsLine self.old self.new) }
         ensures told { OnOk result
             (AreTold (K.told recorder.new) (K.sent recorder.new) (K.lost recorder.new) self.new) }
+        ensures made_for { OnOk result (K.made_for recorder.new ≡ K.made_for recorder.old) }
     {
         let mut busy = busy;
         while let Some(free) = busy {
@@ -123,6 +125,7 @@ impl Line {
         ensures taken { OnOk result (HasTakenIn self.old arrival.now self.new) }
         ensures told { OnOk result
             (AreTold (K.told recorder.new) (K.sent recorder.new) (K.lost recorder.new) self.new) }
+        ensures made_for { OnOk result (K.made_for recorder.new ≡ K.made_for recorder.old) }
     {
         let packet = Waiting {
             id: self.arrived,
@@ -161,6 +164,7 @@ impl Line {
         ensures given { IfOk result (λ busy. HasGiven link.now arrivals.now now self.old busy self.new) }
         ensures told { OnOk result
             (AreTold (K.told recorder.new) (K.sent recorder.new) (K.lost recorder.new) self.new) }
+        ensures made_for { OnOk result (K.made_for recorder.new ≡ K.made_for recorder.old) }
     {
         let Some(head) = self.waiting.pop_front() else {
             return Ok(None);

@@ -53,7 +53,10 @@ pub fn run_link_with_recorders<K: Recorder, S: StepRecorder>(
     requires no_loss { K.lost events ≡ [] }
     requires made_for { IsMadeFor params.limit (K.made_for events) }
     requires steps { S.told steps ≡ [] }
-    ensures { IfOk result (HasRunLink params seed link.now arrivals.now) }
+    ensures run { IfOk result (HasRunLink params seed link.now arrivals.now) }
+
+    // The recorder of events stays what it was made for.
+    ensures made_for { IfOk result (λ engine. engine.sched.made_for ≡ K.made_for events) }
 {
     let (engine, _) = run_link_to_end(alloc, params, seed, link, arrivals, events, steps)?;
     Ok(engine)
@@ -78,6 +81,7 @@ pub fn run_link_to_end<K: Recorder, S: StepRecorder>(
     requires steps { S.told steps ≡ [] }
     ensures run { IfOk result (λ ran. HasRunLink params seed link.now arrivals.now ran.0) }
     ensures end { IfOk result (λ ran. ran.1 ≡ end_of link.now arrivals.now ran.0.sched.standing.events) }
+    ensures made_for { IfOk result (λ ran. ran.0.sched.made_for ≡ K.made_for events) }
 {
     let mut engine = Engine::try_with_recorders(alloc, params, seed, events, steps)?;
     let mut busy = None;

@@ -1,5 +1,6 @@
 pub mod TableLemmas
 pub mod PacketLemmas
+pub mod ShapeLemmas
 pub mod FateLemmas
 pub mod PercentileLemmas
 pub mod GroupLemmas

@@ -1,10 +1,12 @@
 -- What a recorder that makes the rows of bins shows: the events that it was told.
-use Rattle.std.specs.Prelude.{◌≡◌, ◌-◌, ◌^◌, ◌≤◌, ℕ, Bool, true, false, List, length}
+use Rattle.std.specs.Prelude.{◌≡◌, ◌-◌, ◌^◌, ◌≤◌, ℕ, Bool, true, false, List, [], ◌∷◌, length}
 use Rattle.packet_core.specs.declared.packet.Waiting.{Waiting}
 use Rattle.journal_core.specs.JournalLaws.{FatesFollow, IdsInOrder}
+use Rattle.journal_core.specs.MadeFor.{MadeFor, with_numbers}
 use Rattle.journal_core.specs.declared.event.Event.{Event}
 use Rattle.link_report.specs.declared.binned.Binned.TheInside.{Inside}
 use Rattle.link_report.specs.declared.table.Queue.{Queue}
+use Rattle.link_report.specs.declared.table.Queue.TheVariants as queue
 use Rattle.link_report.specs.SeriesTables.{HasRowsBefore, heading, journal_walk}
 
 -- The queue whose events it is told, and the width of its bins. Then the events, the packets sent and the packets lost that
@@ -17,6 +19,19 @@ pub record Binning : Type 0 where
   pub lost : List Waiting
   pub room : ℕ
   pub is_short : Bool
+
+-- a queue as a number
+abbrev pub queue_number : Queue → ℕ
+queue_number queue.FqCodel = 0
+queue_number queue.Fifo = 1
+
+-- what a recorder of that queue with bins of that width is made for
+abbrev pub shape_of : Queue → ℕ → MadeFor
+shape_of queue every = with_numbers (queue_number queue ∷ every ∷ [])
+
+-- what it was made for
+abbrev pub binning_shape : Binning → MadeFor
+binning_shape b = shape_of b.queue b.every
 
 abbrev pub binning_of : Inside → Binning
 binning_of b = record {

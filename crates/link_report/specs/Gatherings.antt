@@ -1,6 +1,7 @@
 -- What a recorder that makes packets shows: the events that it was told.
-use Rattle.std.specs.Prelude.{◌≡◌, ℕ, ◌+◌, ◌-◌, ◌^◌, ◌<◌, ◌≤◌, ◌⊎◌, Bool, true, false, List, length}
+use Rattle.std.specs.Prelude.{◌≡◌, ℕ, ◌+◌, ◌-◌, ◌^◌, ◌<◌, ◌≤◌, ◌⊎◌, Bool, true, false, List, [], ◌∷◌, length}
 use Rattle.packet_core.specs.declared.packet.Waiting.{Waiting}
+use Rattle.journal_core.specs.MadeFor.{MadeFor, with_numbers}
 use Rattle.journal_core.specs.declared.event.Event.{Event}
 use Rattle.link_report.specs.declared.gathered.Gathered.TheInside.{Inside}
 use Rattle.link_report.specs.Packets.{known_of}
@@ -14,6 +15,10 @@ pub record Gathering : Type 0 where
   pub room : ℕ
   pub most : ℕ
   pub is_short : Bool
+
+-- what it was made for: packets of at most so many events
+abbrev pub gathering_shape : Gathering → MadeFor
+gathering_shape g = with_numbers (g.most ∷ [])
 
 -- It makes the packets of the next event.
 pub record MakesPackets (g : Gathering) : Type 0 where

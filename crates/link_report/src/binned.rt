@@ -1,10 +1,10 @@
 //! A recorder that makes the rows of the table `series` of the events that it is told.
 
-ghost use Rattle.std.specs.Prelude.{◌≡◌, ◌-◌, ◌<◌, ◌≤◌, [], ◌∷◌, ◌++◌, ℕ, List, IfOk, IfSome, OnErr, OnOk, false, true};
+ghost use Rattle.std.specs.Prelude.{◌≡◌, ◌-◌, ◌<◌, ◌≤◌, [], ◌∷◌, ◌++◌, ℕ, List, IfNone, IfOk, IfSome, OnErr, OnOk, false, true};
 ghost use Rattle.journal_core.specs.Steps.{accepted_event, drop_event, sent_event};
 ghost use Rattle.journal_core.specs.declared.event.Event.{Event};
 ghost use Rattle.journal_core.specs.declared.event.Event.TheVariants.{Closed};
-ghost use Rattle.link_report.specs.Binnings.{AreToldInOrder, CanCount, GoesOn};
+ghost use Rattle.link_report.specs.Binnings.{AreToldInOrder, CanCount, GoesOn, binning_shape};
 ghost use Rattle.link_report.specs.Packets.{known_of};
 ghost use Rattle.link_report.specs.SeriesTables.{HasRowsBefore, heading, journal_walk, queue_text, series_lines};
 ghost use Rattle.link_report.specs.Tables as Tables;
@@ -93,7 +93,8 @@ impl Binned {
 
     /// The packets of the events that it was told, or none where memory was refused for one.
     pub fn packets(&self) -> Option<&Packets>
-        ensures { IfSome result (λ packets. packets.now ≡ known_of self.now.events) }
+        ensures packets { IfSome result (λ packets. packets.now ≡ known_of self.now.events) }
+        ensures none { IfNone result (self.now.is_short ≡ true) }
     {
         self.gathered.packets()
     }
@@ -201,6 +202,8 @@ impl Recorder for Binned {
     ghost lost = { λ binned. binned.lost };
 
     ghost room = { λ binned. binned.room };
+
+    ghost made_for = { binning_shape };
 
     fn accept(&mut self, packet: &Waiting, lane: u32, flow: u32)
         requires { 0 < self.old.room }

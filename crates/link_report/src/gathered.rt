@@ -1,9 +1,9 @@
 //! A recorder that makes the packets of the events that it is told.
 
-ghost use Rattle.std.specs.Prelude.{◌≡◌, ◌+◌, ◌-◌, ◌<◌, ◌≤◌, ◌⊎◌, [], ◌∷◌, ◌++◌, IfErr, IfNone, IfOk, IfSome, OnErr, OnOk, false, length, true};
+ghost use Rattle.std.specs.Prelude.{◌≡◌, ◌+◌, ◌-◌, ◌<◌, ◌≤◌, ◌^◌, ◌⊎◌, [], ◌∷◌, ◌++◌, IfErr, IfNone, IfOk, IfSome, OnErr, OnOk, false, length, true};
 ghost use Rattle.journal_core.specs.Steps.{accepted_event, drop_event, sent_event};
 ghost use Rattle.journal_core.specs.declared.event.Event.TheVariants.{Closed};
-ghost use Rattle.link_report.specs.Gatherings.{CanCount, KeepsOn, MakesPackets};
+ghost use Rattle.link_report.specs.Gatherings.{CanCount, KeepsOn, MakesPackets, gathering_shape};
 ghost use Rattle.link_report.specs.Packets.{is_arrival, known_of};
 
 use crate::packets::Packets;
@@ -68,6 +68,7 @@ impl Gathered {
         ensures packets { IfSome result (λ packets. packets.now ≡ known_of self.now.events) }
         ensures few { IfSome result (λ _. length self.now.events ≤ self.now.most) }
         ensures none { IfNone result ((self.now.most < length self.now.events) ⊎ (self.now.is_short ≡ true)) }
+        ensures counted { length self.now.events < 2 ^ 64 }
     {
         if self.is_short || self.count > self.most {
             None
@@ -161,6 +162,8 @@ impl Recorder for Gathered {
     ghost lost = { λ gathered. gathered.lost };
 
     ghost room = { λ gathered. gathered.room };
+
+    ghost made_for = { gathering_shape };
 
     fn accept(&mut self, packet: &Waiting, lane: u32, flow: u32)
         requires { 0 < self.old.room }

@@ -6,7 +6,7 @@ ghost use Rattle.monitor_core.specs.Publishing.{nothing_published};
 ghost use Rattle.port_core.specs.Devices.{AreNewEnds, AreNewLanes};
 ghost use Rattle.port_core.specs.declared.device.TheConstants.{MAX_LANES};
 ghost use Rattle.port_core.specs.declared.opening.TheConstants.{MAX_CAPACITY, MAX_MONITORS};
-ghost use Rattle.sched_core.specs.Engines.{new_engine};
+ghost use Rattle.sched_core.specs.Engines.{new_engine, new_engine_for};
 ghost use Rattle.sched_core.specs.Schedulers.{IsMadeFor};
 
 use crate::device::{Device, MAX_LANES};
@@ -135,7 +135,7 @@ pub fn lanes_with_recorders<J: BookName, R: Wait + Drop, K: Recorder, S: StepRec
     requires no_loss { K.lost events ≡ [] }
     requires made_for { IsMadeFor params.limit (K.made_for events) }
     requires steps { S.told steps ≡ [] }
-    ensures engine { IfOk result (λ o. o.device.engine ≡ new_engine params seed) }
+    ensures engine { IfOk result (λ o. o.device.engine ≡ new_engine_for params seed (K.made_for events)) }
     ensures lanes { IfOk result (λ o. AreNewLanes o.senders.items o.device.lanes layout.lanes layout.capacity) }
     ensures published { IfOk result (λ o. o.device.published ≡ nothing_published) }
     ensures monitors { IfOk result (λ o. o.monitors.items ≡ replicate layout.monitors []) }

@@ -12,7 +12,7 @@ use Rattle.queue_disc_core.proofs.StepDrops.{close_settles}
 -- A step says nothing of the room.
 pub advanced_with_room : {old mid new : Scheduler} {step : Step} {said : Answer} → IsAdvanced old step said mid → new ≡ record mid { room = new.room } → IsAdvanced old step said new
 advanced_with_room {old} {mid} {new} {step} {said} a same =
-    subst (λ (s : Scheduler). IsAdvanced old step said s) (sym same) (record { advances = a.advances; params = a.params; seed = a.seed; turns = a.turns; capacity = a.capacity })
+    subst (λ (s : Scheduler). IsAdvanced old step said s) (sym same) (record { advances = a.advances; params = a.params; seed = a.seed; turns = a.turns; capacity = a.capacity; made_for = a.made_for })
 
 -- so many drops came after the last acceptance
 abbrev pub Reach : ℕ → Scheduler → Type 0

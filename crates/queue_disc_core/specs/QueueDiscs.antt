@@ -13,7 +13,8 @@ use Rattle.journal_core.specs.declared.event.Event.{Event}
 use Rattle.journal_core.specs.declared.outcome.Answer.TheVariants as answer
 use Rattle.journal_core.specs.declared.step.Sent.{Sent}
 use Rattle.journal_core.specs.declared.step.Step.TheVariants.{Close, Enqueue}
-use Rattle.sched_core.specs.Schedulers.{IsAdvanced, IsServed, Scheduler, discipline_of, flows_of, new_scheduler}
+use Rattle.journal_core.specs.MadeFor.{for_packets}
+use Rattle.sched_core.specs.Schedulers.{IsAdvanced, IsServed, Scheduler, discipline_of, flows_of, new_scheduler_for}
 use Rattle.queue_disc_core.specs.declared.answers.Dequeued.{Dequeued}
 use Rattle.queue_disc_core.specs.declared.answers.Dropped.{Dropped}
 use Rattle.queue_disc_core.specs.declared.answers.Enqueued.{Enqueued}
@@ -35,9 +36,13 @@ pub record DiscState : Type 0 where
   pub renew_after : ℕ
   pub packets : Packets
 
--- a scheduler before its first step, with memory for `limit` packets and one more
+-- a scheduler before its first step, with memory for `limit` packets and one more, over a recorder that was made for as
+-- many
 abbrev pub open_scheduler : ParamFields → Seed → Scheduler
-open_scheduler p seed = record (new_scheduler p seed) { room = p.limit + 1; capacity = p.limit + 1 }
+open_scheduler p seed = record (new_scheduler_for p seed (for_packets (p.limit + 1))) {
+  room = p.limit + 1;
+  capacity = p.limit + 1;
+}
 
 -- before the first call
 abbrev pub new_disc : ParamFields → Seed → ℕ → DiscState

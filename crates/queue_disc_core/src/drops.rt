@@ -1,6 +1,7 @@
 //! The recorder of a queue disc's scheduler: it has the drops since the last acceptance, and nothing else.
 
 ghost use Rattle.std.specs.Prelude.{◌≡◌, ◌+◌, ◌-◌, ◌<◌, ◌≤◌, [], ◌∷◌, ◌++◌, IfOk, length, vec_capacity};
+ghost use Rattle.journal_core.specs.MadeFor.{for_packets};
 ghost use Rattle.queue_disc_core.specs.Drops.{IsDropAt, causes_of, settled_drops};
 
 use crate::answers::Dropped;
@@ -107,7 +108,7 @@ impl Recorder for Drops {
 
     ghost room = { λ drops. drops.room };
 
-    ghost made_for = { λ drops. drops.made_for };
+    ghost made_for = { λ drops. for_packets drops.made_for };
 
     ghost can_refuse = { ⊥ };
 

@@ -15,6 +15,7 @@ use Rattle.codel_core.specs.Verdict.{sent_ecn}
 use Rattle.codel_core.specs.declared.served.Served.{Served}
 use Rattle.flow_core.specs.FlowLists.{queue_at, waiting_in}
 use Rattle.flow_core.specs.Winners.{CountsFew, IsLevels}
+use Rattle.journal_core.specs.MadeFor.{MadeFor}
 use Rattle.journal_core.specs.declared.event.Cause.{Cause}
 use Rattle.journal_core.specs.declared.event.Cause.TheVariants as cause
 use Rattle.journal_core.specs.declared.event.Event.{Event}
@@ -369,7 +370,7 @@ one_given served (Some s) e = refl
 
 module _ (p : ParamFields) (seed : Seed) where
   abbrev seen : State FairQueues → Book → ℕ → ℕ → ℕ → ℕ → Scheduler
-  seen s book turns comparisons room capacity = record { params = p; seed = seed; standing = standing_of s book; turns = turns; comparisons = comparisons; room = room; capacity = capacity }
+  seen s book turns comparisons room capacity = record { params = p; seed = seed; standing = standing_of s book; turns = turns; comparisons = comparisons; room = room; capacity = capacity; made_for = book.made_for }
 
   module _ {held held' : Held} {book book' : Book} {moment turns : ℕ} {answer : Option Served} (s : MakesChain p moment held book turns answer held' book') where
     abbrev served_next : ServesNext (fq_codel_policy p) moment held.queues (dropped_in (service_in s.turns)) (given_in (service_in s.turns)) held'.queues
@@ -426,8 +427,13 @@ module _ (p : ParamFields) (seed : Seed) where
         seed = refl;
         room = refl;
         capacity = same_memory;
+        made_for = with_sent_made_for book' moment answer ∙ ap (λ (b : Book). b.made_for) s.answered.journal;
       }
     where
+      with_sent_made_for : (b : Book) (at : ℕ) (given : Option Served) → (with_sent b at given).made_for ≡ b.made_for
+      with_sent_made_for b at None = refl
+      with_sent_made_for b at (Some s) = refl
+
       told : (service : Option Service) → option_map (λ (s : Service). sent_at moment s.given) service ≡ option_map (sent_at moment) (given_in service)
       told None = refl
       told (Some s) = refl
@@ -469,8 +475,7 @@ module _ (p : ParamFields) (seed : Seed) where
 pub kept_made_for : (limit : ℕ) {p : ParamFields} {held held' : Held} {book book' : Book} {moment turns : ℕ} {answer : Option Served} → MakesChain p moment held book turns answer held' book'
     → IsMadeFor limit book.made_for → IsMadeFor limit book'.made_for
 kept_made_for limit s h =
-    let same = ap (λ (b : Book). b.made_for) s.answered.journal in
-    λ some. omega (arith, same, h (omega (arith, some, same)))
+    subst (λ (m : MadeFor). IsMadeFor limit m) (sym (ap (λ (b : Book). b.made_for) s.answered.journal)) h
 
 -- what a scheduler's invariant says of the scheduler as callers see it
 pub seen_laws : {K : Type 0} (s : Inside K) (v : Scheduler) → scheduler_of s ≡ v → IsSchedulerKept s → JournalLaws (discipline_of v).flow_of v.standing.events

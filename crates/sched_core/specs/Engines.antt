@@ -4,10 +4,11 @@ use Rattle.packet_core.specs.declared.params.ParamFields.{ParamFields}
 use Rattle.journal_core.specs.declared.step.Step.{Step}
 use Rattle.journal_core.specs.declared.outcome.Answer.{Answer}
 use Rattle.journal_core.specs.declared.outcome.Outcome.{Outcome}
+use Rattle.journal_core.specs.MadeFor.{MadeFor, made_for_any}
 use Rattle.journal_core.specs.Runs.{IsRun, IsRunOf, is_refused, steps_made}
 use Rattle.fair_core.specs.FqCodel.{fq_codel}
 use Rattle.sched_core.specs.LastSteps.{AreFewOfLast, AreTurnsOfLast}
-use Rattle.sched_core.specs.Schedulers.{Scheduler, discipline_of, new_scheduler}
+use Rattle.sched_core.specs.Schedulers.{Scheduler, discipline_of, new_scheduler_for}
 use Rattle.journal_core.specs.State.{refusal_of}
 
 -- An engine as callers see it: its scheduler, the steps that it made, in order, and how many steps more take no memory.
@@ -16,9 +17,13 @@ pub record Running : Type 0 where
   pub steps : List Step
   pub room : ℕ
 
--- before the first step
+-- before the first step, over a recorder of events that was made for that
+abbrev pub new_engine_for : ParamFields → Seed → MadeFor → Running
+new_engine_for p seed made_for = record { sched = new_scheduler_for p seed made_for; steps = []; room = 0 }
+
+-- the same, over a recorder of events that doesn't say what it was made for
 abbrev pub new_engine : ParamFields → Seed → Running
-new_engine p seed = record { sched = new_scheduler p seed; steps = []; room = 0 }
+new_engine p seed = new_engine_for p seed made_for_any
 
 -- the room behind a step: one less, unless the step was refused
 abbrev pub room_behind : Answer → ℕ → ℕ

@@ -34,6 +34,7 @@ scheduler_of s = record {
   comparisons = s.fair_queue.comparisons;
   room = room_of s.enqueue_room;
   capacity = s.fair_queue.capacity;
+  made_for = s.journal.made_for;
 }
 
 -- the close that may still come

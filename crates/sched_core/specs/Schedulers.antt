@@ -8,6 +8,7 @@ use Rattle.journal_core.specs.declared.step.Step.{Step}
 use Rattle.journal_core.specs.Calls.{Advances, Gives, Standing}
 use Rattle.journal_core.specs.Disciplines.{Discipline}
 use Rattle.journal_core.specs.Happened.{acceptances}
+use Rattle.journal_core.specs.MadeFor.{MadeFor, made_for_any}
 use Rattle.fair_core.specs.FairQueues.{FairQueues, no_queues}
 use Rattle.fair_core.specs.FqCodel.{fq_codel}
 use Rattle.fair_core.specs.NewFlows.{IsFirstReady, SendsFrom}
@@ -17,7 +18,7 @@ use Rattle.fair_core.specs.Turns.{service_in}
 
 -- A scheduler as callers see it: what it was made with, its state and its journal, the turns of the last dequeue that
 -- wasn't refused, the comparisons of two flows' bytes in the last step that wasn't refused, how many enqueues more take
--- no memory, and for how many packets its flows have memory.
+-- no memory, for how many packets its flows have memory, and what its recorder was made for.
 pub record Scheduler : Type 0 where
   pub params : ParamFields
   pub seed : Seed
@@ -26,10 +27,11 @@ pub record Scheduler : Type 0 where
   pub comparisons : ℕ
   pub room : ℕ
   pub capacity : ℕ
+  pub made_for : MadeFor
 
--- before the first step
-abbrev pub new_scheduler : ParamFields → Seed → Scheduler
-new_scheduler p seed = record {
+-- before the first step, over a recorder that was made for that
+abbrev pub new_scheduler_for : ParamFields → Seed → MadeFor → Scheduler
+new_scheduler_for p seed made_for = record {
   params = p;
   seed = seed;
   standing = record { state = opening_state (no_queues p.flows); events = [] };
@@ -37,7 +39,12 @@ new_scheduler p seed = record {
   comparisons = 0;
   room = 0;
   capacity = 0;
+  made_for = made_for;
 }
+
+-- the same, over a recorder that doesn't say what it was made for
+abbrev pub new_scheduler : ParamFields → Seed → Scheduler
+new_scheduler p seed = new_scheduler_for p seed made_for_any
 
 -- what it schedules by
 abbrev pub discipline_of : Scheduler → Discipline FairQueues
@@ -48,8 +55,8 @@ abbrev pub flows_of : Scheduler → FairQueues
 flows_of s = s.standing.state.queues
 
 -- Where a recorder says for how many packets it was made, that is for `limit` and one more, or for more than these.
-abbrev pub IsMadeFor : ℕ → ℕ → Type 0
-IsMadeFor limit made_for = 0 < made_for → limit + 1 ≤ made_for
+abbrev pub IsMadeFor : ℕ → MadeFor → Type 0
+IsMadeFor limit made_for = 0 < made_for.packets → limit + 1 ≤ made_for.packets
 
 -- A step is made that is no dequeue. What the scheduler was made with stays, and so do the turns of the last dequeue
 -- and the memory that there is.
@@ -59,6 +66,7 @@ pub record IsAdvanced (old : Scheduler) (step : Step) (answer : Answer) (new : S
   pub seed : new.seed ≡ old.seed
   pub turns : new.turns ≡ old.turns
   pub capacity : old.capacity ≤ new.capacity
+  pub made_for : new.made_for ≡ old.made_for
 
 -- A dequeue is made: a serving chain, whose turns are told, and whose packet is answered. It has no more turns than the
 -- bound, which is three for each new flow and two for each old one where no packet so far was longer than a quantum;
@@ -75,6 +83,7 @@ pub record IsServed (old : Scheduler) (moment : ℕ) (sent : Option Sent) (new :
   pub seed : new.seed ≡ old.seed
   pub room : new.room ≡ old.room
   pub capacity : new.capacity ≡ old.capacity
+  pub made_for : new.made_for ≡ old.made_for
 
 -- A step compared the bytes of two flows at most as often, for each event of its own, as a tree over the flows has
 -- levels.

@@ -1,6 +1,6 @@
 //! The engine: a scheduler with the list of its steps.
 
-ghost use Rattle.std.specs.Prelude.{◌≡◌, ◌≢◌, ◌+◌, ◌-◌, ◌<◌, ◌≤◌, ◌++◌, ◌∷◌, [], All, max, None, IfOk, IfErr, OnOk, OnErr, length};
+ghost use Rattle.std.specs.Prelude.{◌≡◌, ◌≢◌, ◌+◌, ◌-◌, ◌<◌, ◌≤◌, ◌++◌, ◌∷◌, ◌⊎◌, [], All, max, None, IfOk, IfErr, OnOk, OnErr, length};
 
 use crate::given_up::GivenUp;
 use crate::sched::{MAX_ACCEPTED, Sched};
@@ -38,7 +38,7 @@ impl<K: Recorder, S: StepRecorder> Engine<K, S> {
     ghost use Rattle.flow_core.specs.FlowLists.{waiting_in};
     ghost use Rattle.sched_core.specs.AnyStep.{GoesOn};
     ghost use Rattle.journal_core.specs.Calls.{admitted_at};
-    ghost use Rattle.sched_core.specs.Engines.{WantsRoomFor, new_engine, room_behind};
+    ghost use Rattle.sched_core.specs.Engines.{WantsRoomFor, new_engine_for, room_behind};
     ghost use Rattle.fair_core.specs.FairQueues.{queue_of};
     ghost use Rattle.journal_core.specs.JournalLaws.{JournalLaws, WaitWithoutFate};
     ghost use Rattle.journal_core.specs.Losses.{AreGivenBackOnce, departed_packets, lost_packets};
@@ -64,7 +64,7 @@ impl<K: Recorder, S: StepRecorder> Engine<K, S> {
         requires no_loss { K.lost events ≡ [] }
         requires made_for { IsMadeFor params.limit (K.made_for events) }
         requires steps { S.told steps ≡ [] }
-        ensures { IfOk result (λ e. e ≡ new_engine params seed) }
+        ensures { IfOk result (λ e. e ≡ new_engine_for params seed (K.made_for events)) }
     {
         Ok(Engine {
             sched: Sched::try_with_recorder(alloc, params, seed, events)?,
@@ -85,6 +85,10 @@ impl<K: Recorder, S: StepRecorder> Engine<K, S> {
         ensures capacity { OnOk result (self.new.sched.capacity ≤ max self.old.sched.capacity
             (waiting_in (flows_of self.old.sched).lists + steps)) }
         ensures missing { OnErr result (self.old.room < steps) }
+
+        // It is refused only where a recorder may refuse, or where the flows want memory.
+        ensures short { OnErr result (S.can_refuse ⊎ (K.can_refuse
+            ⊎ (self.old.sched.capacity < waiting_in (flows_of self.old.sched).lists + steps))) }
         ensures err { OnErr result (self.new ≡ self.old) }
     {
         if steps <= self.room {
@@ -114,6 +118,9 @@ impl<K: Recorder, S: StepRecorder> Engine<K, S> {
             (refusal_of self.old.sched.standing.state (Enqueue moment lane packet))) }
         ensures reserved { 0 < self.old.room → OnErr result
             (refusal_of self.old.sched.standing.state (Enqueue moment lane packet) ≢ None) }
+        ensures short { refusal_of self.old.sched.standing.state (Enqueue moment lane packet) ≡ None
+            → OnErr result (S.can_refuse ⊎ (K.can_refuse
+            ⊎ (self.old.sched.capacity ≤ waiting_in (flows_of self.old.sched).lists))) }
         ensures unchanged { OnErr result (self.new ≡ self.old) }
     {
         self.sched.test_enqueue(moment)?;
@@ -139,6 +146,7 @@ impl<K: Recorder, S: StepRecorder> Engine<K, S> {
         ensures refused { IfErr result (IsRefusal (refusal_of self.old.sched.standing.state (Dequeue moment))) }
         ensures reserved { 0 < self.old.room
             → OnErr result (refusal_of self.old.sched.standing.state (Dequeue moment) ≢ None) }
+        ensures short { refusal_of self.old.sched.standing.state (Dequeue moment) ≡ None → OnErr result S.can_refuse }
         ensures unchanged { OnErr result (self.new ≡ self.old) }
     {
         self.sched.test_dequeue(moment)?;
@@ -160,6 +168,7 @@ impl<K: Recorder, S: StepRecorder> Engine<K, S> {
         ensures refused { IfErr result (IsRefusal (refusal_of self.old.sched.standing.state (Close moment))) }
         ensures reserved { 0 < self.old.room → OnErr result
             (refusal_of self.old.sched.standing.state (Close moment) ≢ None) }
+        ensures short { refusal_of self.old.sched.standing.state (Close moment) ≡ None → OnErr result S.can_refuse }
         ensures unchanged { OnErr result (self.new ≡ self.old) }
     {
         self.sched.test_close(moment)?;
@@ -224,6 +233,7 @@ impl<K: Recorder, S: StepRecorder> Engine<K, S> {
         ensures lost { K.lost result.now ≡ lost_packets self.now.sched.standing.events }
         ensures once { AreGivenBackOnce (flows_of self.now.sched).lists.queues
             (K.lost result.now) self.now.sched.standing.events }
+        ensures made_for { K.made_for result.now ≡ self.now.sched.made_for }
     {
         self.sched.recorder()
     }
@@ -236,6 +246,7 @@ impl<K: Recorder, S: StepRecorder> Engine<K, S> {
         ensures waits { result.0.remains ≡ (flows_of self.sched).lists.queues }
         ensures once { AreGivenBackOnce result.0.remains
             (K.lost result.0.recorder) self.sched.standing.events }
+        ensures made_for { K.made_for result.0.recorder ≡ self.sched.made_for }
         ensures steps { S.told result.1 ≡ self.steps }
     {
         let Engine {

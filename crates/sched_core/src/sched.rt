@@ -87,7 +87,7 @@ impl<K: Recorder> Sched<K> {
     ghost use Rattle.journal_core.specs.JournalLaws.{JournalLaws, WaitWithoutFate};
     ghost use Rattle.journal_core.specs.Losses.{AreGivenBackOnce, departed_packets, lost_packets};
     ghost use Rattle.journal_core.specs.Runs.{Takes};
-    ghost use Rattle.sched_core.specs.Schedulers.{ComparesFew, IsAdvanced, IsMadeFor, IsServed, discipline_of, flows_of, new_scheduler};
+    ghost use Rattle.sched_core.specs.Schedulers.{ComparesFew, IsAdvanced, IsMadeFor, IsServed, discipline_of, flows_of, new_scheduler_for};
     ghost use Rattle.fair_core.specs.Shown.{flow_shown};
     ghost use Rattle.journal_core.specs.State.{enqueue_refusal_of, refusal_of, IsRefusal};
     ghost use Rattle.journal_core.specs.Statistics.{statistics};
@@ -106,7 +106,7 @@ impl<K: Recorder> Sched<K> {
         requires none_sent { K.sent recorder ≡ [] }
         requires no_loss { K.lost recorder ≡ [] }
         requires made_for { IsMadeFor params.limit (K.made_for recorder) }
-        ensures { IfOk result (λ s. s ≡ new_scheduler params seed) }
+        ensures { IfOk result (λ s. s ≡ new_scheduler_for params seed (K.made_for recorder)) }
     {
         let classifier = Classifier::try_new(alloc, &params, seed)?;
         Ok(Sched {
@@ -390,7 +390,8 @@ impl<K: Recorder> Sched<K> {
         ensures sent { K.sent result.now ≡ departed_packets self.now.standing.events }
         ensures lost { K.lost result.now ≡ lost_packets self.now.standing.events }
         ensures once { AreGivenBackOnce (flows_of self.now).lists.queues (K.lost result.now) self.now.standing.events }
-        ensures made_for { IsMadeFor self.now.params.limit (K.made_for result.now) }
+        ensures made_for { K.made_for result.now ≡ self.now.made_for }
+        ensures made_for_limit { IsMadeFor self.now.params.limit (K.made_for result.now) }
     {
         self.journal.recorder()
     }
@@ -403,6 +404,7 @@ impl<K: Recorder> Sched<K> {
         ensures lost { K.lost result.recorder ≡ lost_packets self.standing.events }
         ensures waits { result.remains ≡ (flows_of self).lists.queues }
         ensures once { AreGivenBackOnce result.remains (K.lost result.recorder) self.standing.events }
+        ensures made_for { K.made_for result.recorder ≡ self.made_for }
     {
         self.recorder();
         let Sched {

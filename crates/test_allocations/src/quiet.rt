@@ -8,11 +8,13 @@ use crate::calls::Memory::{EnqueueRooms, Takes};
 use crate::calls::{Calls, Row};
 use crate::devices::{self, Call as DeviceCall};
 use crate::steps::Call;
-use crate::values::Values;
+use crate::values::{SEED, Values};
 use crate::{engines, ports, schedulers};
-use sched_core::{MomentFault, Refusal};
+use packet_core::{Classify, Params};
+use sched_core::{FlowChooser, MomentFault, Refusal};
 use std::alloc::Global;
 use std::sync::Wait;
+use test_support::by_port;
 
 /// What comes after the close is refused.
 const CLOSED: Refusal = Refusal::ClosedAlready;
@@ -120,10 +122,22 @@ pub(crate) fn allocate(alloc: Global, calls: &mut Calls<'_>) {
     }
 }
 
-/// A scheduler for which room was taken.
+/// The choice of flows for fifteen packets, and a scheduler for which room was taken.
 pub(crate) fn sched(values: &Values, calls: &mut Calls<'_>) {
+    let chosen = chooses_for(values.alloc, 15);
+    calls.wanted(chosen, "FlowChooser::try_new_for");
     schedulers::plays(values, &SCHED, calls);
     allocate(values.alloc, calls);
+}
+
+/// Whether the flows of so many packets can be chosen by the hash.
+fn chooses_for(alloc: Global, packets: u64) -> bool {
+    let mut fields = by_port(4);
+    fields.classify = Classify::Hash;
+    match Params::try_new(fields) {
+        Ok(params) => FlowChooser::try_new_for(alloc, params, SEED, packets).is_ok(),
+        Err(_) => false,
+    }
 }
 
 /// An engine for which room was taken.

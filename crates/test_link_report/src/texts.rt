@@ -54,10 +54,10 @@ fn help_lists_the_parameters(rt: HostRuntime) {
         ("classify hash|dport", ""),
     ] {
         let begin = format!(in rt.alloc(); "        {name} ").expect(&rt, "memory");
-        let mut found = 0;
+        let mut found = 0u32;
         for line in page.lines() {
             if line.starts_with(begin.as_str()) && line.contains(range) {
-                found += 1;
+                found = found.saturating_add(1);
             }
         }
         assert_eq!(rt; found, 1, "{name}");

@@ -98,11 +98,19 @@ fn has_the_steps<R: Abort>(rt: &R, engine: &Engine) {
 /// refusal to settle. None of these makes a step of its own but that dequeue, and neither does the settling.
 #[test]
 fn only_a_close_closes(rt: HostRuntime) {
-    let (alloc, params) = (rt.alloc(), flows(&rt, 1));
-    let part = Part::Alone(&STAYS_OPEN);
-    let engine = plays(&rt, alloc, params, 1, part, &AFTER_THE_REFUSAL);
+    let engine = plays_on(&rt, rt.alloc(), &STAYS_OPEN, &AFTER_THE_REFUSAL);
     assert!(&rt; !engine.is_closed());
     has_steps_of_open_port(&rt, &engine);
+}
+
+/// The calls are made by the one seat of a new port with one flow, the later ones after the refusal to settle.
+fn plays_on<R: Threads + Wait + Abort + Sync>(
+    rt: &R,
+    alloc: Global,
+    first: &[Call<'_>],
+    later: &[Call<'_>],
+) -> Engine {
+    plays(rt, alloc, flows(rt, 1), 1, Part::Alone(first), later)
 }
 
 const STAYS_OPEN: [Call<'static>; 13] = [

@@ -1,6 +1,6 @@
 //! Schedulers over different recorders.
 
-ghost use Rattle.std.specs.Prelude.{◌<◌, IsTrue};
+ghost use Rattle.std.specs.Prelude.{◌<◌, [], IsTrue};
 ghost use Rattle.flow_core.specs.FlowLists.{waiting_in};
 ghost use Rattle.sched_core.specs.Schedulers.{flows_of};
 
@@ -38,7 +38,7 @@ impl Recorder for Pool {
 
     ghost room = { λ pool. pool.told.room };
 
-    ghost made_for = { λ _. 120 };
+    ghost made_for = { λ _. record { packets = 120; numbers = [] } };
 
     fn accept(&mut self, packet: &Waiting, lane: u32, flow: u32) {
         self.told = self.told.and(&Event::acceptance(packet, lane, flow));

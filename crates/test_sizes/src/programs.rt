@@ -1,6 +1,6 @@
 //! The programs over texts of so many rows.
 
-use crate::sizes::{BELOW, SIZES, size};
+use crate::sizes::{BELOW, SHORT, size};
 use link_command::Terminals;
 use std::alloc::{AllocError, Global};
 use std::process::Abort;
@@ -19,7 +19,7 @@ fn traces(rt: HostRuntime) {
 
 #[test]
 fn long_traces(rt: HostRuntime) {
-    fqsim(&rt, &["trace"], BELOW, SIZES);
+    fqsim(&rt, &["trace"], BELOW, SHORT);
 }
 
 /// By senders with a lock.
@@ -30,7 +30,7 @@ fn traces_by_senders(rt: HostRuntime) {
 
 #[test]
 fn long_traces_by_senders(rt: HostRuntime) {
-    fqsim(&rt, &["locked", "--senders", "2"], BELOW, SIZES);
+    fqsim(&rt, &["locked", "--senders", "2"], BELOW, SHORT);
 }
 
 /// By senders with lanes, while a monitor reads.
@@ -50,7 +50,7 @@ fn long_traces_by_lanes(rt: HostRuntime) {
         &rt,
         &["lanes", "--senders", "2", "--monitors", "1"],
         BELOW,
-        SIZES,
+        SHORT,
     );
 }
 
@@ -62,7 +62,7 @@ fn arrivals_at_a_link(rt: HostRuntime) {
 
 #[test]
 fn many_arrivals_at_a_link(rt: HostRuntime) {
-    maltlink(&rt, &["--rate", "10gbit"], BELOW, SIZES);
+    maltlink(&rt, &["--rate", "10gbit"], BELOW, SHORT);
 }
 
 /// So many packets come, each of another five-tuple.

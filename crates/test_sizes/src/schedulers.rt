@@ -1,6 +1,6 @@
 //! Schedulers, engines, queue discs and choosers of flows.
 
-use crate::sizes::{LARGEST, SIZES, first, packet, params, params_of, size};
+use crate::sizes::{LARGEST, SHORT, SIZES, first, packet, params, params_of, size};
 use journal_core::{Journal, MAX_EVENTS};
 use packet_core::ParamFields;
 use queue_disc_core::QueueDisc;
@@ -95,7 +95,7 @@ fn a_queue_disc_fills(rt: HostRuntime) {
 
 fn disc_fills(rt: &(impl Abort + AllocGlobal)) {
     let mut disc = QueueDisc::open(rt.alloc(), params(rt), SEED).expect(rt, "memory");
-    for number in 0..LARGEST {
+    for number in 0..size(SHORT - 1) {
         let said = disc.enqueue(1, packet(rt, number)).expect(rt, "memory");
         assert_eq!(rt; said.id, number as u64);
     }

@@ -7,18 +7,24 @@ use std::process::Abort;
 use test_support::by_port;
 
 /// How many sizes there are.
-pub(crate) const SIZES: usize = 40;
+pub(crate) const SIZES: usize = 41;
+
+/// How many of them are 2^20 + 1 at most. A lane has room for fewer packets, and a trace has fewer rows.
+pub(crate) const SHORT: usize = 40;
 
 /// How many of them are below 2^20. What takes long has a test for these, and one for the others.
 pub(crate) const BELOW: usize = 38;
 
-/// The largest of them.
-pub(crate) const LARGEST: usize = 1_048_577;
+/// The largest of them, 2^21 + 1.
+pub(crate) const LARGEST: usize = 2_097_153;
 
-/// The size of that number: of each power of two from 2 to 2^20 the power, and the number after it.
+/// The size of that number: of each power of two from 2 to 2^20 the power, and the number after it; then the largest.
 pub(crate) fn size(number: usize) -> usize
     ensures { result ≤ LARGEST }
 {
+    if number >= SHORT {
+        return LARGEST;
+    }
     let power = 1usize << (1 + number / 2 % 20);
     power.saturating_add(number % 2).min(LARGEST)
 }

@@ -13,7 +13,7 @@ flows_text_of-requires-clause-fifo_few c =
 
 pub picture_text_of-requires-clause-few : goal.picture_text_of-requires-clause-few
 picture_text_of-requires-clause-few c =
-    rw (c.in_ok-packets-in-Svg.ensures {u = tt}) (omega (arith, few_packets c.args.told.events.now.events))
+    rw (c.in_ok-packets-in-Svg.ensures {u = tt}).packets (omega (arith, few_packets c.args.told.events.now.events))
 
 pub picture_text_of-requires-clause-fifo_few : goal.picture_text_of-requires-clause-fifo_few
 picture_text_of-requires-clause-fifo_few c =
@@ -28,7 +28,7 @@ returns-in_ok-flows_text_of-in-Flows-clause-text c =
 
 pub returns-in_ok-packets_text_of-in-Packets-clause-text : goal.returns-in_ok-packets_text_of-in-Packets-clause-text
 returns-in_ok-packets_text_of-in-Packets-clause-text c =
-    let packets = c.in_ok-packets-in-Packets.ensures {u = tt} in
+    let packets = (c.in_ok-packets-in-Packets.ensures {u = tt}).packets in
     let others = c.in_ok-others-in-Packets.ensures {u = tt} in
     let text = rw (packets, others) at (c.in_ok-packets_text_of-in-Packets.ensures {u = tt}) in
     λ ends its beside. rw c.in-Packets.is (text ∙ rows_of_packets c.args.told c.args.fifo)

@@ -1,4 +1,4 @@
-use Rattle.std.proofs.Common.{◌∙◌, [], sym, ap, List, get_or, subst, arith}
+use Rattle.std.proofs.Common.{◌∙◌, [], refl, sym, ap, List, get_or, subst, arith}
 use Rattle.journal_core.specs.Losses.{departed_packets, lost_packets}
 use Rattle.link_core.specs.declared.arrival.Arrival.{Arrival}
 use Rattle.link_core.specs.Lines.{HasFlow, IsOnFifo}
@@ -11,7 +11,7 @@ pub loop-i-init : goal.loop-i-init
 loop-i-init g c =
     let new = c.new-line.ensures in
     let chosen = (c.in_ok-chooser.ensures {u = tt}).made in
-    record { on_link = opening_on_fifo c.args.params c.args.seed c.args.link.now c.args.arrivals.now c.new-line.result c.requires.arrivals new; params = new.params; seed = new.seed_kept; told = record { events_are = c.requires.events ∙ sym new.events; sent_are = c.requires.none_sent ∙ sym new.sent; lost_are = c.requires.no_loss ∙ sym new.lost }; chooser = chosen }
+    record { on_link = opening_on_fifo c.args.params c.args.seed c.args.link.now c.args.arrivals.now c.new-line.result c.requires.arrivals new; params = new.params; seed = new.seed_kept; told = record { events_are = c.requires.events ∙ sym new.events; sent_are = c.requires.none_sent ∙ sym new.sent; lost_are = c.requires.no_loss ∙ sym new.lost }; made_for = refl; chooser = chosen }
 
 pub meet_next-requires-clause-on_link : goal.meet_next-requires-clause-on_link
 meet_next-requires-clause-on_link g c = rw (rest_of c.args.arrivals.now c.loop-i.i) c.loop-i.invariant.on_link
@@ -25,6 +25,7 @@ loop-i-preserved g c =
       params = done.kept.params ∙ inv.params;
       seed = done.kept.seed ∙ inv.seed;
       told = done.told;
+      made_for = done.made_for ∙ inv.made_for;
       chooser = c.flow_of-flow.ensures.kept ∙ inv.chooser;
     }
 
@@ -56,6 +57,9 @@ pub returns-clause-lost : goal.returns-clause-lost
 returns-clause-lost g c =
     let done = c.in_ok-ask_before.ensures {u = tt} in
     done.told.lost_are ∙ done.on_link.in_line.named.gone ∙ ap lost_packets (sym done.told.events_are)
+
+pub returns-clause-made_for : goal.returns-clause-made_for
+returns-clause-made_for g c = (c.in_ok-ask_before.ensures {u = tt}).made_for ∙ c.loop-i.invariant.made_for
 
 pub rounded_up-requires : goal.rounded_up-requires
 rounded_up-requires g c =

@@ -40,7 +40,7 @@ loop-busy-preserved g c =
       on_link = asked_on_link c.args.link.now c.args.arrivals.now old new c.in-Some.free busy _ under asked (λ events. asks_free c.args.link.now c.args.arrivals.now c.in-Some.free c.args.coming.now events frees.rest later) frees.soon
           (coming_after old.sched.standing.state.last c.in-Some.free.moment c.args.coming.now later inv.on_link.on_time.comes);
       sent = rw (c.in_ok-busy.ensures {u = tt}).done (engine_asked c.args.link.now c.args.arrivals.now old new c.in-Some.free busy c.args.coming.now c.loop-busy.done asked from);
-      kept = record { params = asked.serves.params ∙ inv.kept.params; seed = asked.serves.seed ∙ inv.kept.seed };
+      kept = record { params = asked.serves.params ∙ inv.kept.params; seed = asked.serves.seed ∙ inv.kept.seed; made_for = asked.serves.made_for ∙ inv.kept.made_for };
     }
 
 pub loop-busy-smaller : goal.loop-busy-smaller

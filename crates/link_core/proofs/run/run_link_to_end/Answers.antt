@@ -8,7 +8,7 @@ use Rattle.link_core.proofs.run.run_link_to_end.Goals as goal
 pub loop-i-init : goal.loop-i-init
 loop-i-init g c =
     let new = c.in_ok-engine.ensures {u = tt} in
-    rw new (record { on_link = opening_on_link c.args.params c.args.seed c.args.link.now c.args.arrivals.now c.requires.arrivals; sent = opening_sent c.args.link.now c.args.arrivals.now c.at-done.result c.at-done.ensures; params = refl; seed = refl })
+    rw new (record { on_link = opening_on_link c.args.params c.args.seed _ c.args.link.now c.args.arrivals.now c.requires.arrivals; sent = opening_sent c.args.link.now c.args.arrivals.now c.at-done.result c.at-done.ensures; params = refl; seed = refl; made_for = refl })
 
 pub meet_next-requires-clause-on_link : goal.meet_next-requires-clause-on_link
 meet_next-requires-clause-on_link g c = rw (rest_of c.args.arrivals.now c.loop-i.i) c.loop-i.invariant.on_link
@@ -22,6 +22,7 @@ loop-i-preserved g c =
       sent = subst (λ (l : List Arrival). HasSentBy c.args.link.now c.args.arrivals.now c.meet_next.new.engine.sched.standing.events c.in_ok-busy.busy l c.meet_next.new.done) (next_of c.args.arrivals.now c.loop-i.i) done.sent;
       params = done.params.params ∙ inv.params;
       seed = done.params.seed ∙ inv.seed;
+      made_for = done.params.made_for ∙ inv.made_for;
     }
 
 pub meet_next-requires-clause-sent : goal.meet_next-requires-clause-sent
@@ -40,6 +41,9 @@ returns-clause-run g c =
     let done = c.in_ok-ask_before.ensures {u = tt} in
     let inv = c.loop-i.invariant in
     has_run c.args.params c.args.seed c.args.link.now c.args.arrivals.now c.ask_before.new.engine c.in_ok-ask_before.field-0 done.on_link done.waits (done.params.params ∙ inv.params) (done.params.seed ∙ inv.seed)
+
+pub returns-clause-made_for : goal.returns-clause-made_for
+returns-clause-made_for g c = (c.in_ok-ask_before.ensures {u = tt}).params.made_for ∙ c.loop-i.invariant.made_for
 
 pub rounded_up-requires : goal.rounded_up-requires
 rounded_up-requires g c =

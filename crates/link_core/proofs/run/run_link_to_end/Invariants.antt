@@ -9,4 +9,5 @@ invariant-loop-i g l = record {
   sent : HasSentBy l.link l.arrivals l.engine.sched.standing.events l.busy (drop l.i l.arrivals) l.done;
   params : l.engine.sched.params ≡ l.fn.params;
   seed : l.engine.sched.seed ≡ l.fn.seed;
+  made_for : l.engine.sched.made_for ≡ g.K.Recorder.made_for l.fn.events;
 }

@@ -6,7 +6,7 @@ use Rattle.queue_disc_core.proofs.queue_disc.recent_drops.Goals as goal
 
 pub kept-requires : goal.kept-requires
 kept-requires c =
-    let enough = c.recorder-drops.ensures.made_for c.is_made_for_some.ensures in
+    let enough = c.recorder-drops.ensures.made_for_limit c.is_made_for_some.ensures in
     rw (c.recorder-drops.ensures.lost, c.recorder-drops.ensures.told)
     (omega (arith, few_recent c.args.sched.now c.has_laws.ensures.laws c.has_laws.ensures.counted c.requires, enough))
 

@@ -27,4 +27,5 @@ loop-busy-preserved g c =
           (soon_enough free.moment (sent_count old.events.items) frees.soon few) frees.later frees.soon (coming_after on.last free.moment c.args.coming.now later on.on_time.comes) from;
       kept = record { params = given.kept.params ∙ inv.kept.params; seed = given.kept.seed ∙ inv.kept.seed };
       told = (c.in_ok-busy.ensures {u = tt}).told;
+      made_for = (c.in_ok-busy.ensures {u = tt}).made_for ∙ inv.made_for;
     }

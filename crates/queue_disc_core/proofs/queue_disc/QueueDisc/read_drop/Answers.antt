@@ -13,7 +13,7 @@ use Rattle.queue_disc_core.proofs.queue_disc.QueueDisc.read_drop.Goals as goal
 
 pub dropped-dropped-requires-clause-few : goal.dropped-dropped-requires-clause-few
 dropped-dropped-requires-clause-few c =
-    let enough = c.recorder-drops.ensures.made_for c.is_made_for_some.ensures in
+    let enough = c.recorder-drops.ensures.made_for_limit c.is_made_for_some.ensures in
     rw (c.recorder-drops.ensures.lost, c.recorder-drops.ensures.told)
     (omega (arith, few_recent c.self.inside.sched c.has_laws.ensures.laws c.has_laws.ensures.counted c.self.invariant.memory, enough))
 

@@ -1,4 +1,4 @@
-use Rattle.std.proofs.Common.{◌≡◌, ℕ, ◌+◌, ◌<◌, ◌≤◌, List, [], ◌∷◌, ◌++◌, get_or, length, set, sum_by, refl, ap, sym, ◌∙◌, arith}
+use Rattle.std.proofs.Common.{◌≡◌, ℕ, ◌+◌, ◌<◌, ◌≤◌, List, [], ◌∷◌, ◌++◌, get_or, length, set, sum_by, refl, ap, sym, subst, ◌∙◌, arith}
 use Rattle.std.proofs.lemmas.List.{length_push}
 use Rattle.std.proofs.lemmas.List.Sums.{sum_by-set}
 use Rattle.packet_core.specs.FlowNumber.{flow_number}
@@ -8,6 +8,7 @@ use Rattle.packet_core.specs.declared.packet.Waiting.{Waiting}
 use Rattle.packet_core.specs.declared.params.Classify.{Classify}
 use Rattle.packet_core.specs.declared.params.Classify.TheVariants.{Dport, Hash}
 use Rattle.journal_core.specs.Books.{Book}
+use Rattle.journal_core.specs.MadeFor.{MadeFor}
 use Rattle.fair_core.specs.HeldQueues.{Held}
 use Rattle.sched_core.specs.Classifiers.{classifier_by, flow_by}
 use Rattle.sched_core.specs.Schedulers.{IsMadeFor}
@@ -50,8 +51,7 @@ accepts g c =
 -- the recorder is made for as many packets as before
 kept_made_for : (g : given.Over) (c : After-overflow g) → IsMadeFor c.self.inside.params.limit c.overflow.new.journal.made_for
 kept_made_for g c =
-    let same = ap (λ (b : Book). b.made_for) (accepts g c).drops.journal in
-    λ some. omega (arith, same, c.self.invariant.made_for (omega (arith, some, same)))
+    subst (λ (m : MadeFor). IsMadeFor c.self.inside.params.limit m) (sym (ap (λ (b : Book). b.made_for) (accepts g c).drops.journal)) c.self.invariant.made_for
 
 -- an arrival is one packet more
 arrival_fits : (queues : List (List Waiting)) (flow : ℕ) (w : Waiting) (room : ℕ) → flow < length queues → sum_by length queues + 1 ≤ room
@@ -87,7 +87,7 @@ pub returns-clause-made : goal.returns-clause-made
 returns-clause-made g c =
     let m = c.in_ok-provide.ensures.memory in
     let before = (goal.at.returns-clause-made g c).After-overflow in
-    rw (← c.self.view_is) (record { advances = advances (accepts g before); params = refl; seed = refl; turns = refl; capacity = omega (arith, m.more, (accepts g before).reserved, ap (λ (x : Held). x.capacity) (accepts g before).drops.rest) })
+    rw (← c.self.view_is) (record { advances = advances (accepts g before); params = refl; seed = refl; turns = refl; capacity = omega (arith, m.more, (accepts g before).reserved, ap (λ (x : Held). x.capacity) (accepts g before).drops.rest); made_for = ap (λ (b : Book). b.made_for) (accepts g before).drops.journal })
 
 pub returns-clause-few_comparisons : goal.returns-clause-few_comparisons
 returns-clause-few_comparisons g c =
