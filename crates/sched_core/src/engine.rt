@@ -86,7 +86,7 @@ impl<K: Recorder, S: StepRecorder> Engine<K, S> {
             (waiting_in (flows_of self.old.sched).lists + steps)) }
         ensures missing { OnErr result (self.old.room < steps) }
 
-        // It is refused only where a recorder may refuse, or where the flows want memory.
+        // It is refused only where a recorder may refuse, or where the flows lack memory.
         ensures short { OnErr result (S.can_refuse ⊎ (K.can_refuse
             ⊎ (self.old.sched.capacity < waiting_in (flows_of self.old.sched).lists + steps))) }
         ensures err { OnErr result (self.new ≡ self.old) }

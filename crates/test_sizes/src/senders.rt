@@ -41,7 +41,7 @@ fn runs_by_lanes(rt: HostRuntime) {
     }
 }
 
-/// All packets are those of one sender. A lane has room for 2^20, and one more is told as the lane's fault.
+/// All packets are those of one sender. A lane has room for 2^20. One more is reported as a fault of that lane.
 #[test]
 fn one_sender_of_all(rt: HostRuntime) {
     let steps = enqueues(&rt);
