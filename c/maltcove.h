@@ -37,9 +37,8 @@
  * Owners. The caller owns the struct maltcove, and the library owns its 16 bytes: no one else may copy or change them
  * while the scheduler is open. The library keeps no pointer that is passed to a call.
  *
- * Cache lines. Each call that changes the scheduler writes these bytes. So where several threads have a handle each,
- * give each handle a cache line of its own, as by alignas(64) (_Alignas(64) in C11) before the handle in a struct per
- * thread. Handles side by side in an array share a line, and slow each other down.
+ * Cache lines. No call writes these bytes but maltcove_open and maltcove_free. So the handles of several threads may be
+ * neighbours in an array.
  *
  * Memory. maltcove_open takes all memory, and no other call takes any but an enqueue at a renewal, once in 2^39 packets
  * at most (see maltcove_enqueue). maltcove_free gives it back. heap.c has the three functions that the library takes
@@ -47,11 +46,11 @@
  *
  * Threads. A scheduler may go from thread to thread, one call at a time: the caller orders the calls, by a lock or by a
  * thread's start or end. Calls that only look are calls, too: maltcove_totals, maltcove_queued, maltcove_flow,
- * maltcove_params and maltcove_is_closed. Beside a call that changes the scheduler they lose nothing, but they may be
- * refused as MALTCOVE_NOT_OPEN, read numbers that don't belong together, or end the program. Two calls at once that
- * change a scheduler may lose it with all its tags. To show statistics on another thread, let the owner copy them
- * (examples/threads.c). A call takes and gives back memory on the thread that makes it. Two schedulers share nothing,
- * so each thread may have its own. No call may come from a signal handler.
+ * maltcove_params and maltcove_is_closed. Beside a call that changes the scheduler they lose nothing, but they may read
+ * numbers that don't belong together, or end the program. Two calls at once that change a scheduler may leave it in any
+ * state. To show statistics on another thread, let the owner copy them (examples/threads.c). A call takes and gives
+ * back memory on the thread that makes it. Two schedulers share nothing, so each thread may have its own. No call may
+ * come from a signal handler.
  */
 #ifndef MALTCOVE_H
 #define MALTCOVE_H

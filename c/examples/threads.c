@@ -5,7 +5,6 @@
 #define _POSIX_C_SOURCE 200809L
 #include <maltcove.h>
 #include <pthread.h>
-#include <stdalign.h>
 #include <stdio.h>
 #include <string.h>
 #include <time.h>
@@ -13,8 +12,8 @@
 enum { WORKERS = 3, PACKETS = 3000, BURST = 32 };
 
 struct worker {
-	alignas(64) maltcove m;  /* each handle has a cache line of its own, since calls write it */
-	alignas(64) pthread_mutex_t lock;
+	maltcove m;
+	pthread_mutex_t lock;
 	maltcove_totals_t shown; /* a copy of the totals, under the lock */
 	bool ended;              /* no more comes; under the lock */
 };

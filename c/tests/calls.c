@@ -8,6 +8,9 @@
 #include <stdlib.h>
 #include <string.h>
 
+/* More records than any call needs to take at once. */
+enum { LONG = 3000 };
+
 static maltcove m = MALTCOVE_INIT;
 static const uint8_t seed[16] = { 0 };
 
@@ -77,7 +80,6 @@ static void words_and_seeds(void)
 	refuse_words("limit 7\nflows \xc3\xa9", 4, MALTCOVE_NOT_A_NUMBER, 14, "\xc3\xa9");
 	refuse_words("ecn gr\xc3\xbcn", 2, MALTCOVE_UNKNOWN_WORD, 4, "gr\xc3\xbcn");
 	refuse_words("\r\n\t\f ecn \f\t\r\n ecn  x ecn", 3, MALTCOVE_UNKNOWN_WORD, 19, "x");
-	CHECK(maltcove_open(&m, "", 0, seed, 15, &fault) == MALTCOVE_BAD_SEED && !m.is_open);
 	CHECK(maltcove_open(&m, "", 0, NULL, 0, &fault) == MALTCOVE_BAD_SEED && !m.is_open);
 	CHECK(maltcove_open(&m, NULL, 0, seed, 16, NULL) == MALTCOVE_OK);
 	CHECK(maltcove_params(&m, &p) == MALTCOVE_OK);
@@ -95,6 +97,20 @@ static void words_and_seeds(void)
 	CHECK(p.target == 1000 && p.interval == 2000000 && !p.ecn && !p.hash);
 	CHECK(p.has_ce_threshold && p.ce_threshold == 3 && p.has_memory_limit && p.memory_limit == 4000);
 	maltcove_free(&m);
+}
+
+/* A seed has sixteen bytes: each other length is refused, and a longer one isn't cut off. */
+static void seeds_of_other_lengths(void)
+{
+	static const uint8_t bytes[256] = { 1, 2, 3 };
+	maltcove_fault fault = { 7, 7, 7, 7 };
+
+	for (size_t n = 0; n <= sizeof bytes; n++) {
+		if (n == 16)
+			continue;
+		CHECK(maltcove_open(&m, "", 0, bytes, n, &fault) == MALTCOVE_BAD_SEED && !m.is_open && m.inner == NULL);
+		CHECK(fault.place == 0 && fault.kind == MALTCOVE_WORDS_FINE && fault.offset == 0 && fault.len == 0);
+	}
 }
 
 /* Each number at its least and at its greatest, words on lines of their own, a long text, and seeds of any bytes: where
@@ -401,6 +417,88 @@ static void bursts_and_flushes(void)
 	maltcove_free(&m);
 }
 
+/* What waits gives as many records as an array has places, however many these are, and leaves what is behind the array:
+ * a burst, and then a flush. */
+static void long_bursts_and_flushes(void)
+{
+	static maltcove_sent sent[LONG + 1];
+	static maltcove_flushed flushed[LONG + 1];
+
+	open_with("classify dport flows 4");
+	enqueue_in_flow(9, 1, 100, 0, 50000, 2 * LONG + 5);
+	CHECK(maltcove_dequeue_burst(&m, 9, sent, LONG) == LONG && sent[LONG].tag == 0);
+	for (uint64_t i = 0; i < LONG; i++)
+		CHECK(sent[i].tag == 50000 + i && sent[i].id == i && sent[i].len == 100);
+	CHECK(maltcove_flush(&m, flushed, LONG) == LONG && flushed[LONG].tag == 0);
+	for (uint64_t i = 0; i < LONG; i++)
+		CHECK(flushed[i].tag == 50000 + LONG + i && flushed[i].id == LONG + i);
+	CHECK(maltcove_queued(&m) == 5);
+	CHECK(maltcove_dequeue_burst(&m, 9, sent, LONG) == 5 && sent[4].tag == 50000 + 2 * LONG + 4);
+	totals_are(2 * LONG + 5, LONG + 5, 0, LONG, 0);
+	maltcove_free(&m);
+}
+
+/* The same of drops: where one packet too many waits, its flow loses half of all. */
+static void long_drops(void)
+{
+	static maltcove_dropped drops[LONG + 1];
+	maltcove_admitted admitted;
+
+	open_with("limit 6002 drop_batch 1048576 classify dport flows 4");
+	enqueue_in_flow(9, 1, 100, 0, 50000, 2 * LONG + 2);
+	CHECK(maltcove_enqueue_flow(&m, 9, 1, 100, 0, 1, &admitted) == MALTCOVE_OK && admitted.drops == LONG + 1);
+	CHECK(maltcove_drops(&m, drops, LONG) == LONG && drops[LONG].tag == 0);
+	for (uint64_t i = 0; i < LONG; i++)
+		CHECK(drops[i].tag == 50000 + i && drops[i].id == i && drops[i].cause == MALTCOVE_BY_OVERFLOW);
+	CHECK(maltcove_drops(&m, drops, LONG) == 1 && drops[0].tag == 50000 + LONG && drops[0].id == LONG);
+	CHECK(maltcove_drops(&m, drops, LONG) == 0);
+	maltcove_free(&m);
+}
+
+/* The flow of a packet whose bytes all differ from each other and from those of the seed: the SHA-256 of both, as
+ * docs/RULES.md has it, by the hashlib of Python. Of an address of IPv4 the bytes from the fifth on say nothing. */
+static void flows_of_the_hash(void)
+{
+	maltcove_packet p = packet_of(0x4243, 100, 1);
+	maltcove_admitted admitted;
+	uint8_t bytes[16];
+
+	for (uint8_t i = 0; i < 16; i++) {
+		bytes[i] = i;
+		p.src[i] = (uint8_t)(0x20 + i);
+		p.dst[i] = (uint8_t)(0x30 + i);
+	}
+	p.proto = 0x10;
+	p.sport = 0x4041;
+	CHECK(maltcove_open(&m, "", 0, bytes, 16, NULL) == MALTCOVE_OK);
+	CHECK(maltcove_enqueue(&m, 0, &p, &admitted) == MALTCOVE_OK && admitted.flow == 341);
+	p.version = 6;
+	CHECK(maltcove_enqueue(&m, 0, &p, &admitted) == MALTCOVE_OK && admitted.flow == 87);
+	maltcove_free(&m);
+}
+
+/* Each argument of a packet whose flow is chosen, and each number of what is said of it: no two of them are equal. */
+static void chosen_flow(void)
+{
+	maltcove_admitted admitted;
+	maltcove_sent sent;
+	maltcove_flow_t view;
+
+	open_with("limit 6 drop_batch 3 classify dport flows 8");
+	enqueue_in_flow(7, 5, 1000, 1, 100, 6);
+	CHECK(maltcove_enqueue_flow(&m, 9, 13, 900, 2, 99, &admitted) == MALTCOVE_OK);
+	CHECK(admitted.id == 6 && admitted.drops == 3 && admitted.flow == 5);
+	CHECK(maltcove_flow(&m, 5, &view) == MALTCOVE_OK && view.queued == 4 && view.queued_bytes == 3900);
+	CHECK(maltcove_dequeue(&m, 8, &sent) == MALTCOVE_BACKWARDS);
+	for (uint64_t id = 3; id < 6; id++)
+		CHECK(maltcove_dequeue(&m, 9, &sent) == MALTCOVE_OK && sent.tag == 100 + id && sent.ecn == 1);
+	CHECK(maltcove_dequeue(&m, 11, &sent) == MALTCOVE_OK && sent.tag == 99 && sent.id == 6);
+	CHECK(sent.len == 900 && sent.ecn == 2 && sent.mark == MALTCOVE_NO_MARK && sent.drops == 0);
+	CHECK(maltcove_close(&m, 10) == MALTCOVE_BACKWARDS && maltcove_close(&m, 13) == MALTCOVE_OK);
+	CHECK(maltcove_dequeue(&m, 12, &sent) == MALTCOVE_BACKWARDS);
+	maltcove_free(&m);
+}
+
 enum { ROUNDS = 200000 };
 
 static uint64_t random_state = 0x9e3779b97f4a7c15u;
@@ -586,6 +684,35 @@ static void tags_come_back(void)
 /* Each answer and each kind of fault has a text of its own. */
 static void texts(void)
 {
+	/* Of each text what no other one says. */
+	static const struct {
+		int answer;
+		const char *says;
+	} of[] = {
+		{ MALTCOVE_OK, "was made" },
+		{ MALTCOVE_IDLE, "no packet waits" },
+		{ MALTCOVE_TOO_LARGE, "2^60" },
+		{ MALTCOVE_BACKWARDS, "before that of the last call" },
+		{ MALTCOVE_CLOSED, "was closed" },
+		{ MALTCOVE_EXHAUSTED, "no more ids" },
+		{ MALTCOVE_MEMORY, "out of memory" },
+		{ MALTCOVE_UNREAD, "maltcove_drops" },
+		{ MALTCOVE_BAD_SEED, "16 bytes" },
+		{ MALTCOVE_BAD_FLOW, "no flow of that number" },
+		{ MALTCOVE_NULL, "null" },
+	}, of_word[] = {
+		{ MALTCOVE_WORDS_FINE, "no word" },
+		{ MALTCOVE_UNKNOWN_WORD, "names no parameter" },
+		{ MALTCOVE_MISSING_VALUE, "no value" },
+		{ MALTCOVE_NOT_A_NUMBER, "not written as a number" },
+		{ MALTCOVE_OUT_OF_RANGE, "out of its range" },
+		{ MALTCOVE_NOT_UTF8, "not UTF-8" },
+	};
+
+	for (size_t i = 0; i < sizeof of / sizeof *of; i++)
+		CHECK(strstr(maltcove_strerror(of[i].answer), of[i].says) != NULL);
+	for (size_t i = 0; i < sizeof of_word / sizeof *of_word; i++)
+		CHECK(strstr(maltcove_fault_text(of_word[i].answer), of_word[i].says) != NULL);
 	for (int a = MALTCOVE_NULL; a <= MALTCOVE_IDLE; a++)
 		for (int b = MALTCOVE_NULL; b < a; b++)
 			CHECK(strcmp(maltcove_strerror(a), maltcove_strerror(b)) != 0);
@@ -604,6 +731,7 @@ static void texts(void)
 int main(void)
 {
 	words_and_seeds();
+	seeds_of_other_lengths();
 	all_are_opened();
 	words_before_seed();
 	none_and_null();
@@ -612,6 +740,10 @@ int main(void)
 	codel_drops();
 	each_total();
 	bursts_and_flushes();
+	long_bursts_and_flushes();
+	long_drops();
+	flows_of_the_hash();
+	chosen_flow();
 	wrong_clocks();
 	drops_itself();
 	hashes_of_a_card();

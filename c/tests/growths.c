@@ -210,6 +210,21 @@ static void refuse_under(const char *params, uint64_t rounds)
 	check(held == 0, "no block is left after maltcove_free");
 }
 
+/* A scheduler that is freed while packets wait and drops weren't read gives all back. */
+static void free_in_use(void)
+{
+	static const char few[] = "limit 2 drop_batch 1 classify dport";
+	maltcove_admitted admitted;
+
+	left = -1;
+	check(maltcove_open(&m, few, strlen(few), seed, 16, NULL) == MALTCOVE_OK, "a scheduler is opened");
+	for (uint64_t i = 0; i < 3; i++)
+		check(maltcove_enqueue_flow(&m, 0, 1, 100, 0, i, &admitted) == MALTCOVE_OK, "a packet is accepted");
+	check(admitted.drops == 1 && maltcove_queued(&m) == 2, "packets wait, and a drop wasn't read");
+	maltcove_free(&m);
+	check(held == 0 && held_bytes == 0, "no block is left after maltcove_free");
+}
+
 /* A scheduler with the greatest limit, and one whose words are many bytes. */
 static void open_large(void)
 {
@@ -321,6 +336,7 @@ int main(void)
 	for (size_t i = 0; i < sizeof others / sizeof *others; i++)
 		refuse_under(others[i], 20000);
 	open_large();
+	free_in_use();
 	count_bytes();
 	call_each();
 	printf("growths: each of %ld growths of an open refused, and all after it in 100000 rounds\n", opened);

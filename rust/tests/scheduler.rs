@@ -106,6 +106,66 @@ fn packets_go_in_order_of_a_flow() {
     );
 }
 
+/// A burst gives as many packets as were asked for, in their order, or all that wait where these are fewer.
+#[test]
+fn bursts_give_no_more_than_asked() {
+    for most in 0..=100 {
+        let mut scheduler = open("limit 100 classify dport");
+        for tag in 0..70 {
+            scheduler
+                .enqueue(0, &packet(tag, 1, 100))
+                .expect("accepted");
+        }
+        let mut burst = Vec::new();
+        let given = most.min(70);
+        assert_eq!(scheduler.dequeue_burst(20, most, &mut burst), Ok(given));
+        assert_eq!(
+            (burst.len(), scheduler.queued()),
+            (given, 70 - given as u64)
+        );
+        assert_eq!(scheduler.dequeue_burst(20, 100, &mut burst), Ok(70 - given));
+        assert!(burst.iter().map(|sent| sent.tag).eq(0..70));
+    }
+}
+
+/// A burst that asks for more than wait finds that nothing waits: the flow leaves the lists, and its next packet has a
+/// whole quantum.
+#[test]
+fn bursts_end_a_flow() {
+    let mut scheduler = open("classify dport");
+    scheduler.enqueue(0, &packet(0, 1, 100)).expect("accepted");
+    assert_eq!(scheduler.dequeue_burst(0, 2, &mut Vec::new()), Ok(1));
+    scheduler.enqueue(0, &packet(1, 1, 100)).expect("accepted");
+    assert_eq!(scheduler.flow(1).map(|flow| flow.credits), Ok(1514));
+}
+
+/// More packets than any call needs to take at once: a burst, a flush and drops have all of them, each with its tag and
+/// its id, in order.
+#[test]
+fn thousands_come_back() {
+    let mut scheduler = open("limit 6000 drop_batch 1048576 classify dport");
+    let mut burst = Vec::new();
+    for tag in 50_000..56_000 {
+        scheduler
+            .enqueue(0, &packet(tag, 1, 100))
+            .expect("accepted");
+    }
+    assert_eq!(scheduler.dequeue_burst(0, 3000, &mut burst), Ok(3000));
+    let sent = burst.iter().map(|sent| (sent.tag, sent.id));
+    assert!(sent.eq((50_000..53_000).zip(0..)));
+    let flushed: Vec<_> = scheduler.flush().map(|one| (one.tag, one.id)).collect();
+    assert!(flushed.into_iter().eq((53_000..56_000).zip(3000..)));
+    for tag in 70_000..76_000 {
+        scheduler
+            .enqueue(0, &packet(tag, 1, 100))
+            .expect("accepted");
+    }
+    let last = scheduler.enqueue(0, &packet(1, 1, 100)).expect("accepted");
+    assert_eq!((last.id, last.drops), (12_000, 3000));
+    let lost: Vec<_> = scheduler.drops().map(|one| (one.tag, one.id)).collect();
+    assert!(lost.into_iter().eq((70_000..73_000).zip(6000..)));
+}
+
 #[test]
 fn refusals_are_named() {
     let mut scheduler = open("classify hash");
@@ -259,7 +319,11 @@ fn goes_to_other_threads() {
     let tags = std::thread::scope(|scope| {
         let take = || {
             let mut scheduler = shared.lock().expect("a lock");
-            scheduler.dequeue(2).expect("a dequeue").expect("a packet").tag
+            scheduler
+                .dequeue(2)
+                .expect("a dequeue")
+                .expect("a packet")
+                .tag
         };
         let (one, other) = (scope.spawn(take), scope.spawn(take));
         let mut tags = [one.join().expect("a tag"), other.join().expect("a tag")];
@@ -267,5 +331,7 @@ fn goes_to_other_threads() {
         tags
     });
     assert_eq!(tags, [7, 8]);
-    std::thread::spawn(move || drop(shared)).join().expect("a thread that ends");
+    std::thread::spawn(move || drop(shared))
+        .join()
+        .expect("a thread that ends");
 }

@@ -6,7 +6,7 @@ use Rattle.std.proofs.lemmas.List.Elements.{All-push}
 use Rattle.std.proofs.lemmas.List.Sorted.{IsNonDecreasingBy-push}
 use Rattle.journal_core.specs.declared.step.Step.{Step}
 use Rattle.journal_core.specs.declared.step.Step.TheVariants.{Enqueue, Dequeue, Close}
-use Rattle.row_core.specs.Traces.{HasTaken, trace_of}
+use Rattle.row_core.specs.Traces.{HasTaken, TraceFaults, trace_of}
 use Rattle.row_core.specs.declared.reader.TraceRows.{TraceRows}
 use Rattle.row_core.specs.declared.faults.TraceFaultKind.TheVariants as kind
 use Rattle.row_core.specs.declared.faults.TraceFaultKind.{TraceFaultKind}
@@ -113,11 +113,11 @@ fault_stays steps step place TooLate h = step_fault_stays steps step place TooLa
 fault_stays steps step place Backwards h = step_fault_stays steps step place Backwards h
 
 -- and has its row
-its_row : (text : List ℕ) (row place : ℕ) (steps : List Step) (what : RowFault) → trace_of text ≡ Ok steps → IsPlaceFault steps place what → IsRowOfStep text row place → IsRowFault text row what
-its_row text row place steps (Trace what) read fault row_is = absurd fault
-its_row text row place steps NotAnArrival read fault row_is = record { steps = steps; read = read; place = place; fault = fault; row_is = row_is }
-its_row text row place steps TooLate read fault row_is = record { steps = steps; read = read; place = place; fault = fault; row_is = row_is }
-its_row text row place steps Backwards read fault row_is = record { steps = steps; read = read; place = place; fault = fault; row_is = row_is }
+its_row : (Is : TraceFaults) (text : List ℕ) (row place : ℕ) (steps : List Step) (what : RowFault) → trace_of text ≡ Ok steps → IsPlaceFault steps place what → IsRowOfStep text row place → IsRowFault Is text row what
+its_row Is text row place steps (Trace what) read fault row_is = absurd fault
+its_row Is text row place steps NotAnArrival read fault row_is = record { steps = steps; read = read; place = place; fault = fault; row_is = row_is }
+its_row Is text row place steps TooLate read fault row_is = record { steps = steps; read = read; place = place; fault = fault; row_is = row_is }
+its_row Is text row place steps Backwards read fault row_is = record { steps = steps; read = read; place = place; fault = fault; row_is = row_is }
 
 -- the fault of a row, or no row's, stays the first one too
 pub own_stays : (steps : List Step) (step : Step) (place : ℕ) (own : NoArrivals) → IsOwnFault steps place own → IsOwnFault (steps ++ step ∷ []) place own
@@ -125,9 +125,9 @@ own_stays steps step place (no_arrivals.Row row what) h = fault_stays steps step
 own_stays steps step place no_arrivals.Memory h = tt
 
 -- and is the text's
-pub text_fault : (text : List ℕ) (steps : List Step) (place : ℕ) (own : NoArrivals) → trace_of text ≡ Ok steps → IsOwnFault steps place own → IsOwnRow text place own → IsTextFault text own
-text_fault text steps place (no_arrivals.Row row what) read fault row_is = its_row text row place steps what read fault row_is
-text_fault text steps place no_arrivals.Memory read fault row_is = (steps, read)
+pub text_fault : (Is : TraceFaults) (text : List ℕ) (steps : List Step) (place : ℕ) (own : NoArrivals) → trace_of text ≡ Ok steps → IsOwnFault steps place own → IsOwnRow text place own → IsTextFault Is text own
+text_fault Is text steps place (no_arrivals.Row row what) read fault row_is = its_row Is text row place steps what read fault row_is
+text_fault Is text steps place no_arrivals.Memory read fault row_is = (steps, read)
 
 -- a step that is no arrival is no want of memory
 pub no_memory : (last : ℕ) (step : Step) (what : RowFault) → step_fault last step ≡ Some what → what ≡ Trace kind.Memory → ⊥

@@ -12,3 +12,4 @@ pub mod RequestLemmas
 pub mod RunLemmas
 pub mod TextLemmas
 pub mod ValueLemmas
+pub mod StatusLemmas

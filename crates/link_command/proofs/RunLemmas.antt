@@ -27,6 +27,7 @@ use Rattle.link_report.specs.declared.table.Queue.{Queue}
 use Rattle.link_report.specs.StepTables.{steps_text}
 use Rattle.link_command.specs.CommandLine.{AsksForLink, IsLinkMistake, Texts}
 use Rattle.link_command.specs.FaultsOn.{IsWordsFault}
+use Rattle.row_core.specs.Traces.{TraceFaults}
 use Rattle.link_command.specs.InputFaults.{IsInputFault}
 use Rattle.std.specs.Io.KnownBytes.{Keeps}
 use Rattle.link_command.specs.Notes.{run_note}
@@ -40,61 +41,61 @@ use Rattle.link_command.specs.declared.faults.ProgramFault.{ProgramFault}
 use Rattle.link_command.specs.declared.faults.ProgramFault.TheVariants.{CommandLine, NotUtf8, Value, Seed, Params, Row, Memory, Write}
 
 -- Before anything is written the writer holds what it held.
-pub fails_unwritten : (words : List (List ℕ)) (input old new : Option (List ℕ)) (why : ProgramFault) → IsFaultOn words input why → Keeps old new
-    → FailsBy words input old new why
-fails_unwritten words input old new (CommandLine text) h kept = (h, kept)
-fails_unwritten words input old new NotUtf8 h kept = absurd h
-fails_unwritten words input old new (Value name what found) h kept = (h, kept)
-fails_unwritten words input old new (Seed found) h kept = (h, kept)
-fails_unwritten words input old new (Params what found) h kept = (h, kept)
-fails_unwritten words input old new (Row number what found) h kept = (h, kept)
-fails_unwritten words input old new Memory h kept = (h, kept)
-fails_unwritten words input old new Write h kept = absurd h
+pub fails_unwritten : (Is : TraceFaults) (words : List (List ℕ)) (input old new : Option (List ℕ)) (why : ProgramFault) → IsFaultOn Is words input why → Keeps old new
+    → FailsBy Is words input old new why
+fails_unwritten Is words input old new (CommandLine text) h kept = (h, kept)
+fails_unwritten Is words input old new NotUtf8 h kept = absurd h
+fails_unwritten Is words input old new (Value name what found) h kept = (h, kept)
+fails_unwritten Is words input old new (Seed found) h kept = (h, kept)
+fails_unwritten Is words input old new (Params what found) h kept = (h, kept)
+fails_unwritten Is words input old new (Row number what found) h kept = (h, kept)
+fails_unwritten Is words input old new Memory h kept = (h, kept)
+fails_unwritten Is words input old new Write h kept = absurd h
 
 -- of the words
-pub words_fail : (texts : Texts) (input : Option (List ℕ)) (why : ProgramFault) → IsWordsFault texts why → IsRunFault texts input why
-words_fail texts input (CommandLine text) h = h
-words_fail texts input NotUtf8 h = h
-words_fail texts input (Value name what found) h = h
-words_fail texts input (Seed found) h = h
-words_fail texts input (Params what found) h = h
-words_fail texts input (Row number what found) h = absurd h
-words_fail texts input Memory h = tt
-words_fail texts input Write h = h
+pub words_fail : (Is : TraceFaults) (texts : Texts) (input : Option (List ℕ)) (why : ProgramFault) → IsWordsFault texts why → IsRunFault Is texts input why
+words_fail Is texts input (CommandLine text) h = h
+words_fail Is texts input NotUtf8 h = h
+words_fail Is texts input (Value name what found) h = h
+words_fail Is texts input (Seed found) h = h
+words_fail Is texts input (Params what found) h = h
+words_fail Is texts input (Row number what found) h = absurd h
+words_fail Is texts input Memory h = tt
+words_fail Is texts input Write h = h
 
 -- of the input
-pub input_fails : (texts : Texts) (input : Option (List ℕ)) (run : RunParts) (why : ProgramFault) → SaysRun texts run → IsInputFault input why
-    → IsRunFault texts input why
-input_fails texts input run (CommandLine text) said h = h
-input_fails texts input run NotUtf8 said h = h
-input_fails texts input run (Value name what found) said h = absurd h
-input_fails texts input run (Seed found) said h = absurd h
-input_fails texts input run (Params what found) said h = absurd h
-input_fails texts input run (Row number what found) said h = record { run = run; said = said; fault = h }
-input_fails texts input run Memory said h = tt
-input_fails texts input run Write said h = h
+pub input_fails : (Is : TraceFaults) (texts : Texts) (input : Option (List ℕ)) (run : RunParts) (why : ProgramFault) → SaysRun texts run → IsInputFault Is input why
+    → IsRunFault Is texts input why
+input_fails Is texts input run (CommandLine text) said h = h
+input_fails Is texts input run NotUtf8 said h = h
+input_fails Is texts input run (Value name what found) said h = absurd h
+input_fails Is texts input run (Seed found) said h = absurd h
+input_fails Is texts input run (Params what found) said h = absurd h
+input_fails Is texts input run (Row number what found) said h = record { run = run; said = said; fault = h }
+input_fails Is texts input run Memory said h = tt
+input_fails Is texts input run Write said h = h
 
 -- of the table, which fails for want of memory alone
-pub table_fails : (texts : Texts) (input : Option (List ℕ)) (why : ProgramFault) → why ≡ Memory → IsRunFault texts input why
-table_fails texts input why memory = rw memory tt
+pub table_fails : (Is : TraceFaults) (texts : Texts) (input : Option (List ℕ)) (why : ProgramFault) → why ≡ Memory → IsRunFault Is texts input why
+table_fails Is texts input why memory = rw memory tt
 
 -- of words that ask for a run
-pub run_fails : (words : List (List ℕ)) (texts : Texts) (input : Option (List ℕ)) (why : ProgramFault) → AsksForLink words texts → IsRunFault texts input why
-    → IsFaultOn words input why
-run_fails words texts input (CommandLine text) asks h = absurd h
-run_fails words texts input NotUtf8 asks h = h
-run_fails words texts input (Value name what found) asks h = (texts, asks, h)
-run_fails words texts input (Seed found) asks h = (texts, asks, h)
-run_fails words texts input (Params what found) asks h = (texts, asks, h)
-run_fails words texts input (Row number what found) asks h = (texts, asks, h)
-run_fails words texts input Memory asks h = tt
-run_fails words texts input Write asks h = h
+pub run_fails : (Is : TraceFaults) (words : List (List ℕ)) (texts : Texts) (input : Option (List ℕ)) (why : ProgramFault) → AsksForLink words texts → IsRunFault Is texts input why
+    → IsFaultOn Is words input why
+run_fails Is words texts input (CommandLine text) asks h = absurd h
+run_fails Is words texts input NotUtf8 asks h = h
+run_fails Is words texts input (Value name what found) asks h = (texts, asks, h)
+run_fails Is words texts input (Seed found) asks h = (texts, asks, h)
+run_fails Is words texts input (Params what found) asks h = (texts, asks, h)
+run_fails Is words texts input (Row number what found) asks h = (texts, asks, h)
+run_fails Is words texts input Memory asks h = tt
+run_fails Is words texts input Write asks h = h
 
 -- of words that ask for nothing
-pub parse_fails : (words : List (List ℕ)) (input : Option (List ℕ)) (why : ProgramFault) → (why ≡ Memory) ⊎ ((text : String Global) × (why ≡ CommandLine text))
-    → ((text : String Global) → why ≡ CommandLine text → IsLinkMistake words) → IsFaultOn words input why
-parse_fails words input why (inl memory) mistake = rw memory tt
-parse_fails words input why (inr command) mistake = rw command.1 (mistake command.0 command.1)
+pub parse_fails : (Is : TraceFaults) (words : List (List ℕ)) (input : Option (List ℕ)) (why : ProgramFault) → (why ≡ Memory) ⊎ ((text : String Global) × (why ≡ CommandLine text))
+    → ((text : String Global) → why ≡ CommandLine text → IsLinkMistake words) → IsFaultOn Is words input why
+parse_fails Is words input why (inl memory) mistake = rw memory tt
+parse_fails Is words input why (inr command) mistake = rw command.1 (mistake command.0 command.1)
 
 -- want of memory is a fault of each step
 pub memory_fails : {X : Type 0} (r : Result X ProgramFault) (P : ProgramFault → Type 0) → IsErrAnd r (λ why. why ≡ Memory) → P Memory → IfErr r P

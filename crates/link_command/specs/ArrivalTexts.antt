@@ -2,7 +2,7 @@
 use Rattle.std.specs.Prelude.{◌≡◌, ℕ, ◌+◌, ◌-◌, ◌<◌, List, [], ◌∷◌, ◌++◌, Option, Some, None, Ok, get_or, length, map, nat_le, nat_lt, take, if◌then◌else◌}
 use Rattle.journal_core.specs.declared.step.Step.{Step}
 use Rattle.journal_core.specs.declared.step.Step.TheVariants.{Enqueue, Dequeue, Close}
-use Rattle.row_core.specs.Traces.{HasTaken, IsFaultOf, next_number, trace_of}
+use Rattle.row_core.specs.Traces.{HasTaken, TraceFaults, next_number, trace_of}
 use Rattle.row_core.specs.declared.reader.TraceRows.{TraceRows}
 use Rattle.row_core.specs.declared.faults.TraceFaultKind.TheVariants as kind
 use Rattle.link_core.specs.Arrivals.{AreArrivals, moment_at}
@@ -73,21 +73,21 @@ pub record IsNoArrivalAt (text : List ℕ) (row : ℕ) (what : RowFault) : Type 
   pub row_is : IsRowOfStep text row place
 
 -- The fault of a row, which is counted from 1. It is the first fault of the grammar of traces, or that of the first step
--- that is no arrival, where the text has no fault of the grammar.
-abbrev pub IsRowFault : List ℕ → ℕ → RowFault → Type 0
-IsRowFault text row (Trace what) = IsFaultOf text (record { row = row; what = what })
-IsRowFault text row NotAnArrival = IsNoArrivalAt text row NotAnArrival
-IsRowFault text row TooLate = IsNoArrivalAt text row TooLate
-IsRowFault text row Backwards = IsNoArrivalAt text row Backwards
+-- that is no arrival, where the text has no fault of the grammar. Which faults a trace has is given.
+abbrev pub IsRowFault : TraceFaults → List ℕ → ℕ → RowFault → Type 0
+IsRowFault Is text row (Trace what) = Is text (record { row = row; what = what })
+IsRowFault Is text row NotAnArrival = IsNoArrivalAt text row NotAnArrival
+IsRowFault Is text row TooLate = IsNoArrivalAt text row TooLate
+IsRowFault Is text row Backwards = IsNoArrivalAt text row Backwards
 
 -- The text is a trace.
 abbrev pub IsTrace : List ℕ → Type 0
 IsTrace text = (steps : List Step) × (trace_of text ≡ Ok steps)
 
 -- The fault is the first one of the text, or no row's. It is no row's only where each row is one of a trace.
-abbrev pub IsTextFault : List ℕ → NoArrivals → Type 0
-IsTextFault text (no_arrivals.Row row what) = IsRowFault text row what
-IsTextFault text no_arrivals.Memory = IsTrace text
+abbrev pub IsTextFault : TraceFaults → List ℕ → NoArrivals → Type 0
+IsTextFault Is text (no_arrivals.Row row what) = IsRowFault Is text row what
+IsTextFault Is text no_arrivals.Memory = IsTrace text
 
 -- Memory was wanting at a row.
 abbrev pub IsMemoryOfRow : NoArrivals → Type 0

@@ -1,5 +1,6 @@
 -- The faults of an input.
 use Rattle.std.specs.Prelude.{◌≡◌, ℕ, List, Option, IfSome}
+use Rattle.row_core.specs.Traces.{TraceFaults}
 use Rattle.link_command.specs.ArrivalTexts.{IsRowFault}
 use Rattle.link_command.specs.declared.arrivals.NoArrivals.{NoArrivals}
 use Rattle.link_command.specs.declared.arrivals.NoArrivals.TheVariants as no_arrivals
@@ -24,12 +25,12 @@ IsToldAs (no_arrivals.Row row what) told = IsToldAt row what told
 IsToldAs no_arrivals.Memory told = told ≡ fault.Memory
 
 -- The fault is one of arrivals with these bytes, where they are known. That memory was wanting can't be said.
-abbrev pub IsInputFault : Option (List ℕ) → ProgramFault → Type 0
-IsInputFault input (fault.Row number what found) = IfSome input (λ bytes. IsRowFault bytes number what)
-IsInputFault input fault.Memory = Unit {0}
-IsInputFault input (fault.CommandLine text) = ⊥
-IsInputFault input fault.NotUtf8 = ⊥
-IsInputFault input (fault.Value name why found) = ⊥
-IsInputFault input (fault.Seed found) = ⊥
-IsInputFault input (fault.Params why found) = ⊥
-IsInputFault input fault.Write = ⊥
+abbrev pub IsInputFault : TraceFaults → Option (List ℕ) → ProgramFault → Type 0
+IsInputFault Is input (fault.Row number what found) = IfSome input (λ bytes. IsRowFault Is bytes number what)
+IsInputFault Is input fault.Memory = Unit {0}
+IsInputFault Is input (fault.CommandLine text) = ⊥
+IsInputFault Is input fault.NotUtf8 = ⊥
+IsInputFault Is input (fault.Value name why found) = ⊥
+IsInputFault Is input (fault.Seed found) = ⊥
+IsInputFault Is input (fault.Params why found) = ⊥
+IsInputFault Is input fault.Write = ⊥

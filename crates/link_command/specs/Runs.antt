@@ -1,6 +1,7 @@
 -- What the program writes, and what is wrong where it writes nothing.
-use Rattle.std.specs.Prelude.{◌≡◌, ◌⊎◌, ℕ, Bool, true, false, List, [], Option, Some, None, IfSome, option_map, take}
+use Rattle.std.specs.Prelude.{◌≡◌, ◌⊎◌, ℕ, Bool, true, false, List, [], Option, Some, None, IfSome, Result, option_map, take}
 use Rattle.std.specs.Io.KnownBytes.{Appends, Keeps}
+use Rattle.std.specs.declared.io.Error.{Error}
 use Rattle.fair_core.specs.FairQueues.{FairQueues}
 use Rattle.journal_core.specs.declared.event.Event.{Event}
 use Rattle.journal_core.specs.declared.step.Step.{Step}
@@ -20,6 +21,8 @@ use Rattle.link_report.specs.declared.table.Queue.TheVariants.{FqCodel, Fifo}
 use Rattle.link_command.specs.ArrivalTexts.{IsArrivalText}
 use Rattle.link_command.specs.CommandLine.{AsksForLink, AsksForText, IsLinkMistake, Texts}
 use Rattle.link_command.specs.FaultsOn.{IsWordsFault}
+use Rattle.row_core.specs.Streams.{EndsWith, IsWriteFailure}
+use Rattle.row_core.specs.Traces.{TraceFaults}
 use Rattle.link_command.specs.InputFaults.{IsInputFault}
 use Rattle.link_command.specs.Notes.{run_note}
 use Rattle.link_command.specs.Values.{RunParts, SaysRun}
@@ -127,10 +130,21 @@ abbrev pub IsNoteAsked : List (List ℕ) → Option (List ℕ) → List ℕ → 
 IsNoteAsked words input note =
     ((texts : Texts) × AsksForLink words texts × IsNoteFor texts input note) ⊎ (AsksForText words × (note ≡ []))
 
--- The note on what was asked for was written behind what was there: all of it, or a front of it where its write failed.
-abbrev pub IsNoted : List (List ℕ) → Option (List ℕ) → Option (List ℕ) → Option (List ℕ) → Type 0
-IsNoted words input old new =
-    (note : List ℕ) × IsNoteAsked words input note × (count : ℕ) × Appends old new (take count note)
+-- A text was written by calls of a stream: all of it, or a front of it, where its last call failed.
+abbrev pub IsWritten : {S : Type 0} → (S → List ℕ → S → Type 0) → (S → Result ℕ Error → S → Type 0) → List ℕ
+    → S → S → Type 0
+IsWritten Wrote Answered text old new =
+    Wrote old text new ⊎ (EndsWith Answered IsWriteFailure old new × ((count : ℕ) × Wrote old (take count text) new))
+
+-- The note on what was asked for was written so.
+abbrev pub IsNoted : {S : Type 0} → (S → List ℕ → S → Type 0) → (S → Result ℕ Error → S → Type 0) → List (List ℕ)
+    → Option (List ℕ) → S → S → Type 0
+IsNoted Wrote Answered words input old new =
+    (note : List ℕ) × IsNoteAsked words input note × IsWritten Wrote Answered note old new
+
+-- The words ask for a run, and what they say of it is good. Without that nothing is read.
+abbrev pub AsksForInput : List (List ℕ) → Type 0
+AsksForInput words = (texts : Texts) × AsksForLink words texts × (run : RunParts) × SaysRun texts run
 
 -- The words ask for that table, or for help or the version, of whose text no more is said.
 abbrev pub IsAsked : List (List ℕ) → Option (List ℕ) → List ℕ → Type 0
@@ -147,40 +161,41 @@ Begins words input old new =
     (text : List ℕ) × IsAsked words input text × (count : ℕ) × Appends old new (take count text)
 
 -- The texts say a run, and the fault is one of the input.
-pub record FailsInInput (texts : Texts) (input : Option (List ℕ)) (why : ProgramFault) : Type 0 where
+pub record FailsInInput (Is : TraceFaults) (texts : Texts) (input : Option (List ℕ)) (why : ProgramFault) : Type 0 where
   pub run : RunParts
   pub said : SaysRun texts run
-  pub fault : IsInputFault input why
+  pub fault : IsInputFault Is input why
 
 -- The fault is one of a run with these texts and this input. The texts are looked at first, then the input. After
 -- these a run fails for want of memory alone: it is never too long for its table.
-abbrev pub IsRunFault : Texts → Option (List ℕ) → ProgramFault → Type 0
-IsRunFault texts input (fault.Row number what found) = FailsInInput texts input (fault.Row number what found)
-IsRunFault texts input (fault.CommandLine text) = ⊥
-IsRunFault texts input fault.NotUtf8 = ⊥
-IsRunFault texts input (fault.Value name what found) = IsWordsFault texts (fault.Value name what found)
-IsRunFault texts input (fault.Seed found) = IsWordsFault texts (fault.Seed found)
-IsRunFault texts input (fault.Params what found) = IsWordsFault texts (fault.Params what found)
-IsRunFault texts input fault.Memory = Unit {0}
-IsRunFault texts input fault.Write = ⊥
+abbrev pub IsRunFault : TraceFaults → Texts → Option (List ℕ) → ProgramFault → Type 0
+IsRunFault Is texts input (fault.Row number what found) = FailsInInput Is texts input (fault.Row number what found)
+IsRunFault Is texts input (fault.CommandLine text) = ⊥
+IsRunFault Is texts input fault.NotUtf8 = ⊥
+IsRunFault Is texts input (fault.Value name what found) = IsWordsFault texts (fault.Value name what found)
+IsRunFault Is texts input (fault.Seed found) = IsWordsFault texts (fault.Seed found)
+IsRunFault Is texts input (fault.Params what found) = IsWordsFault texts (fault.Params what found)
+IsRunFault Is texts input fault.Memory = Unit {0}
+IsRunFault Is texts input fault.Write = ⊥
 
 -- The fault is one of these words and this input, before anything is written. That memory was wanting can't be said.
-abbrev pub IsFaultOn : List (List ℕ) → Option (List ℕ) → ProgramFault → Type 0
-IsFaultOn words input (fault.CommandLine text) = IsLinkMistake words
-IsFaultOn words input fault.Memory = Unit {0}
-IsFaultOn words input fault.NotUtf8 = ⊥
-IsFaultOn words input fault.Write = ⊥
-IsFaultOn words input (fault.Value name what found) =
-    (texts : Texts) × AsksForLink words texts × IsRunFault texts input (fault.Value name what found)
-IsFaultOn words input (fault.Seed found) =
-    (texts : Texts) × AsksForLink words texts × IsRunFault texts input (fault.Seed found)
-IsFaultOn words input (fault.Params what found) =
-    (texts : Texts) × AsksForLink words texts × IsRunFault texts input (fault.Params what found)
-IsFaultOn words input (fault.Row number what found) =
-    (texts : Texts) × AsksForLink words texts × IsRunFault texts input (fault.Row number what found)
+abbrev pub IsFaultOn : TraceFaults → List (List ℕ) → Option (List ℕ) → ProgramFault → Type 0
+IsFaultOn Is words input (fault.CommandLine text) = IsLinkMistake words
+IsFaultOn Is words input fault.Memory = Unit {0}
+IsFaultOn Is words input fault.NotUtf8 = ⊥
+IsFaultOn Is words input fault.Write = ⊥
+IsFaultOn Is words input (fault.Value name what found) =
+    (texts : Texts) × AsksForLink words texts × IsRunFault Is texts input (fault.Value name what found)
+IsFaultOn Is words input (fault.Seed found) =
+    (texts : Texts) × AsksForLink words texts × IsRunFault Is texts input (fault.Seed found)
+IsFaultOn Is words input (fault.Params what found) =
+    (texts : Texts) × AsksForLink words texts × IsRunFault Is texts input (fault.Params what found)
+IsFaultOn Is words input (fault.Row number what found) =
+    (texts : Texts) × AsksForLink words texts × IsRunFault Is texts input (fault.Row number what found)
 
 -- The same by which the writer came from what it held to what it holds: a front of what was asked for more, where a
 -- write failed, and else what it held.
-abbrev pub FailsBy : List (List ℕ) → Option (List ℕ) → Option (List ℕ) → Option (List ℕ) → ProgramFault → Type 0
-FailsBy words input old new fault.Write = Begins words input old new
-FailsBy words input old new why = IsFaultOn words input why × Keeps old new
+abbrev pub FailsBy : TraceFaults → List (List ℕ) → Option (List ℕ) → Option (List ℕ) → Option (List ℕ)
+    → ProgramFault → Type 0
+FailsBy Is words input old new fault.Write = Begins words input old new
+FailsBy Is words input old new why = IsFaultOn Is words input why × Keeps old new

@@ -1,6 +1,7 @@
 //! The arrivals that a trace has.
 
 ghost use Rattle.std.specs.Prelude.{◌≡◌, ◌<◌, ◌≤◌, [], ℕ, List, IfErr, IfOk, IfSome, Some, length, vec_len};
+ghost use Rattle.row_core.specs.Streams.{EndsWith, IsReadFailure};
 ghost use Rattle.row_core.specs.Traces.{HasFailed, HasTaken, IsFaultOf};
 ghost use Rattle.link_core.specs.Arrivals.{AreArrivals};
 ghost use Rattle.link_command.specs.ArrivalTexts.{IsArrivalText, IsMemoryOfRow, IsOwnFault, IsOwnRow, IsTextFault, arrival_step, step_fault, without_lane};
@@ -11,7 +12,9 @@ use crate::fields::{FieldName, faulty_field};
 use csv::{ByteRecord, ErrorKind, ReaderBuilder};
 use journal_core::{GhostList, Step};
 use link_core::{Arrival, MAX_ARRIVAL_MOMENT};
-use row_core::{MAX_BYTES, MAX_ROWS, Next, TraceFault, TraceFaultKind, TraceRows, read_text};
+use row_core::{
+    MAX_BYTES, MAX_ROWS, Next, Records, Source, TraceFault, TraceFaultKind, TraceRows, read_text,
+};
 use std::alloc::{AllocError, Global};
 use std::io::Read;
 
@@ -20,15 +23,19 @@ const MAX_SHOWN: usize = 200;
 
 /// The arrivals that a reader gives: a trace whose rows are all `enq`, in the order of their moments. The grammar of all
 /// rows is tested first, and then each row for what arrivals are.
-pub fn read_arrivals<R: Read>(alloc: Global, reader: &mut R) -> Result<Vec<Arrival>, ProgramFault>
+pub fn read_arrivals<R: Read + Source + Records>(
+    alloc: Global,
+    reader: &mut R,
+) -> Result<Vec<Arrival>, ProgramFault>
     ensures arrivals { IfOk result (λ arrivals. AreArrivals arrivals.items) }
     ensures few { IfOk result (λ arrivals. length arrivals.items ≤ MAX_ROWS) }
     ensures text { IfOk result (λ arrivals.
-        IfSome (R.remaining reader.old) (λ bytes. IsArrivalText bytes arrivals.items)) }
-    ensures fault { IfErr result (IsInputFault (R.remaining reader.old)) }
+        IfSome (R.Source.remaining reader.old) (λ bytes. IsArrivalText bytes arrivals.items)) }
+    ensures fault { IfErr result (IsInputFault
+        (IsFaultOf (EndsWith R.Answered IsReadFailure reader.old reader.new) R.Cut) (R.Source.remaining reader.old)) }
 {
     match whole_text(alloc, reader) {
-        Ok(text) => text_arrivals(alloc, &text),
+        Ok(text) => text_arrivals::<R>(alloc, &text),
         Err(fault) => Err(trace_fault(alloc, &[], &fault)),
     }
 }
@@ -36,10 +43,14 @@ pub fn read_arrivals<R: Read>(alloc: Global, reader: &mut R) -> Result<Vec<Arriv
 /// All bytes that a reader gives.
 // Kept out of its callers: the reading has 64 KiB on the stack.
 #[inline(never)]
-fn whole_text<R: Read>(alloc: Global, reader: &mut R) -> Result<Vec<u8>, TraceFault>
-    ensures whole { IfOk result (λ text. IfSome (R.remaining reader.old) (λ bytes. text.items ≡ bytes)) }
+fn whole_text<R: Read + Source + Records>(
+    alloc: Global,
+    reader: &mut R,
+) -> Result<Vec<u8>, TraceFault>
+    ensures whole { IfOk result (λ text. IfSome (R.Source.remaining reader.old) (λ bytes. text.items ≡ bytes)) }
     ensures bound { IfOk result (λ text. vec_len text ≤ MAX_BYTES) }
-    ensures fault { IfErr result (λ fault. IfSome (R.remaining reader.old) (λ bytes. IsFaultOf bytes fault)) }
+    ensures fault { IfErr result (λ fault. IfSome (R.Source.remaining reader.old) (λ bytes. IsFaultOf
+        (EndsWith R.Answered IsReadFailure reader.old reader.new) R.Cut bytes fault)) }
     ensures row { IfErr result (λ fault. fault.row ≡ 0) }
 {
     read_text(alloc, reader)
@@ -48,15 +59,15 @@ fn whole_text<R: Read>(alloc: Global, reader: &mut R) -> Result<Vec<u8>, TraceFa
 /// The arrivals of a text.
 // Kept out of its callers, as tables are made after it returns.
 #[inline(never)]
-fn text_arrivals(alloc: Global, text: &[u8]) -> Result<Vec<Arrival>, ProgramFault>
+fn text_arrivals<C: Records>(alloc: Global, text: &[u8]) -> Result<Vec<Arrival>, ProgramFault>
     requires { length text.now ≤ MAX_BYTES }
     ensures arrivals { IfOk result (λ arrivals. AreArrivals arrivals.items) }
     ensures few { IfOk result (λ arrivals. length arrivals.items ≤ MAX_ROWS) }
     ensures text { IfOk result (λ arrivals. IsArrivalText text.now arrivals.items) }
-    ensures fault { IfErr result (IsInputFault (Some text.now)) }
+    ensures fault { IfErr result (IsInputFault (IsFaultOf ⊥ C.Cut) (Some text.now)) }
 {
     let mut rows = TraceRows::new(alloc, text);
-    match arrivals_of(alloc, &mut rows) {
+    match arrivals_of::<C>(alloc, &mut rows) {
         Ok(arrivals) => Ok(arrivals),
         Err(why) => Err(text_fault(alloc, text, why)),
     }
@@ -206,12 +217,16 @@ enum NoArrivals {
 }
 
 /// The arrivals that rows ask for, from the start of their text on. Their steps stand in proofs alone.
-fn arrivals_of(alloc: Global, rows: &mut TraceRows<'_>) -> Result<Vec<Arrival>, NoArrivals>
+fn arrivals_of<C: Records>(
+    alloc: Global,
+    rows: &mut TraceRows<'_>,
+) -> Result<Vec<Arrival>, NoArrivals>
     ensures arrivals { IfOk result (λ arrivals. (text : List ℕ)
         → HasTaken text rows.old 0 [] → AreArrivals arrivals.items) }
     ensures text { IfOk result (λ arrivals. (text : List ℕ)
         → HasTaken text rows.old 0 [] → IsArrivalText text arrivals.items) }
-    ensures fault { IfErr result (λ why. (text : List ℕ) → HasTaken text rows.old 0 [] → IsTextFault text why) }
+    ensures fault { IfErr result (λ why. (text : List ℕ) → HasTaken text rows.old 0 []
+        → IsTextFault (IsFaultOf ⊥ C.Cut) text why) }
 
     // Want of memory is that of a row only where the reader of rows has failed.
     ensures memory { IfErr result (λ why. IsMemoryOfRow why → HasFailed rows.new) }
@@ -222,7 +237,7 @@ fn arrivals_of(alloc: Global, rows: &mut TraceRows<'_>) -> Result<Vec<Arrival>, 
     // A record takes a byte or more, so the text ends before the turns do.
     for _turn in 0..u64::MAX {
         let row = rows.row_number();
-        let next = match rows.next() {
+        let next = match rows.next::<C>() {
             Ok(next) => next,
             Err(fault) => return Err(fault_at(fault.row, fault.what)),
         };
@@ -233,11 +248,14 @@ fn arrivals_of(alloc: Global, rows: &mut TraceRows<'_>) -> Result<Vec<Arrival>, 
                 steps = steps.and(&step);
                 let arrival = match arrival_of(&step, last) {
                     Ok(arrival) => arrival,
-                    Err(what) => return Err(first_fault(rows, steps, NoArrivals::Row(row, what))),
+                    Err(what) => {
+                        let own = NoArrivals::Row(row, what);
+                        return Err(first_fault::<C>(rows, steps, own));
+                    }
                 };
                 last = arrival.moment;
                 if arrivals.push(arrival).is_err() {
-                    return Err(first_fault(rows, steps, NoArrivals::Memory));
+                    return Err(first_fault::<C>(rows, steps, NoArrivals::Memory));
                 }
             }
         }
@@ -247,15 +265,20 @@ fn arrivals_of(alloc: Global, rows: &mut TraceRows<'_>) -> Result<Vec<Arrival>, 
 
 /// The first fault of a text of which a row is no arrival, or an arrival that can't be stored. It is one of the grammar of
 /// a row after that one, or else that row's own. The rows up to that one ask for these steps.
-fn first_fault(rows: &mut TraceRows<'_>, mut steps: GhostList<Step>, own: NoArrivals) -> NoArrivals
+fn first_fault<C: Records>(
+    rows: &mut TraceRows<'_>,
+    mut steps: GhostList<Step>,
+    own: NoArrivals,
+) -> NoArrivals
     requires { IsMemoryOfRow own → ⊥ }
     ensures fault { (text : List ℕ) (turns place : ℕ) → HasTaken text rows.old turns steps.items
-        → IsOwnFault steps.items place own → IsOwnRow text place own → IsTextFault text result }
+        → IsOwnFault steps.items place own → IsOwnRow text place own
+        → IsTextFault (IsFaultOf ⊥ C.Cut) text result }
     ensures memory { IsMemoryOfRow result → HasFailed rows.new }
 {
     // A record takes a byte or more, so the text ends before the turns do.
     for _turn in 0..u64::MAX {
-        let next = match rows.next() {
+        let next = match rows.next::<C>() {
             Ok(next) => next,
             Err(fault) => return fault_at(fault.row, fault.what),
         };

@@ -193,7 +193,7 @@ fn reads(alloc: Global, text: &[u8]) -> bool {
     }
     let mut rows = TraceRows::new(alloc, text);
     for _row in 0..3 {
-        if rows.next().is_err() {
+        if rows.next::<()>().is_err() {
             return false;
         }
     }

@@ -7,8 +7,11 @@ use clap::Error;
 use clap::error::ErrorKind;
 use std::alloc::{AllocError, Global};
 
-/// How the tip of `clap` begins that is left out.
-const TIP: &str = "\n  tip: to pass '";
+/// How the tips of `clap` begin.
+const TIP: &str = "\n  tip: ";
+
+/// How the tip begins that never helps.
+const BEHIND_DASHES: &str = "\n  tip: to pass '";
 
 /// What a value is of which the line says no more.
 const LISTED: &str = "one of those that 'maltlink --help' lists";
@@ -23,7 +26,16 @@ pub(crate) fn mistake_text(
     if error.kind() != ErrorKind::UnknownArgument {
         return Ok(text);
     }
-    let (Some((head, tip)), Some((before, word))) = (text.split_once(TIP), no_option(words)) else {
+    let Some((before, word)) = no_option(words) else {
+        return Ok(text);
+    };
+    // An option that looks like the parameter isn't what was meant: `--rate` beside `--target`.
+    let misleading = if form_of(bare_name(word)).is_some() {
+        TIP
+    } else {
+        BEHIND_DASHES
+    };
+    let Some((head, tip)) = text.split_once(misleading) else {
         return Ok(text);
     };
     let rest = match tip.split_once("\n") {
@@ -63,6 +75,11 @@ fn name_of(word: &str) -> &str {
     }
 }
 
+/// The name of a word without its dashes.
+fn bare_name(word: &str) -> &str {
+    name_of(word.trim_start_matches('-'))
+}
+
 /// Whether an option of that name has a value.
 fn takes_value(name: &str) -> bool {
     match name {
@@ -77,8 +94,7 @@ fn meant(alloc: Global, before: &str, word: &str) -> Result<String, AllocError> 
     if takes_value(before) {
         return format!(in alloc; "  {before} {word:?}: wanted is {}", wanted_after(before));
     }
-    let bare = word.trim_start_matches('-');
-    if let Some(form) = form_of(name_of(bare)) {
+    if let Some(form) = form_of(bare_name(word)) {
         return format!(in alloc;
             "  {word:?}: a parameter is written without dashes, as in '{form}'"
         );

@@ -1,8 +1,9 @@
 //! What the program reports beside a table: to someone who watches it what it reads and how far it is, and to everyone
 //! what makes a table easy to misread.
 
-ghost use Rattle.std.specs.Prelude.{◌≡◌, ℕ, IfOk, false, take};
-ghost use Rattle.std.specs.Io.KnownBytes.{Appends, Keeps};
+ghost use Rattle.std.specs.Prelude.{◌≡◌, IfOk, false};
+ghost use Rattle.std.specs.Io.KnownBytes.{Keeps};
+ghost use Rattle.link_command.specs.Runs.{IsWritten};
 ghost use Rattle.link_command.specs.Notes.{marks_note, marks_text, no_packet_text, run_note, tuple_text};
 
 use crate::marks::vain_place;
@@ -13,7 +14,7 @@ use packet_core::{EcnUse, FiveTuple, Params};
 use std::alloc::Global;
 use std::io::Write;
 use text_core::{AddressText, Digits};
-use trace_core::write_text;
+use trace_core::{Sink, write_text};
 
 /// A run with so many arrivals takes long enough for a report.
 const LONG_RUN: usize = 100_000;
@@ -149,9 +150,9 @@ fn tuple_text(alloc: Global, tuple: &FiveTuple) -> Result<Vec<u8>, Memory>
     Ok(text)
 }
 
-/// Writes a note. One that can't be written is passed over.
-pub(crate) fn write_note<F: Write>(faults: &mut F, note: &[u8])
-    ensures { (count : ℕ) × Appends (F.contents faults.old) (F.contents faults.new) (take count note.now) }
+/// Writes a note. One that can't be written is passed over, though a front of it may stand there then.
+pub(crate) fn write_note<F: Sink>(faults: &mut F, note: &[u8])
+    ensures { IsWritten F.Wrote F.Answered note.now faults.old faults.new }
 {
     let _ = write_text(faults, note);
 }

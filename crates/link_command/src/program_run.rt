@@ -1,8 +1,10 @@
 //! The whole program over words and streams: it writes a table of a link's run, or help, and reports a fault with its
 //! status.
 
-ghost use Rattle.std.specs.Prelude.{◌≡◌, ◌≢◌, [], ◌≤◌, ◌<◌, ℕ, IfErr, IfOk, IfSome, List, OnErr, OnOk, Some, false, length, map, option_map, take, true};
+ghost use Rattle.std.specs.Prelude.{◌≡◌, ◌≢◌, ◌⊎◌, [], ◌≤◌, ◌<◌, ℕ, IfErr, IfOk, IfSome, List, OnErr, OnOk, Some, false, length, map, option_map, take, true};
 ghost use Rattle.std.specs.Io.KnownBytes.{Appends, Keeps};
+ghost use Rattle.row_core.specs.Streams.{EndsWith, IsReadFailure};
+ghost use Rattle.row_core.specs.Traces.{IsFaultOf};
 ghost use Rattle.link_core.specs.Arrivals.{AreArrivals};
 ghost use Rattle.link_core.specs.Fifo.{IsFifoJournal};
 ghost use Rattle.journal_core.specs.declared.event.Event.{Event};
@@ -12,7 +14,8 @@ ghost use Rattle.link_command.specs.CommandLine.{texts_of};
 ghost use Rattle.link_command.specs.Faults.{status_of};
 ghost use Rattle.link_command.specs.declared.faults.ProgramFault.{ProgramFault};
 ghost use Rattle.link_command.specs.Notes.{run_note};
-ghost use Rattle.link_command.specs.Runs.{Answers, FailsBy, HasFifoRows, HasRunRows, IsAsked, IsFaultOn, IsJournalText, IsComparedText, IsNoteAsked, IsNoteFor, IsNoteOf, IsNoted, IsRunFault, IsTableFor, IsTableOf, IsTraceOf};
+ghost use Rattle.link_command.specs.Values.{RunParts, SaysRun};
+ghost use Rattle.link_command.specs.Runs.{Answers, AsksForInput, FailsBy, HasFifoRows, HasRunRows, IsAsked, IsFaultOn, IsJournalText, IsComparedText, IsNoteAsked, IsNoteFor, IsNoteOf, IsNoted, IsRunFault, IsTableFor, IsTableOf, IsTraceOf};
 ghost use Rattle.link_command.specs.RunsSaid.{run_parts_of};
 ghost use Rattle.link_report.specs.Binnings.{AreToldInOrder, binning_shape, shape_of};
 ghost use Rattle.link_command.specs.RunsTold.{EndsBy, known_told};
@@ -37,11 +40,11 @@ use link_report::{
     steps_text,
 };
 use packet_core::Seed;
-use row_core::MAX_ROWS;
+use row_core::{MAX_ROWS, Records, Source};
 use sched_core::{Engine, Memory, NullRecorder, Recorder, StepList, StepRecorder};
 use std::alloc::{AllocError, Global};
 use std::io::{Read, Write};
-use trace_core::write_text;
+use trace_core::{Sink, write_text};
 
 /// The status of a run that went well, and that of help.
 const SUCCESS: u8 = 0;
@@ -58,7 +61,7 @@ struct Report {
 /// The whole program over the words behind its name. It reads arrivals and writes a table of a link's run, or writes help
 /// where the words ask for that, and reports a fault on `faults`. It answers the status that the program ends with.
 /// Where standard streams are a terminal, it reports there too what it reads, and how far a long run is.
-pub fn program<R: Read, W: Write, F: Write>(
+pub fn program<R: Read + Source + Records, W: Write, F: Write + Sink>(
     alloc: Global,
     words: &[&str],
     reader: &mut R,
@@ -68,21 +71,25 @@ pub fn program<R: Read, W: Write, F: Write>(
 ) -> u8
     // With the status 0 the writer holds what it held, and then the table that the words ask for, of the link's run of
     // the arrivals that were read. Or the words ask for help or the version, and a text is written.
-    ensures answer { result ≡ 0 → Answers (map (λ w. w.now) words.now) (R.remaining reader.old)
+    ensures answer { result ≡ 0 → Answers (map (λ w. w.now) words.now) (R.Source.remaining reader.old)
         (W.contents writer.old) (W.contents writer.new) }
 
     // With the status 0 and no terminal, nothing is reported but the note on the run that was asked for: that no packet
     // came, or that the marks of a five-tuple are in vain. It is whole, or a front of it where its write failed.
     ensures quiet { result ≡ 0 → terminals.input ≡ false → terminals.faults ≡ false
-        → IsNoted (map (λ w. w.now) words.now) (R.remaining reader.old)
-        (F.contents faults.old) (F.contents faults.new) }
+        → (before : F) × Keeps (F.contents faults.old) (F.contents before)
+        × IsNoted F.Wrote F.Answered (map (λ w. w.now) words.now) (R.Source.remaining reader.old) before faults.new }
 
     // Any other status is that of a fault that these words and this input have, by which the writer came from what it
     // held to what it holds: a front of the table or of the text where a write failed, else what it held.
     ensures fault { (result ≢ 0) → (fault : ProgramFault)
-        × FailsBy (map (λ w. w.now) words.now) (R.remaining reader.old)
+        × FailsBy (IsFaultOf (EndsWith R.Answered IsReadFailure reader.old reader.new) R.Cut)
+        (map (λ w. w.now) words.now) (R.Source.remaining reader.old)
         (W.contents writer.old) (W.contents writer.new) fault
         × (result ≡ status_of fault) }
+
+    // Nothing is read, unless the words ask for a run and what they say is good: help doesn't wait for input.
+    ensures unread { AsksForInput (map (λ w. w.now) words.now) ⊎ (reader.new ≡ reader.old) }
 
     // With the status 2, where something that was given is wrong, nothing was written.
     ensures input_fault { result ≡ 2 → Keeps (W.contents writer.old) (W.contents writer.new) }
@@ -101,7 +108,7 @@ pub fn program<R: Read, W: Write, F: Write>(
 }
 
 /// What the words ask for: a table, or help.
-fn text_asked<R: Read, F: Write>(
+fn text_asked<R: Read + Source + Records, F: Write>(
     alloc: Global,
     words: &[&str],
     reader: &mut R,
@@ -109,10 +116,13 @@ fn text_asked<R: Read, F: Write>(
     terminals: Terminals,
 ) -> Result<Report, ProgramFault>
     ensures text { IfOk result (λ report.
-        IsAsked (map (λ w. w.now) words.now) (R.remaining reader.old) report.text.items) }
+        IsAsked (map (λ w. w.now) words.now) (R.Source.remaining reader.old) report.text.items) }
     ensures note { IfOk result (λ report.
-        IsNoteAsked (map (λ w. w.now) words.now) (R.remaining reader.old) report.note.items) }
-    ensures fault { IfErr result (IsFaultOn (map (λ w. w.now) words.now) (R.remaining reader.old)) }
+        IsNoteAsked (map (λ w. w.now) words.now) (R.Source.remaining reader.old) report.note.items) }
+    ensures fault { IfErr result (IsFaultOn
+        (IsFaultOf (EndsWith R.Answered IsReadFailure reader.old reader.new) R.Cut)
+        (map (λ w. w.now) words.now) (R.Source.remaining reader.old)) }
+    ensures unread { AsksForInput (map (λ w. w.now) words.now) ⊎ (reader.new ≡ reader.old) }
     ensures quiet { terminals.input ≡ false → terminals.faults ≡ false
         → Keeps (F.contents notes.old) (F.contents notes.new) }
 {
@@ -127,16 +137,21 @@ fn text_asked<R: Read, F: Write>(
 
 /// The table that is asked for. The values of options are tested in their order, then the parameter words, and then the
 /// arrivals.
-fn run_text<R: Read, F: Write>(
+fn run_text<R: Read + Source + Records, F: Write>(
     alloc: Global,
     request: &RunRequest<'_>,
     reader: &mut R,
     notes: &mut F,
     terminals: Terminals,
 ) -> Result<Report, ProgramFault>
-    ensures text { IfOk result (λ report. IsTableFor (texts_of request.now) (R.remaining reader.old) report.text.items) }
-    ensures note { IfOk result (λ report. IsNoteFor (texts_of request.now) (R.remaining reader.old) report.note.items) }
-    ensures fault { IfErr result (IsRunFault (texts_of request.now) (R.remaining reader.old)) }
+    ensures text { IfOk result (λ report.
+        IsTableFor (texts_of request.now) (R.Source.remaining reader.old) report.text.items) }
+    ensures note { IfOk result (λ report.
+        IsNoteFor (texts_of request.now) (R.Source.remaining reader.old) report.note.items) }
+    ensures fault { IfErr result (IsRunFault
+        (IsFaultOf (EndsWith R.Answered IsReadFailure reader.old reader.new) R.Cut)
+        (texts_of request.now) (R.Source.remaining reader.old)) }
+    ensures unread { ((run : RunParts) × SaysRun (texts_of request.now) run) ⊎ (reader.new ≡ reader.old) }
     ensures quiet { terminals.input ≡ false → terminals.faults ≡ false
         → Keeps (F.contents notes.old) (F.contents notes.new) }
 {

@@ -18,3 +18,9 @@ pub use sched_core::{
     NullRecorder, Outcome, Ran, Recorder, Refusal, Remains, Sched, Sent, Step, StepList,
     StepRecorder, Totals, TupleRow, run_steps,
 };
+
+const _: () = prove!(MAX_MOMENT == 1 << 60);
+
+const _: () = prove!(MAX_ACCEPTED == 1 << 40);
+
+const _: () = prove!(MAX_EVENTS == 1 << 43);

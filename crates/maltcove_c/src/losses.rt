@@ -6,10 +6,9 @@ ghost use Rattle.maltcove_c.specs.Calls.{Behind, Flushes, FlushesAllTold, IfBehi
 ghost use Rattle.maltcove_c.specs.declared.status.TheConstants.{NOT_OPEN, OK};
 
 use crate::records::{MaltcoveDropped, MaltcoveFlushed, dropped_of, flushed_of};
-use crate::scheduler::{Maltcove, put, take};
+use crate::scheduler::Maltcove;
 use crate::status::{NOT_OPEN, OK};
 use queue_disc_core::{Handle, QueueDisc};
-use std::alloc::Global;
 
 /// Reads drops into the places, as many as there are of both, and says how many.
 fn read_drops(disc: &mut QueueDisc, out: &mut [MaltcoveDropped]) -> usize
@@ -29,7 +28,6 @@ fn read_drops(disc: &mut QueueDisc, out: &mut [MaltcoveDropped]) -> usize
 /// Reads the drops that weren't read yet, as many as there is room for.
 #[unsafe(no_mangle)]
 pub extern "C" fn maltcove_raw_drops(
-    alloc: Global,
     m: &mut Maltcove,
     out: &mut [MaltcoveDropped],
     read: &mut u64,
@@ -41,12 +39,11 @@ pub extern "C" fn maltcove_raw_drops(
         → Behind (λ a b. ReadsDrops a (take read.new out.new) b) m.old.handle.value m.new.handle.value }
     ensures rest { drop read.new out.new ≡ drop read.new out.old }
 {
-    let Some(mut disc) = take(alloc, m) else {
+    if !m.is_open {
         *read = 0;
         return NOT_OPEN;
-    };
-    *read = read_drops(&mut disc, out) as u64;
-    put(m, disc);
+    }
+    *read = read_drops(m.handle.disc(), out) as u64;
     OK
 }
 
@@ -81,7 +78,6 @@ fn flush_into(disc: &mut QueueDisc, out: &mut [MaltcoveFlushed]) -> usize
 /// Takes packets that wait out, as many as there is room for.
 #[unsafe(no_mangle)]
 pub extern "C" fn maltcove_raw_flush(
-    alloc: Global,
     m: &mut Maltcove,
     out: &mut [MaltcoveFlushed],
     given: &mut u64,
@@ -96,11 +92,10 @@ pub extern "C" fn maltcove_raw_flush(
         → Behind (λ a b. FlushesAllTold a (take given.new out.new) b) m.old.handle.value m.new.handle.value }
     ensures rest { drop given.new out.new ≡ drop given.new out.old }
 {
-    let Some(mut disc) = take(alloc, m) else {
+    if !m.is_open {
         *given = 0;
         return NOT_OPEN;
-    };
-    *given = flush_into(&mut disc, out) as u64;
-    put(m, disc);
+    }
+    *given = flush_into(m.handle.disc(), out) as u64;
     OK
 }

@@ -184,16 +184,14 @@ fn end(disc: &mut QueueDisc, moment: u64) -> i32
 
 /// From here on nothing is accepted.
 #[unsafe(no_mangle)]
-pub extern "C" fn maltcove_raw_close(alloc: Global, m: &mut Maltcove, moment: u64) -> i32
+pub extern "C" fn maltcove_raw_close(m: &mut Maltcove, moment: u64) -> i32
     ensures none { (result ≡ NOT_OPEN) ↔ (m.old.handle.value ≡ None) }
     ensures made { result ≡ OK → Behind (λ a b. IsDiscClosed a moment b) m.old.handle.value m.new.handle.value }
     ensures refused { result ≢ OK → IfBehind (λ a. RefusesClose a moment result) m.old.handle.value }
     ensures unchanged { result ≢ OK → m.new.handle.value ≡ m.old.handle.value }
 {
-    let Some(mut disc) = take(alloc, m) else {
+    if !m.is_open {
         return NOT_OPEN;
-    };
-    let code = end(&mut disc, moment);
-    put(m, disc);
-    code
+    }
+    end(m.handle.disc(), moment)
 }

@@ -11,11 +11,10 @@ use crate::records::{
     MaltcoveAdmitted, MaltcoveDropped, MaltcovePacket, MaltcoveSent, admitted_of, dropped_of,
     idle_of, packet_in_flow, packet_of, sent_of,
 };
-use crate::scheduler::{Maltcove, put, take};
+use crate::scheduler::Maltcove;
 use crate::status::{BAD_PACKET, HASHED, IDLE, NOT_OPEN, OK, enqueue_code, moment_code};
 use packet_core::{Classify, Packet};
 use queue_disc_core::QueueDisc;
-use std::alloc::Global;
 
 /// A packet comes.
 // Merged into the calls of C, as what stands below is merged into it: handed on in memory, a packet is read in other
@@ -63,7 +62,6 @@ fn accept_said(
 /// Accepts a packet, whose flow the scheduler finds.
 #[unsafe(no_mangle)]
 pub extern "C" fn maltcove_raw_enqueue(
-    alloc: Global,
     m: &mut Maltcove,
     moment: u64,
     packet: &MaltcovePacket,
@@ -80,12 +78,10 @@ pub extern "C" fn maltcove_raw_enqueue(
     ensures memory { result ≢ MEMORY }
     ensures unchanged { result ≢ OK → (m.new.handle.value ≡ m.old.handle.value) × (out.new ≡ out.old) }
 {
-    let Some(mut disc) = take(alloc, m) else {
+    if !m.is_open {
         return NOT_OPEN;
-    };
-    let code = accept_said(&mut disc, moment, packet, out);
-    put(m, disc);
-    code
+    }
+    accept_said(m.handle.disc(), moment, packet, out)
 }
 
 /// What is left of a number that is divided by so many flows. Most callers hand in a number below, and wait for no
@@ -141,7 +137,6 @@ fn accept_in_flow(
 /// Accepts a packet, whose flow the caller has chosen.
 #[unsafe(no_mangle)]
 pub extern "C" fn maltcove_raw_enqueue_flow(
-    alloc: Global,
     m: &mut Maltcove,
     moment: u64,
     flow: u32,
@@ -161,12 +156,10 @@ pub extern "C" fn maltcove_raw_enqueue_flow(
     ensures memory { result ≢ MEMORY }
     ensures unchanged { result ≢ OK → (m.new.handle.value ≡ m.old.handle.value) × (out.new ≡ out.old) }
 {
-    let Some(mut disc) = take(alloc, m) else {
+    if !m.is_open {
         return NOT_OPEN;
-    };
-    let code = accept_in_flow(&mut disc, moment, flow, len, ecn, tag, out);
-    put(m, disc);
-    code
+    }
+    accept_in_flow(m.handle.disc(), moment, flow, len, ecn, tag, out)
 }
 
 /// The next packet goes, if one waits.
@@ -194,12 +187,7 @@ fn give(disc: &mut QueueDisc, moment: u64, out: &mut MaltcoveSent) -> i32
 
 /// Gives the next packet.
 #[unsafe(no_mangle)]
-pub extern "C" fn maltcove_raw_dequeue(
-    alloc: Global,
-    m: &mut Maltcove,
-    moment: u64,
-    out: &mut MaltcoveSent,
-) -> i32
+pub extern "C" fn maltcove_raw_dequeue(m: &mut Maltcove, moment: u64, out: &mut MaltcoveSent) -> i32
     ensures none { (result ≡ NOT_OPEN) ↔ (m.old.handle.value ≡ None) }
     ensures sent { result ≡ OK
         → Behind (λ a b. AnswersSent a moment out.new b) m.old.handle.value m.new.handle.value }
@@ -210,12 +198,10 @@ pub extern "C" fn maltcove_raw_dequeue(
     ensures unchanged { result ≢ OK → result ≢ IDLE
         → (m.new.handle.value ≡ m.old.handle.value) × (out.new ≡ out.old) }
 {
-    let Some(mut disc) = take(alloc, m) else {
+    if !m.is_open {
         return NOT_OPEN;
-    };
-    let code = give(&mut disc, moment, out);
-    put(m, disc);
-    code
+    }
+    give(m.handle.disc(), moment, out)
 }
 
 /// Packets go until none waits or the places are full, and how many went. At a moment that is refused none goes.
@@ -244,7 +230,6 @@ fn give_burst(disc: &mut QueueDisc, moment: u64, out: &mut [MaltcoveSent], given
 /// Gives the next packets, as many as there is room for. It answers how many, by `given`.
 #[unsafe(no_mangle)]
 pub extern "C" fn maltcove_raw_dequeue_burst(
-    alloc: Global,
     m: &mut Maltcove,
     moment: u64,
     out: &mut [MaltcoveSent],
@@ -261,11 +246,9 @@ pub extern "C" fn maltcove_raw_dequeue_burst(
     ensures unchanged { result ≢ OK → result ≢ IDLE
         → (m.new.handle.value ≡ m.old.handle.value) × (out.new ≡ out.old) × (given.new ≡ 0) }
 {
-    let Some(mut disc) = take(alloc, m) else {
+    if !m.is_open {
         *given = 0;
         return NOT_OPEN;
-    };
-    let code = give_burst(&mut disc, moment, out, given);
-    put(m, disc);
-    code
+    }
+    give_burst(m.handle.disc(), moment, out, given)
 }

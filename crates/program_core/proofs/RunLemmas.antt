@@ -1,5 +1,5 @@
 -- What a run by senders comes to, where it wrote a journal and where it failed.
-use Rattle.std.proofs.Common.{◌≡◌, ◌≢◌, ◌∙◌, ◌<◌, ℕ, List, Option, Some, None, Result, Ok, Err, IsOk, codes, refl, rules, subst, sym, ⊎_elim}
+use Rattle.std.proofs.Common.{◌≡◌, ◌≢◌, ◌∙◌, ◌<◌, ◌≤◌, length, ℕ, List, Option, Some, None, Result, Ok, Err, IsOk, codes, refl, rules, subst, sym, ⊎_elim}
 use Rattle.std.specs.Prelude.{IfErr, IfSome, IsErrAnd, OnOk}
 use Rattle.std.specs.Io.KnownBytes.{Appends, Keeps}
 use Rattle.std.proofs.KnownBytes.{Keeps-refl}
@@ -9,17 +9,18 @@ use Rattle.packet_core.specs.declared.params.ParamFields.{ParamFields}
 use Rattle.journal_core.specs.declared.event.Event.{Event}
 use Rattle.journal_core.specs.declared.step.Step.{Step}
 use Rattle.trace_core.specs.Report.{journal_text}
-use Rattle.row_core.specs.Traces.{trace_of}
+use Rattle.row_core.specs.Traces.{TraceFaults, trace_of}
 use Rattle.trace_core.specs.declared.journal_report.SenderRow.{SenderRow}
 use Rattle.trace_core.specs.declared.trace_run.RunFault.{RunFault}
 use Rattle.trace_core.specs.declared.trace_run.RunFault.TheVariants as run_fault
 use Rattle.command_core.specs.CommandLine.{AsksForHelp, AsksForLanes, AsksForLocked, AsksForTrace, IsMonitorCount, IsSenderCount, monitors_text, parameter_words, seed_text, senders_text}
-use Rattle.program_core.specs.Faults.{AreGood, IsBegun, IsLanesFault, IsLockedFault, run_fault_told, senders_fault_told}
+use Rattle.row_core.specs.declared.faults.TraceFault.{TraceFault}
+use Rattle.program_core.specs.Faults.{AreGood, IsBegun, IsLanesFault, IsLockedFault, IsRunFault, run_fault_told, senders_fault_told}
 use Rattle.run_core.specs.SendersFaults.{IsLanesRunFault, IsLockedRunFault}
 use Rattle.run_core.specs.declared.senders_fault.SendersFault.{SendersFault}
 use Rattle.run_core.specs.declared.senders_fault.SendersFault.TheVariants as senders_fault
 use Rattle.run_core.specs.Journals.{AreLanesJournal, AreLockedJournal, Journals}
-use Rattle.program_core.specs.Runs.{AnswersSenders, AnswersWatched, StartsJournal, IsJournalOf, IsSendersRunFor}
+use Rattle.program_core.specs.Runs.{AnswersSenders, AnswersWatched, BeginsReport, StartsJournal, IsJournalOf, IsSendersRunFor}
 use Rattle.program_core.specs.Watched.{TellsSeenOf}
 use Rattle.command_core.specs.Seeds.{seed_given}
 
@@ -63,23 +64,23 @@ begun seed_words words input seed params steps seed_read params_read read = reco
     go None h = tt
 
 -- a fault of the run itself
-pub locked_run_fault : (seed_words : Option (List ℕ)) (words : List (List ℕ)) (n : ℕ) (input old : Option (List ℕ)) (fault : SendersFault)
-    → IsLockedRunFault fault → IsBegun seed_words words input → IsLockedFault seed_words words n input old old (senders_fault_told fault)
-locked_run_fault seed_words words n input old senders_fault.Memory is begun' = (begun', Keeps-refl old)
-locked_run_fault seed_words words n input old senders_fault.Settle is begun' = (begun', Keeps-refl old)
-locked_run_fault seed_words words n input old (senders_fault.Lane lane) is begun' =
+pub locked_run_fault : (Is : TraceFaults) (seed_words : Option (List ℕ)) (words : List (List ℕ)) (n : ℕ) (input old : Option (List ℕ)) (fault : SendersFault)
+    → IsLockedRunFault fault → IsBegun seed_words words input → IsLockedFault Is seed_words words n input old old (senders_fault_told fault)
+locked_run_fault Is seed_words words n input old senders_fault.Memory is begun' = (begun', Keeps-refl old)
+locked_run_fault Is seed_words words n input old senders_fault.Settle is begun' = (begun', Keeps-refl old)
+locked_run_fault Is seed_words words n input old (senders_fault.Lane lane) is begun' =
     absurd (⊎_elim (λ one. search (rules, one)) (λ other. search (rules, other)) is)
-locked_run_fault seed_words words n input old (senders_fault.Monitor monitor) is begun' =
+locked_run_fault Is seed_words words n input old (senders_fault.Monitor monitor) is begun' =
     absurd (⊎_elim (λ one. search (rules, one)) (λ other. search (rules, other)) is)
 
 -- the same of a run through lanes
-pub lanes_run_fault : (seed_words : Option (List ℕ)) (words : List (List ℕ)) (n monitors : ℕ) (input old : Option (List ℕ)) (fault : SendersFault)
+pub lanes_run_fault : (Is : TraceFaults) (seed_words : Option (List ℕ)) (words : List (List ℕ)) (n monitors : ℕ) (input old : Option (List ℕ)) (fault : SendersFault)
     → IsLanesRunFault n monitors fault → IsBegun seed_words words input
-    → IsLanesFault seed_words words n monitors input old old (senders_fault_told fault)
-lanes_run_fault seed_words words n monitors input old senders_fault.Memory is begun' = (begun', Keeps-refl old)
-lanes_run_fault seed_words words n monitors input old senders_fault.Settle is begun' =
+    → IsLanesFault Is seed_words words n monitors input old old (senders_fault_told fault)
+lanes_run_fault Is seed_words words n monitors input old senders_fault.Memory is begun' = (begun', Keeps-refl old)
+lanes_run_fault Is seed_words words n monitors input old senders_fault.Settle is begun' =
     absurd (⊎_elim (⊎_elim (λ one. search (rules, one)) (λ t. search (rules, t.2))) (λ t. search (rules, t.2)) is)
-lanes_run_fault seed_words words n monitors input old (senders_fault.Lane lane) is begun' = (
+lanes_run_fault Is seed_words words n monitors input old (senders_fault.Lane lane) is begun' = (
   ⊎_elim
       (⊎_elim (λ one. absurd (search (rules, one))) (λ t. (let same : lane ≡ t.0 = cc t.2 in subst (λ k. k < n) (sym same) t.1)))
       (λ t. absurd (search (rules, t.2)))
@@ -87,7 +88,7 @@ lanes_run_fault seed_words words n monitors input old (senders_fault.Lane lane) 
   begun',
   Keeps-refl old,
 )
-lanes_run_fault seed_words words n monitors input old (senders_fault.Monitor monitor) is begun' = (
+lanes_run_fault Is seed_words words n monitors input old (senders_fault.Monitor monitor) is begun' = (
   ⊎_elim
       (⊎_elim (λ one. absurd (search (rules, one))) (λ t. absurd (search (rules, t.2))))
       (λ t. (let same : monitor ≡ t.0 = cc t.2 in subst (λ k. k < monitors) (sym same) t.1))
@@ -96,23 +97,33 @@ lanes_run_fault seed_words words n monitors input old (senders_fault.Monitor mon
   Keeps-refl old,
 )
 
+-- a fault of a run of one thread
+pub plain_fault : (Is : TraceFaults) (seed_words : Option (List ℕ)) (words : List (List ℕ)) (input old new : Option (List ℕ)) (fault : RunFault)
+    → AreGood seed_words words → ((why : TraceFault) → fault ≡ run_fault.Trace why → IfSome input (λ bytes. Is bytes why))
+    → (fault ≡ run_fault.Write → BeginsReport seed_words words input old new) → (fault ≡ run_fault.Memory → IfSome input (λ bytes. length bytes ≤ 134217728))
+    → (fault ≢ run_fault.Write → Keeps old new) → IsRunFault Is seed_words words input old new (run_fault_told fault)
+plain_fault Is seed_words words input old new run_fault.Write ready trace front memory kept = front refl
+plain_fault Is seed_words words input old new run_fault.Memory ready trace front memory kept = (ready, memory refl, kept (λ is. search (rules, is)))
+plain_fault Is seed_words words input old new (run_fault.Trace why) ready trace front memory kept =
+    (ready.seed_read, ready.params_read, trace why refl, kept (λ is. search (rules, is)))
+
 -- a fault of the journal's writing, told as one of the run
-pub locked_fault : (seed_words : Option (List ℕ)) (words : List (List ℕ)) (n : ℕ) (input old new : Option (List ℕ)) (fault : RunFault)
+pub locked_fault : (Is : TraceFaults) (seed_words : Option (List ℕ)) (words : List (List ℕ)) (n : ℕ) (input old new : Option (List ℕ)) (fault : RunFault)
     → IsBegun seed_words words input → (fault ≡ run_fault.Write → StartsJournal AreLockedJournal seed_words words n input old new) → (fault ≢ run_fault.Write → fault ≡ run_fault.Memory)
-    → (fault ≢ run_fault.Write → Keeps old new) → IsLockedFault seed_words words n input old new (run_fault_told fault)
-locked_fault seed_words words n input old new run_fault.Write begun' front memory kept = front refl
-locked_fault seed_words words n input old new run_fault.Memory begun' front memory kept = (begun', kept (λ is. search (rules, is)))
-locked_fault seed_words words n input old new (run_fault.Trace why) begun' front memory kept =
+    → (fault ≢ run_fault.Write → Keeps old new) → IsLockedFault Is seed_words words n input old new (run_fault_told fault)
+locked_fault Is seed_words words n input old new run_fault.Write begun' front memory kept = front refl
+locked_fault Is seed_words words n input old new run_fault.Memory begun' front memory kept = (begun', kept (λ is. search (rules, is)))
+locked_fault Is seed_words words n input old new (run_fault.Trace why) begun' front memory kept =
     let never : run_fault.Trace why ≡ run_fault.Memory = memory (λ is. search (rules, is)) in
     absurd (search (rules, never))
 
 -- the same of a run through lanes
-pub lanes_fault : (seed_words : Option (List ℕ)) (words : List (List ℕ)) (n monitors : ℕ) (input old new : Option (List ℕ)) (fault : RunFault)
+pub lanes_fault : (Is : TraceFaults) (seed_words : Option (List ℕ)) (words : List (List ℕ)) (n monitors : ℕ) (input old new : Option (List ℕ)) (fault : RunFault)
     → IsBegun seed_words words input → (fault ≡ run_fault.Write → StartsJournal AreLanesJournal seed_words words n input old new) → (fault ≢ run_fault.Write → fault ≡ run_fault.Memory)
-    → (fault ≢ run_fault.Write → Keeps old new) → IsLanesFault seed_words words n monitors input old new (run_fault_told fault)
-lanes_fault seed_words words n monitors input old new run_fault.Write begun' front memory kept = front refl
-lanes_fault seed_words words n monitors input old new run_fault.Memory begun' front memory kept = (begun', kept (λ is. search (rules, is)))
-lanes_fault seed_words words n monitors input old new (run_fault.Trace why) begun' front memory kept =
+    → (fault ≢ run_fault.Write → Keeps old new) → IsLanesFault Is seed_words words n monitors input old new (run_fault_told fault)
+lanes_fault Is seed_words words n monitors input old new run_fault.Write begun' front memory kept = front refl
+lanes_fault Is seed_words words n monitors input old new run_fault.Memory begun' front memory kept = (begun', kept (λ is. search (rules, is)))
+lanes_fault Is seed_words words n monitors input old new (run_fault.Trace why) begun' front memory kept =
     let never : run_fault.Trace why ≡ run_fault.Memory = memory (λ is. search (rules, is)) in
     absurd (search (rules, never))
 

@@ -2,7 +2,7 @@
 use Rattle.std.specs.Prelude.{◌≡◌, ◌≢◌, ◌⊎◌, ◌≤◌, ◌<◌, ℕ, List, IfSome, IsOk, Option, None, Err, length}
 use Rattle.std.specs.Io.KnownBytes.{Keeps}
 use Rattle.packet_core.specs.Words.{params_of_words}
-use Rattle.row_core.specs.Traces.{IsFaultOf, trace_of}
+use Rattle.row_core.specs.Traces.{TraceFaults, trace_of}
 use Rattle.row_core.specs.declared.faults.TraceFaultKind.{TraceFaultKind}
 use Rattle.row_core.specs.declared.faults.TraceFaultKind.TheVariants as trace_fault
 use Rattle.trace_core.specs.declared.trace_run.RunFault.{RunFault}
@@ -65,69 +65,73 @@ abbrev pub AsksForInput : List (List ℕ) → Type 0
 AsksForInput words = AsksForRun words × AreGood (seed_text words) (parameter_words words)
 
 -- The fault is one of a run of the input, with the seed of that text and the parameters of those words, by which the
--- writer came from what it held to what it holds. The seed is looked at first, then the parameters, then the input.
--- With a failed write it holds a front of the report more, and with any other fault what it held. Memory is asked for
--- once the input was read, which has no more than 134,217,728 bytes then. That it was wanting can't be said.
-abbrev pub IsRunFault : Option (List ℕ) → List (List ℕ) → Option (List ℕ) → Option (List ℕ) → Option (List ℕ)
-    → ProgramFault → Type 0
-IsRunFault seed words input old new program_fault.Seed = (seed_given seed ≡ None) × Keeps old new
-IsRunFault seed words input old new (program_fault.Params fault) =
+-- writer came from what it held to what it holds. Which faults the input's bytes may have is given. The seed is looked
+-- at first, then the parameters, then the input. With a failed write it holds a front of the report more, and with any
+-- other fault what it held. Memory is asked for once the input was read, which has no more than 134,217,728 bytes then.
+-- That it was wanting can't be said.
+abbrev pub IsRunFault : TraceFaults → Option (List ℕ) → List (List ℕ) → Option (List ℕ) → Option (List ℕ)
+    → Option (List ℕ) → ProgramFault → Type 0
+IsRunFault Is seed words input old new program_fault.Seed = (seed_given seed ≡ None) × Keeps old new
+IsRunFault Is seed words input old new (program_fault.Params fault) =
     (seed_given seed ≢ None) × (params_of_words words ≡ Err fault) × Keeps old new
-IsRunFault seed words input old new (program_fault.Trace fault) =
-    (seed_given seed ≢ None) × IsOk (params_of_words words) × IfSome input (λ bytes. IsFaultOf bytes fault)
+IsRunFault Is seed words input old new (program_fault.Trace fault) =
+    (seed_given seed ≢ None) × IsOk (params_of_words words) × IfSome input (λ bytes. Is bytes fault)
     × Keeps old new
-IsRunFault seed words input old new program_fault.Memory =
+IsRunFault Is seed words input old new program_fault.Memory =
     AreGood seed words × IfSome input (λ bytes. length bytes ≤ 134217728) × Keeps old new
-IsRunFault seed words input old new program_fault.Write = BeginsReport seed words input old new
-IsRunFault seed words input old new (program_fault.CommandLine text) = ⊥
-IsRunFault seed words input old new program_fault.NotUtf8 = ⊥
-IsRunFault seed words input old new program_fault.Settle = ⊥
-IsRunFault seed words input old new (program_fault.Lane lane) = ⊥
-IsRunFault seed words input old new (program_fault.Monitor monitor) = ⊥
+IsRunFault Is seed words input old new program_fault.Write = BeginsReport seed words input old new
+IsRunFault Is seed words input old new (program_fault.CommandLine text) = ⊥
+IsRunFault Is seed words input old new program_fault.NotUtf8 = ⊥
+IsRunFault Is seed words input old new program_fault.Settle = ⊥
+IsRunFault Is seed words input old new (program_fault.Lane lane) = ⊥
+IsRunFault Is seed words input old new (program_fault.Monitor monitor) = ⊥
 
 -- The fault is one of a run by so many senders, with a front of its journal where a write failed. Seed, parameters and
 -- input are looked at before a run is begun, so the others come once these are good. What the engine has may differ from
 -- what the seats were told.
-abbrev pub IsLockedFault : Option (List ℕ) → List (List ℕ) → ℕ → Option (List ℕ) → Option (List ℕ) → Option (List ℕ)
-    → ProgramFault → Type 0
-IsLockedFault seed words senders input old new program_fault.Write =
+abbrev pub IsLockedFault : TraceFaults → Option (List ℕ) → List (List ℕ) → ℕ → Option (List ℕ) → Option (List ℕ)
+    → Option (List ℕ) → ProgramFault → Type 0
+IsLockedFault Is seed words senders input old new program_fault.Write =
     StartsJournal AreLockedJournal seed words senders input old new
-IsLockedFault seed words senders input old new program_fault.Memory = IsBegun seed words input × Keeps old new
-IsLockedFault seed words senders input old new program_fault.Settle = IsBegun seed words input × Keeps old new
-IsLockedFault seed words senders input old new fault = IsRunFault seed words input old new fault
+IsLockedFault Is seed words senders input old new program_fault.Memory = IsBegun seed words input × Keeps old new
+IsLockedFault Is seed words senders input old new program_fault.Settle = IsBegun seed words input × Keeps old new
+IsLockedFault Is seed words senders input old new fault = IsRunFault Is seed words input old new fault
 
 -- The same where they have lanes, with so many monitors. A sender may have more packets than its lane has room for, or
 -- its lane may have no end. A monitor may have read more than the journal has.
-abbrev pub IsLanesFault : Option (List ℕ) → List (List ℕ) → ℕ → ℕ → Option (List ℕ) → Option (List ℕ)
-    → Option (List ℕ) → ProgramFault → Type 0
-IsLanesFault seed words senders monitors input old new program_fault.Write =
+abbrev pub IsLanesFault : TraceFaults → Option (List ℕ) → List (List ℕ) → ℕ → ℕ → Option (List ℕ)
+    → Option (List ℕ) → Option (List ℕ) → ProgramFault → Type 0
+IsLanesFault Is seed words senders monitors input old new program_fault.Write =
     StartsJournal AreLanesJournal seed words senders input old new
-IsLanesFault seed words senders monitors input old new program_fault.Memory = IsBegun seed words input × Keeps old new
-IsLanesFault seed words senders monitors input old new (program_fault.Lane lane) =
+IsLanesFault Is seed words senders monitors input old new program_fault.Memory =
+    IsBegun seed words input × Keeps old new
+IsLanesFault Is seed words senders monitors input old new (program_fault.Lane lane) =
     (lane < senders) × IsBegun seed words input × Keeps old new
-IsLanesFault seed words senders monitors input old new (program_fault.Monitor monitor) =
+IsLanesFault Is seed words senders monitors input old new (program_fault.Monitor monitor) =
     (monitor < monitors) × IsBegun seed words input × Keeps old new
-IsLanesFault seed words senders monitors input old new fault = IsRunFault seed words input old new fault
+IsLanesFault Is seed words senders monitors input old new fault = IsRunFault Is seed words input old new fault
 
 -- The fault is one of these words and this input, by which the writer came from what it held to what it holds. Of
 -- the words nothing is said at want of memory, since `clap` may want it whatever they are.
-abbrev pub IsFaultOn : List (List ℕ) → Option (List ℕ) → Option (List ℕ) → Option (List ℕ) → ProgramFault → Type 0
-IsFaultOn words input old new (program_fault.CommandLine text) = IsMistake words × Keeps old new
-IsFaultOn words input old new program_fault.NotUtf8 = ⊥
-IsFaultOn words input old new program_fault.Seed =
-    AsksForRun words × IsRunFault (seed_text words) (parameter_words words) input old new program_fault.Seed
-IsFaultOn words input old new (program_fault.Params fault) =
-    AsksForRun words × IsRunFault (seed_text words) (parameter_words words) input old new (program_fault.Params fault)
-IsFaultOn words input old new (program_fault.Trace fault) =
-    AsksForRun words × IsRunFault (seed_text words) (parameter_words words) input old new (program_fault.Trace fault)
-IsFaultOn words input old new program_fault.Memory = Keeps old new
-IsFaultOn words input old new program_fault.Write = Begins words input old new
-IsFaultOn words input old new program_fault.Settle =
+abbrev pub IsFaultOn : TraceFaults → List (List ℕ) → Option (List ℕ) → Option (List ℕ) → Option (List ℕ)
+    → ProgramFault → Type 0
+IsFaultOn Is words input old new (program_fault.CommandLine text) = IsMistake words × Keeps old new
+IsFaultOn Is words input old new program_fault.NotUtf8 = ⊥
+IsFaultOn Is words input old new program_fault.Seed =
+    AsksForRun words × IsRunFault Is (seed_text words) (parameter_words words) input old new program_fault.Seed
+IsFaultOn Is words input old new (program_fault.Params fault) =
+    AsksForRun words
+    × IsRunFault Is (seed_text words) (parameter_words words) input old new (program_fault.Params fault)
+IsFaultOn Is words input old new (program_fault.Trace fault) =
+    AsksForRun words × IsRunFault Is (seed_text words) (parameter_words words) input old new (program_fault.Trace fault)
+IsFaultOn Is words input old new program_fault.Memory = Keeps old new
+IsFaultOn Is words input old new program_fault.Write = Begins words input old new
+IsFaultOn Is words input old new program_fault.Settle =
     AsksForLocked words × IsBegun (seed_text words) (parameter_words words) input × Keeps old new
-IsFaultOn words input old new (program_fault.Lane lane) =
+IsFaultOn Is words input old new (program_fault.Lane lane) =
     AsksForLanes words × ((senders : ℕ) × IsSenderCount (senders_text words) senders × (lane < senders))
     × IsBegun (seed_text words) (parameter_words words) input × Keeps old new
-IsFaultOn words input old new (program_fault.Monitor monitor) =
+IsFaultOn Is words input old new (program_fault.Monitor monitor) =
     AsksForLanes words × ((monitors : ℕ) × IsMonitorCount (monitors_text words) monitors × (monitor < monitors))
     × IsBegun (seed_text words) (parameter_words words) input × Keeps old new
 

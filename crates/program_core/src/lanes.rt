@@ -4,6 +4,8 @@ ghost use Rattle.std.specs.Io.KnownBytes.{Appends, Keeps};
 ghost use Rattle.packet_core.specs.Words.{params_of_words};
 ghost use Rattle.command_core.specs.Seeds.{seed_given};
 ghost use Rattle.command_core.specs.declared.command_line.TheConstants.{MAX_MONITORS, MAX_SENDERS};
+ghost use Rattle.row_core.specs.Streams.{EndsWith, IsReadFailure};
+ghost use Rattle.row_core.specs.Traces.{IsFaultOf};
 ghost use Rattle.program_core.specs.Faults.{AreGood, IsLanesFault, IsOfWords};
 ghost use Rattle.program_core.specs.Runs.{IsSendersRunFor};
 ghost use Rattle.program_core.specs.Watched.{TellsSeenOf, TellsSome};
@@ -20,12 +22,12 @@ use std::alloc::Global;
 use std::io::{Read, Write};
 use std::sync::Wait;
 use std::thread::Threads;
-use trace_core::{read_trace, write_journal};
+use trace_core::{Records, Source, read_trace, write_journal};
 
 /// Reads a trace, makes its run through lanes, with the seed and the parameters that were asked for, and writes the
 /// journal; on `told` it reports what each monitor saw, in lines that may be cut where memory or a write is refused. The
 /// seed is read first, then the parameters, then the trace.
-pub fn simulate_lanes<H: Threads + Wait + Sync, R: Read, W: Write, F: Write>(
+pub fn simulate_lanes<H: Threads + Wait + Sync, R: Read + Source + Records, W: Write, F: Write>(
     rt: &H,
     alloc: Global,
     request: &LanesRequest<'_>,
@@ -36,22 +38,24 @@ pub fn simulate_lanes<H: Threads + Wait + Sync, R: Read, W: Write, F: Write>(
     requires senders { (0 < request.now.by.senders) × (request.now.by.senders ≤ MAX_SENDERS) }
     requires monitors { request.now.monitors ≤ MAX_MONITORS }
     ensures journal { OnOk result (IsSendersRunFor AreLanesJournal (option_map (λ s. s.now) request.now.by.run.seed)
-        (map (λ w. w.now) request.now.by.run.parameters.items) request.now.by.senders (R.remaining reader.old)
+        (map (λ w. w.now) request.now.by.run.parameters.items) request.now.by.senders (R.Source.remaining reader.old)
         (λ text. Appends (W.contents writer.old) (W.contents writer.new) text)) }
     ensures seed { IsErrOf result program_fault.Seed
         ↔ (seed_given (option_map (λ s. s.now) request.now.by.run.seed) ≡ None) }
     ensures params { (fault : ParamFault) → IsErrOf result (program_fault.Params fault)
         ↔ (seed_given (option_map (λ s. s.now) request.now.by.run.seed) ≢ None)
         × (params_of_words (map (λ w. w.now) request.now.by.run.parameters.items) ≡ Err fault) }
-    ensures fault { IfErr result (IsLanesFault (option_map (λ s. s.now) request.now.by.run.seed)
+    ensures fault { IfErr result (IsLanesFault
+        (IsFaultOf (EndsWith R.Answered IsReadFailure reader.old reader.new) R.Cut)
+        (option_map (λ s. s.now) request.now.by.run.seed)
         (map (λ w. w.now) request.now.by.run.parameters.items) request.now.by.senders request.now.monitors
-        (R.remaining reader.old) (W.contents writer.old) (W.contents writer.new)) }
+        (R.Source.remaining reader.old) (W.contents writer.old) (W.contents writer.new)) }
     ensures untouched { IfErr result (λ fault. (fault ≢ program_fault.Write)
         → Keeps (W.contents writer.old) (W.contents writer.new)) }
     ensures told { OnOk result (TellsSome request.now.monitors (F.contents told.old) (F.contents told.new)) }
     ensures told_of { OnOk result (IsSendersRunFor AreLanesJournal
         (option_map (λ s. s.now) request.now.by.run.seed)
-        (map (λ w. w.now) request.now.by.run.parameters.items) request.now.by.senders (R.remaining reader.old)
+        (map (λ w. w.now) request.now.by.run.parameters.items) request.now.by.senders (R.Source.remaining reader.old)
         (λ text. Appends (W.contents writer.old) (W.contents writer.new) text
         × TellsSeenOf request.now.monitors text (F.contents told.old) (F.contents told.new))) }
     ensures untold { OnErr result (Keeps (F.contents told.old) (F.contents told.new)) }

@@ -4,6 +4,8 @@ ghost use Rattle.std.specs.Prelude.{◌≡◌, ◌≢◌, ◌⊎◌, ◌≤◌, 
 ghost use Rattle.std.specs.Result.{IsOkUnless};
 ghost use Rattle.std.specs.Io.KnownBytes.{Appends, Keeps};
 ghost use Rattle.packet_core.specs.Words.{params_of_words};
+ghost use Rattle.row_core.specs.Streams.{EndsWith, IsReadFailure};
+ghost use Rattle.row_core.specs.Traces.{IsFaultOf};
 ghost use Rattle.program_core.specs.Faults.{AreGood, AsksForInput, IsFaultOn, IsRunFault, status_of};
 ghost use Rattle.program_core.specs.Runs.{Answers, AnswersWatched, IsRunFor, IsUnwatched};
 ghost use Rattle.command_core.specs.CommandLine.{AsksForLanes};
@@ -20,12 +22,12 @@ use std::alloc::Global;
 use std::io::{Read, Write};
 use std::sync::Wait;
 use std::thread::Threads;
-use trace_core::{run, write_text};
+use trace_core::{Records, Source, run, write_text};
 
 /// The whole program over the words behind its name. It reads a trace and writes the report of its run or the journal
 /// of its run by senders, or writes help where the words ask for that, and tells a fault on `faults`, and what monitors
 /// saw. It answers the status that the program ends with.
-pub fn program<H: Threads + Wait + Sync, R: Read, W: Write, F: Write>(
+pub fn program<H: Threads + Wait + Sync, R: Read + Source + Records, W: Write, F: Write>(
     rt: &H,
     alloc: Global,
     words: &[&str],
@@ -36,7 +38,7 @@ pub fn program<H: Threads + Wait + Sync, R: Read, W: Write, F: Write>(
     // With the status 0 the writer holds what it held, and then the report of the input with the seed and the
     // parameters of the words, or a journal of its run by senders, where these are those of a run. Else they ask for
     // help, and a text is written.
-    ensures answer { result ≡ 0 → Answers (map (λ w. w.now) words.now) (R.remaining reader.old)
+    ensures answer { result ≡ 0 → Answers (map (λ w. w.now) words.now) (R.Source.remaining reader.old)
         (W.contents writer.old) (W.contents writer.new) }
 
     // With the status 0 nothing is told, unless the words ask for monitors.
@@ -46,13 +48,14 @@ pub fn program<H: Threads + Wait + Sync, R: Read, W: Write, F: Write>(
     // Where the words ask for lanes, what is told is what their monitors saw of the journal that was written: the
     // statistics of its first events, of as many as each line says.
     ensures told { result ≡ 0 → AsksForLanes (map (λ w. w.now) words.now)
-        → AnswersWatched (map (λ w. w.now) words.now) (R.remaining reader.old) (W.contents writer.old)
+        → AnswersWatched (map (λ w. w.now) words.now) (R.Source.remaining reader.old) (W.contents writer.old)
         (W.contents writer.new) (F.contents faults.old) (F.contents faults.new) }
 
     // Any other status is that of a fault that these words and this input have, by which the writer came from what it
     // held to what it holds: a front of the report, of a journal or of help where a write failed, else what it held.
     ensures fault { (result ≢ 0) → (fault : ProgramFault)
-        × IsFaultOn (map (λ w. w.now) words.now) (R.remaining reader.old)
+        × IsFaultOn (IsFaultOf (EndsWith R.Answered IsReadFailure reader.old reader.new) R.Cut)
+        (map (λ w. w.now) words.now) (R.Source.remaining reader.old)
         (W.contents writer.old) (W.contents writer.new) fault
         × (result ≡ status_of fault) }
 
@@ -70,7 +73,7 @@ pub fn program<H: Threads + Wait + Sync, R: Read, W: Write, F: Write>(
 }
 
 /// Does what the words ask for. What monitors saw is told on `told`.
-fn answer<H: Threads + Wait + Sync, R: Read, W: Write, F: Write>(
+fn answer<H: Threads + Wait + Sync, R: Read + Source + Records, W: Write, F: Write>(
     rt: &H,
     alloc: Global,
     words: &[&str],
@@ -78,9 +81,11 @@ fn answer<H: Threads + Wait + Sync, R: Read, W: Write, F: Write>(
     writer: &mut W,
     told: &mut F,
 ) -> Result<(), ProgramFault>
-    ensures answer { OnOk result (Answers (map (λ w. w.now) words.now) (R.remaining reader.old)
+    ensures answer { OnOk result (Answers (map (λ w. w.now) words.now) (R.Source.remaining reader.old)
         (W.contents writer.old) (W.contents writer.new)) }
-    ensures fault { IfErr result (IsFaultOn (map (λ w. w.now) words.now) (R.remaining reader.old)
+    ensures fault { IfErr result (IsFaultOn
+        (IsFaultOf (EndsWith R.Answered IsReadFailure reader.old reader.new) R.Cut)
+        (map (λ w. w.now) words.now) (R.Source.remaining reader.old)
         (W.contents writer.old) (W.contents writer.new)) }
     ensures untouched { IfErr result (λ fault. (fault ≢ program_fault.Write)
         → Keeps (W.contents writer.old) (W.contents writer.new)) }
@@ -88,7 +93,7 @@ fn answer<H: Threads + Wait + Sync, R: Read, W: Write, F: Write>(
     ensures quiet { OnOk result (IsUnwatched (map (λ w. w.now) words.now)
         → Keeps (F.contents told.old) (F.contents told.new)) }
     ensures told { OnOk result (AsksForLanes (map (λ w. w.now) words.now)
-        → AnswersWatched (map (λ w. w.now) words.now) (R.remaining reader.old) (W.contents writer.old)
+        → AnswersWatched (map (λ w. w.now) words.now) (R.Source.remaining reader.old) (W.contents writer.old)
         (W.contents writer.new) (F.contents told.old) (F.contents told.new)) }
 {
     match parse(alloc, words)? {
@@ -115,7 +120,7 @@ pub(crate) fn show<W: Write>(writer: &mut W, text: &str) -> Result<(), ProgramFa
 
 /// Reads a trace, makes its run with the seed of that text and the parameters of those words, and writes the report.
 /// The seed is read first, then the parameters, then the trace.
-fn simulate<R: Read, W: Write>(
+fn simulate<R: Read + Source + Records, W: Write>(
     alloc: Global,
     seed: Option<&str>,
     parameters: &[&str],
@@ -123,17 +128,20 @@ fn simulate<R: Read, W: Write>(
     writer: &mut W,
 ) -> Result<(), ProgramFault>
     ensures report { OnOk result (IsRunFor (option_map (λ s. s.now) seed.entry) (map (λ w. w.now) parameters.now)
-        (R.remaining reader.old) (λ text. Appends (W.contents writer.old) (W.contents writer.new) text)) }
+        (R.Source.remaining reader.old) (λ text. Appends (W.contents writer.old) (W.contents writer.new) text)) }
     ensures seed { IsErrOf result program_fault.Seed ↔ (seed_given (option_map (λ s. s.now) seed.entry) ≡ None) }
     ensures params { (fault : ParamFault) → IsErrOf result (program_fault.Params fault)
         ↔ (seed_given (option_map (λ s. s.now) seed.entry) ≢ None)
         × (params_of_words (map (λ w. w.now) parameters.now) ≡ Err fault) }
-    ensures fault { IfErr result (IsRunFault (option_map (λ s. s.now) seed.entry) (map (λ w. w.now) parameters.now)
-        (R.remaining reader.old) (W.contents writer.old) (W.contents writer.new)) }
+    ensures fault { IfErr result (IsRunFault
+        (IsFaultOf (EndsWith R.Answered IsReadFailure reader.old reader.new) R.Cut)
+        (option_map (λ s. s.now) seed.entry) (map (λ w. w.now) parameters.now)
+        (R.Source.remaining reader.old) (W.contents writer.old) (W.contents writer.new)) }
     ensures reads { AreGood (option_map (λ s. s.now) seed.entry) (map (λ w. w.now) parameters.now)
         ⊎ (reader.new ≡ reader.old) }
     ensures front { result ≡ Err program_fault.Write
-        → IsRunFor (option_map (λ s. s.now) seed.entry) (map (λ w. w.now) parameters.now) (R.remaining reader.old)
+        → IsRunFor (option_map (λ s. s.now) seed.entry) (map (λ w. w.now) parameters.now)
+        (R.Source.remaining reader.old)
         (λ text. (count : ℕ) × Appends (W.contents writer.old) (W.contents writer.new) (take count text)) }
     ensures untouched { IfErr result (λ fault. (fault ≢ program_fault.Write)
         → Keeps (W.contents writer.old) (W.contents writer.new)) }

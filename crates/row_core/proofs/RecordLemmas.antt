@@ -19,7 +19,7 @@ use Rattle.journal_core.specs.declared.step.Step.{Step}
 use Rattle.row_core.specs.declared.faults.TraceFault.{TraceFault}
 use Rattle.row_core.specs.declared.faults.TraceFaultKind.TheVariants.{Memory, Read}
 use Rattle.row_core.specs.declared.reader.TraceRows.{TraceRows}
-use Rattle.row_core.specs.Traces.{HasRead, HasTaken, IsFaultOf, IsRowsFault, ReadFails, ReadsUpTo, RowsSoFar, TextReader}
+use Rattle.row_core.specs.Traces.{CsvCalls, HasRead, HasTaken, IsFaultOf, IsRowsFault, ReadFails, ReadsUpTo, RowsSoFar, TextReader}
 use Rattle.row_core.specs.Traces.{csv_fault, no_rows, rows_of_records, steps_of, steps_told, text_left, with_record}
 
 -- a record leaves no more than the text behind its first byte
@@ -154,18 +154,18 @@ fault_behind text reader before fields rows fault read e faulty =
     ap steps_told (ap (fold with_record (Ok no_rows)) all.1 ∙ fold-append with_record (Ok no_rows) (before ++ fields ∷ []) rest
     ∙ ap (λ so_far. fold with_record so_far rest) (record_more before fields rows e ∙ faulty) ∙ fold_stays with_record (Err fault) (λ x. refl) rest)
 
-module _ (known : Option (List ℕ)) (text : List ℕ) (reader : TextReader) (fault : TraceFault)
-    (same : IfSome known (λ bytes. text ≡ bytes)) (stops : IsRowsFault text reader fault) where
+module _ (known : Option (List ℕ)) (text : List ℕ) (Cut : CsvCalls) (reader : TextReader) (fault : TraceFault)
+    (same : IfSome known (λ bytes. text ≡ bytes)) (stops : IsRowsFault Cut text reader fault) where
   -- the fault of a text's rows is that of the trace
-  pub rows_fault : length text ≤ 134217728 → IfSome known (λ bytes. IsFaultOf bytes fault)
-  rows_fault small = IfSome_then known same (λ bytes is. rw (← is) (elim stops [
+  pub rows_fault : (failed : Type 0) → length text ≤ 134217728 → IfSome known (λ bytes. IsFaultOf failed Cut bytes fault)
+  rows_fault failed small = IfSome_then known same (λ bytes is. rw (← is) (elim stops [
     | inl first ↦ inl (rw (le-ltb 134217728 (length text) small) first.1)
     | inr (inl memory) ↦ inr (inr (inl memory))
-    | inr (inr failed) ↦ inr (inr (inr (failed.0, (reader, failed.1))))
+    | inr (inr behind) ↦ inr (inr (inr (behind.0, (reader, behind.1))))
   ]))
 
   -- a failed read behind the first row is one of `csv`'s reader
-  pub rows_read : (failed : Type 0) → fault.what ≡ Read → ReadFails known failed fault.row
+  pub rows_read : (failed : Type 0) → fault.what ≡ Read → ReadFails known failed Cut fault.row
   rows_read failed is_read = inr (
     text,
     same,
@@ -178,3 +178,10 @@ module _ (known : Option (List ℕ)) (text : List ℕ) (reader : TextReader) (fa
       ]),
     ),
   )
+
+-- what holds of a trace whose source hasn't failed holds whatever happened to its source
+pub source_aside : (failed : Type 0) (Cut : CsvCalls) (bytes : List ℕ) (fault : TraceFault) → IsFaultOf ⊥ Cut bytes fault → IsFaultOf failed Cut bytes fault
+source_aside failed Cut bytes fault (inl first) = inl first
+source_aside failed Cut bytes fault (inr (inl (row, inl read))) = absurd read.1
+source_aside failed Cut bytes fault (inr (inl (row, inr memory))) = inr (inl (row, inr memory))
+source_aside failed Cut bytes fault (inr (inr stops)) = inr (inr stops)

@@ -104,44 +104,54 @@ pub record HasRead (text : List ℕ) (reader : TextReader) (before : List (List 
   pub source : source_of text_left reader ≡ Some rest
   pub reached : Reached default_config st.StartRecord (strip_bom text) before (reader_state reader) rest
 
--- A reader of `csv` that stood behind these records of a text has failed at its next read, and told an error of the
--- reader underneath it. Want of memory aside it can tell no other there, and its contract says no more of it.
-pub record FailsBehind (text : List ℕ) (before : List (List (List ℕ))) (reader : TextReader) : Type 0 where
+-- which answer of `csv` takes its reader over a text from one state to another
+abbrev pub CsvCalls : Type 1
+CsvCalls = TextReader → Result Bool Error → TextReader → Type 0
+
+-- A reader of `csv` that stood behind these records of a text has failed at its next read: a call was answered with an
+-- error of the reader underneath it. Want of memory aside it can tell no other there.
+pub record FailsBehind (Cut : CsvCalls) (text : List ℕ) (before : List (List (List ℕ))) (reader : TextReader)
+    : Type 0 where
   pub old : TextReader
   pub stood : HasRead text old before
   pub error : Error
+  pub answered : Cut old (Err error) reader
   pub why : ExplainsRead text_left old reader false (error_kind error)
   pub io : is_io (error_kind error) ≡ true
   pub failed : has_failed reader ≡ true
 
 -- The text reads up to this row, and there its reader of `csv` has failed.
-abbrev pub FailsAtRow : ℕ → List ℕ → TextReader → Type 0
-FailsAtRow row text reader = (upto : ReadsUpTo row text) × FailsBehind text upto.before reader
+abbrev pub FailsAtRow : CsvCalls → ℕ → List ℕ → TextReader → Type 0
+FailsAtRow Cut row text reader = (upto : ReadsUpTo row text) × FailsBehind Cut text upto.before reader
 
 -- the same of a reader of `csv` that isn't named
-abbrev pub CsvFails : ℕ → List ℕ → Type 0
-CsvFails row text = (reader : TextReader) × FailsAtRow row text reader
+abbrev pub CsvFails : CsvCalls → ℕ → List ℕ → Type 0
+CsvFails Cut row text = (reader : TextReader) × FailsAtRow Cut row text reader
 
 -- Reading stopped with this fault and no fault of the text: at a row up to which the text reads, memory was wanting
 -- or the reader of its records failed.
-abbrev pub StopsAtRow : List ℕ → TraceFault → Type 0
-StopsAtRow text fault =
-    ((fault.what ≡ Memory) × ReadsUpTo fault.row text) ⊎ ((fault.what ≡ Read) × CsvFails fault.row text)
+abbrev pub StopsAtRow : CsvCalls → List ℕ → TraceFault → Type 0
+StopsAtRow Cut text fault =
+    ((fault.what ≡ Memory) × ReadsUpTo fault.row text) ⊎ ((fault.what ≡ Read) × CsvFails Cut fault.row text)
 
--- The same of a whole trace, whose bytes are read first, as row 0.
-abbrev pub StopsReading : List ℕ → TraceFault → Type 0
-StopsReading bytes fault =
-    ((fault.row ≡ 0) × ((fault.what ≡ Read) ⊎ (fault.what ≡ Memory))) ⊎ StopsAtRow bytes fault
+-- The same of a whole trace, whose bytes are read first, as row 0: there its source has failed, or memory was wanting.
+abbrev pub StopsReading : Type 0 → CsvCalls → List ℕ → TraceFault → Type 0
+StopsReading source_failed Cut bytes fault =
+    ((fault.row ≡ 0) × (((fault.what ≡ Read) × source_failed) ⊎ (fault.what ≡ Memory))) ⊎ StopsAtRow Cut bytes fault
 
 -- The fault of a trace with these bytes: the first one of the grammar, or reading stopped before there was one.
-abbrev pub IsFaultOf : List ℕ → TraceFault → Type 0
-IsFaultOf bytes fault = (trace_of bytes ≡ Err fault) ⊎ StopsReading bytes fault
+abbrev pub IsFaultOf : Type 0 → CsvCalls → List ℕ → TraceFault → Type 0
+IsFaultOf source_failed Cut bytes fault = (trace_of bytes ≡ Err fault) ⊎ StopsReading source_failed Cut bytes fault
+
+-- which faults a trace with some bytes has
+abbrev pub TraceFaults : Type 1
+TraceFaults = List ℕ → TraceFault → Type 0
 
 -- A read failed at this row of a trace, whose bytes may be known: at row 0 its source has failed, and at a later one
 -- the reader of `csv` over its text.
-abbrev pub ReadFails : Option (List ℕ) → Type 0 → ℕ → Type 0
-ReadFails known source_failed row =
-    ((row ≡ 0) × source_failed) ⊎ ((text : List ℕ) × IfSome known (λ bytes. text ≡ bytes) × CsvFails row text)
+abbrev pub ReadFails : Option (List ℕ) → Type 0 → CsvCalls → ℕ → Type 0
+ReadFails known source_failed Cut row =
+    ((row ≡ 0) × source_failed) ⊎ ((text : List ℕ) × IfSome known (λ bytes. text ≡ bytes) × CsvFails Cut row text)
 
 -- the fault for an error of `csv`
 abbrev pub csv_fault : ErrorKind → TraceFaultKind
@@ -154,11 +164,11 @@ csv_fault (csv_error.Deserialize place why) = Read
 
 -- The fault of the rows of a text, with their reader of `csv`: the first one of the grammar, or want of memory or a
 -- failed read at a row up to which the text reads.
-abbrev pub IsRowsFault : List ℕ → TextReader → TraceFault → Type 0
-IsRowsFault text reader fault =
+abbrev pub IsRowsFault : CsvCalls → List ℕ → TextReader → TraceFault → Type 0
+IsRowsFault Cut text reader fault =
     ((fault.what ≢ Read) × (steps_of text ≡ Err fault))
     ⊎ ((fault.what ≡ Memory) × ReadsUpTo fault.row text)
-    ⊎ ((fault.what ≡ Read) × FailsAtRow fault.row text reader)
+    ⊎ ((fault.what ≡ Read) × FailsAtRow Cut fault.row text reader)
 
 -- the reader of `csv` under the rows of a text, and the number of their next row
 abbrev pub reader_of : TraceRows → TextReader

@@ -6,10 +6,12 @@ mod faults;
 mod interruptions;
 mod numbers;
 mod reader;
+mod records;
 mod row;
 mod streams;
 
 pub use faults::{MAX_BYTES, MAX_ROWS, TraceFault, TraceFaultKind};
 pub use interruptions::{Interruptions, MAX_INTERRUPTIONS};
 pub use reader::{Next, TraceRows, read_text, read_trace, read_trace_from};
+pub use records::Records;
 pub use streams::Source;

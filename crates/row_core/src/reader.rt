@@ -7,6 +7,7 @@ ghost use Rattle.row_core.specs.Traces as Traces;
 
 use crate::faults::{MAX_BYTES, MAX_ROWS, TraceFault, TraceFaultKind};
 use crate::interruptions::Interruptions;
+use crate::records::Records;
 use crate::row::{Version, field, read_row, read_version, tells_version};
 use crate::streams::Source;
 use csv::{ByteRecord, ErrorKind, ReaderBuilder};
@@ -23,43 +24,52 @@ const MAX_CALLS: usize = 134_218_728;
 /// The steps of the trace that a reader gives, one for each row that asks for one, in order. It refuses a trace whose
 /// bytes can't be read or are too many, and then the first faulty row. `Read` at row 0 is answered only where a read was
 /// answered with an error, which was no interruption or the one after `MAX_INTERRUPTIONS` others, and `Read` at a later
-/// row only where the reader of `csv` over the text has failed.
-pub fn read_trace<R: Read + Source>(alloc: Global, reader: &mut R) -> Result<Vec<Step>, TraceFault>
+/// row only where a call of `csv` over the text was answered with an error.
+pub fn read_trace<R: Read + Source + Records>(
+    alloc: Global,
+    reader: &mut R,
+) -> Result<Vec<Step>, TraceFault>
     ensures steps { IfOk result (λ steps.
         IfSome (R.Source.remaining reader.old) (λ bytes. Traces.trace_of bytes ≡ Ok steps.items)) }
     ensures fault { IfErr result (λ fault.
-        IfSome (R.Source.remaining reader.old) (λ bytes. Traces.IsFaultOf bytes fault)) }
+        IfSome (R.Source.remaining reader.old) (λ bytes. Traces.IsFaultOf
+        (EndsWith R.Answered IsReadFailure reader.old reader.new) R.Cut bytes fault)) }
     ensures read { IfErr result (λ fault. fault.what ≡ TraceFaultKind.Read
         → Traces.ReadFails (R.Source.remaining reader.old)
-        (EndsWith R.Answered IsReadFailure reader.old reader.new) fault.row) }
+        (EndsWith R.Answered IsReadFailure reader.old reader.new) R.Cut fault.row) }
     ensures ended { OnOk result (EndsWith R.Answered IsEnd reader.old reader.new) }
 {
     read_trace_from(alloc, reader)
 }
 
 /// The same as `read_trace`, of the trace that a source gives which needn't be a `Read`.
-pub fn read_trace_from<S: Source>(alloc: Global, source: &mut S) -> Result<Vec<Step>, TraceFault>
+pub fn read_trace_from<S: Source + Records>(
+    alloc: Global,
+    source: &mut S,
+) -> Result<Vec<Step>, TraceFault>
     ensures steps { IfOk result (λ steps.
         IfSome (S.remaining source.old) (λ bytes. Traces.trace_of bytes ≡ Ok steps.items)) }
-    ensures fault { IfErr result (λ fault. IfSome (S.remaining source.old) (λ bytes. Traces.IsFaultOf bytes fault)) }
+    ensures fault { IfErr result (λ fault. IfSome (S.remaining source.old) (λ bytes. Traces.IsFaultOf
+        (EndsWith S.Answered IsReadFailure source.old source.new) S.Cut bytes fault)) }
 
     // Read comes only where the source was given up or `csv`'s reader of its text has failed.
     ensures read { IfErr result (λ fault. fault.what ≡ TraceFaultKind.Read
         → Traces.ReadFails (S.remaining source.old)
-        (EndsWith S.Answered IsReadFailure source.old source.new) fault.row) }
+        (EndsWith S.Answered IsReadFailure source.old source.new) S.Cut fault.row) }
     ensures ended { OnOk result (EndsWith S.Answered IsEnd source.old source.new) }
 {
     let text = read_text(alloc, source)?;
-    all_steps(alloc, &mut TraceRows::new(alloc, &text))
+    all_steps::<S>(alloc, &mut TraceRows::new(alloc, &text))
 }
 
 /// The text of the trace that a source gives: all its bytes, of which there are at most `MAX_BYTES`. A fault stands at
 /// row 0, and `Read` is answered only where a call of the source was answered with an error, which was no interruption
 /// or the one after `MAX_INTERRUPTIONS` others.
-pub fn read_text<S: Source>(alloc: Global, source: &mut S) -> Result<Vec<u8>, TraceFault>
+pub fn read_text<S: Source + Records>(alloc: Global, source: &mut S) -> Result<Vec<u8>, TraceFault>
     ensures whole { IfOk result (λ text. IfSome (S.remaining source.old) (λ bytes. text.items ≡ bytes)) }
     ensures bound { IfOk result (λ text. vec_len text ≤ MAX_BYTES) }
-    ensures fault { IfErr result (λ fault. IfSome (S.remaining source.old) (λ bytes. Traces.IsFaultOf bytes fault)) }
+    ensures fault { IfErr result (λ fault. IfSome (S.remaining source.old) (λ bytes. Traces.IsFaultOf
+        (EndsWith S.Answered IsReadFailure source.old source.new) S.Cut bytes fault)) }
     ensures row { IfErr result (λ fault. fault.row ≡ 0) }
     ensures read { IfErr result (λ fault. fault.what ≡ TraceFaultKind.Read
         → EndsWith S.Answered IsReadFailure source.old source.new) }
@@ -148,16 +158,17 @@ impl<'a> TraceRows<'a> {
     }
 
     /// What stands next. A fault comes at the row that it stands in.
-    pub fn next(&mut self) -> Result<Next, TraceFault>
+    pub fn next<C: Records>(&mut self) -> Result<Next, TraceFault>
         ensures taken { IfOk result (λ next. Traces.TakesNext self.old next self.new) }
         ensures fault { IfErr result (λ fault. (text : List ℕ) (turns : ℕ) (steps : List Step)
-            → Traces.HasTaken text self.old turns steps → Traces.IsRowsFault text (Traces.reader_of self.new) fault) }
+            → Traces.HasTaken text self.old turns steps
+            → Traces.IsRowsFault C.Cut text (Traces.reader_of self.new) fault) }
 
         // Memory comes only where `csv`'s reader has failed.
         ensures memory { IfErr result (λ fault. fault.what ≡ TraceFaultKind.Memory → Traces.HasFailed self.new) }
         ensures number { IfOk result (λ next. Traces.IsRowCounted self.old next self.new) }
     {
-        match next_record(&mut self.records, &mut self.row) {
+        match next_record::<C>(&mut self.records, &mut self.row) {
             Ok(true) => {}
             Ok(false) => return Ok(Next::End),
             Err(what) => return Err(fault(self.row_number, what)),
@@ -197,17 +208,17 @@ impl<'a> TraceRows<'a> {
 }
 
 /// The steps of all rows of a text, from its start on.
-fn all_steps(alloc: Global, rows: &mut TraceRows<'_>) -> Result<Vec<Step>, TraceFault>
+fn all_steps<C: Records>(alloc: Global, rows: &mut TraceRows<'_>) -> Result<Vec<Step>, TraceFault>
     ensures steps { IfOk result (λ steps. (text : List ℕ)
         → Traces.HasTaken text rows.old 0 [] → Traces.steps_of text ≡ Ok steps.items) }
     ensures fault { IfErr result (λ fault. (text : List ℕ)
-        → Traces.HasTaken text rows.old 0 [] → Traces.IsRowsFault text (Traces.reader_of rows.new) fault) }
+        → Traces.HasTaken text rows.old 0 [] → Traces.IsRowsFault C.Cut text (Traces.reader_of rows.new) fault) }
 {
     let mut steps = Vec::new(alloc);
     // A record takes a byte or more, so the text ends before the turns do.
     for _turn in 0..u64::MAX {
         let row = rows.row_number();
-        match rows.next()? {
+        match rows.next::<C>()? {
             Next::End => return Ok(steps),
             Next::NoStep => {}
             Next::Row(step) => {
@@ -228,7 +239,7 @@ fn fault(row: u64, what: TraceFaultKind) -> TraceFault
 }
 
 /// Cuts the next record off the text, and says whether there was one.
-fn next_record(
+fn next_record<C: Records>(
     reader: &mut csv::Reader<&[u8]>,
     row: &mut ByteRecord,
 ) -> Result<bool, TraceFaultKind>
@@ -240,10 +251,10 @@ fn next_record(
     ensures fault { IfErr result (λ fault. (fault ≡ TraceFaultKind.Read) ⊎ (fault ≡ TraceFaultKind.Memory)) }
     ensures failed { IfErr result (λ fault. fault ≡ TraceFaultKind.Read
         → (text : List ℕ) (before : List (List (List ℕ)))
-        → Traces.HasRead text reader.old before → Traces.FailsBehind text before reader.new) }
+        → Traces.HasRead text reader.old before → Traces.FailsBehind C.Cut text before reader.new) }
     ensures memory { IfErr result (λ fault. fault ≡ TraceFaultKind.Memory → has_failed reader.new ≡ true) }
 {
-    match reader.read_byte_record(row) {
+    match C::read_record(reader, row) {
         Ok(found) => Ok(found),
         Err(error) => Err(fault_of(&error)),
     }

@@ -15,6 +15,7 @@ mod ports;
 mod programs;
 mod quiet;
 mod recorders;
+mod renewals;
 mod runs;
 mod schedulers;
 mod steps;
@@ -38,7 +39,7 @@ const REFUSED: u32 = 1_000;
 const ALL: &str = "all";
 
 /// The names of the sequences.
-const SEQUENCES: [&str; 23] = [
+const SEQUENCES: [&str; 24] = [
     "flows",
     "sched",
     "engine",
@@ -55,6 +56,7 @@ const SEQUENCES: [&str; 23] = [
     "journal",
     "gathered",
     "tallied",
+    "renewed",
     "lists",
     "run_closed",
     "run_dequeues",
@@ -169,6 +171,7 @@ fn make<H: Print + Threads + Wait + Sync>(
         "journal" => traces::journal(values, calls),
         "gathered" => recorders::gathered(values, calls),
         "tallied" => recorders::tallied(values, calls),
+        "renewed" => renewals::renewed(values, calls),
         "lists" => runs::lists(values, calls),
         "run_closed" => runs::closed(rt, values, calls),
         "run_dequeues" => runs::dequeues(rt, values, calls),

@@ -26,9 +26,10 @@ pub(crate) fn packet<R: Abort>(rt: &R, dport: u16) -> Packet {
     packet_of(rt, dport, 100)
 }
 
-/// A packet of so many bytes to that destination port.
+/// A packet of so many bytes to that destination port, which is its tag, too.
 pub(crate) fn packet_of<R: Abort>(rt: &R, dport: u16, len: u32) -> Packet {
-    Packet::try_new(tuple(dport), len, Ecn::NotEct).expect(rt, "a packet")
+    let packet = Packet::try_new(tuple(dport), len, Ecn::NotEct).expect(rt, "a packet");
+    packet.with_tag(u64::from(dport))
 }
 
 /// Six packets of 100 bytes, to the destination ports from that one.

@@ -82,6 +82,56 @@ fn full_again_and_again(rt: HostRuntime) {
     plays(&rt, rt.alloc(), (1, 1), &calls, &events);
 }
 
+/// A pump takes all that stand in its lane, where its burst lets it: the largest burst is 1,024.
+#[test]
+fn a_long_burst(rt: HostRuntime) {
+    let packet = packet(&rt, 1);
+    let calls = [
+        put(0, packet),
+        put(0, packet),
+        put(0, packet),
+        put(0, packet),
+        put(0, packet),
+        put(0, packet),
+        put(0, packet),
+        put(0, packet),
+        put(0, packet),
+        put(0, packet),
+        put(0, packet),
+        put(0, packet),
+        put(0, packet),
+        put(0, packet),
+        put(0, packet),
+        put(0, packet),
+        put(0, packet),
+        put(0, packet),
+        put(0, packet),
+        put(0, packet),
+        takes(0, 1_024, 20),
+    ];
+    let mut events = [accepted(0, 0, packet); 20];
+    for id in 0..20 {
+        events[id] = accepted(0, id as u64, packet);
+    }
+    plays(&rt, rt.alloc(), (1, 64), &calls, &events);
+}
+
+/// A pump looks into its lane at the largest moment, too.
+#[test]
+fn a_pump_at_the_largest_moment(rt: HostRuntime) {
+    let packet = packet(&rt, 1);
+    let moment = (1 << 60) - 1;
+    let calls = [put(0, packet), Call::Pump(0, moment, 8, Ok(1))];
+    let events = [Event::Accepted {
+        lane: 0,
+        id: 0,
+        moment,
+        flow: 0,
+        packet,
+    }];
+    plays(&rt, rt.alloc(), (1, 2), &calls, &events);
+}
+
 /// There may be any number of lanes from 1 to 64, and a packet comes through the last of them.
 #[test]
 fn any_number_of_lanes(rt: HostRuntime) {

@@ -195,6 +195,75 @@ fn words_with_dashes_are_explained(rt: HostRuntime) {
     }
 }
 
+/// A parameter with dashes is shown as it is written without, where an option looks like it, too: `--mpu` like `--mtu`
+/// and `--rate` like `--target`.
+#[test]
+fn parameters_with_dashes(rt: HostRuntime) {
+    let rest =
+        "\n\nUsage: maltlink --rate <RATE> [PARAM]...\n\nFor more information, try '--help'.\n";
+    for (word, form) in FORMS {
+        let wanted = format!(in rt.alloc();
+            "error: unexpected argument '{word}' found\n  \"{word}\": a parameter is written without dashes, \
+as in '{form}'{rest}"
+        );
+        let words = ["--rate", "1mbit", word];
+        refuses(&rt, &words, "", wanted.expect(&rt, "memory").as_str());
+    }
+    let mtu =
+        "error: unexpected argument '--mtu' found\n  \"--mtu\": a parameter is written without dashes, \
+as in 'mtu 1514'\n\nUsage: maltlink --rate <RATE> --mpu <N> [PARAM]...\n\nFor more information, try '--help'.\n";
+    refuses(&rt, &["--rate", "1mbit", "--mtu"], "", mtu);
+}
+
+const FORMS: [(&str, &str); 10] = [
+    ("--limit", "limit 10240"),
+    ("--flows", "flows 1024"),
+    ("--quantum", "quantum 1514"),
+    ("--target", "target 5ms"),
+    ("--interval", "interval 100ms"),
+    ("--ce_threshold", "ce_threshold 1ms"),
+    ("--memory_limit", "memory_limit 32Mb"),
+    ("--drop_batch", "drop_batch 64"),
+    ("--ecn", "ecn"),
+    ("--classify", "classify dport"),
+];
+
+/// The word that is explained is the one that is no option: behind a dash alone, behind an option with its value after
+/// `=`, and behind a parameter that has no value.
+#[test]
+fn the_word_that_is_no_option(rt: HostRuntime) {
+    let rest =
+        "\n\nUsage: maltlink [OPTIONS] --rate <RATE> [PARAM]...\n\nFor more information, try '--help'.\n";
+    let table: [(&[&str], &str, &str); 4] = [
+        (
+            &["--rate=1mbit", "-x"],
+            "'-x'",
+            "  \"-x\": no option has that name ('maltlink --help' lists them)",
+        ),
+        (
+            &["--rate", "1mbit", "-", "-x"],
+            "'-x'",
+            "  \"-x\": no option has that name ('maltlink --help' lists them)",
+        ),
+        (
+            &["--rate", "1mbit", "noecn", "-x"],
+            "'-x'",
+            "  \"-x\": no option has that name ('maltlink --help' lists them)",
+        ),
+        (
+            &["--rate", "1mbit", "--mpu", "-1"],
+            "'-1'",
+            "  --mpu \"-1\": wanted is a number from 0 to 65535, in bytes",
+        ),
+    ];
+    for (words, found, line) in table {
+        let wanted = format!(in rt.alloc();
+            "error: unexpected argument {found} found\n{line}{rest}"
+        );
+        refuses(&rt, words, "", wanted.expect(&rt, "memory").as_str());
+    }
+}
+
 /// A word that is no parameter, as a file's name is, and values in forms that aren't read.
 #[test]
 fn words_that_are_no_parameters(rt: HostRuntime) {

@@ -68,6 +68,20 @@ fn note_before_the_reading(rt: HostRuntime) {
     assert!(rt; reader.was_after);
 }
 
+/// Wrong words are told at once: nothing is said of a reading that isn't made.
+#[test]
+fn wrong_words_at_a_terminal(rt: HostRuntime) {
+    let terminals = Terminals {
+        input: true,
+        faults: true,
+    };
+    let words = ["--rate", "8mbit", "limit"];
+    let (status, output, told) = called_at(&rt, &words, "", terminals);
+    assert_eq!(rt; status, 2);
+    assert!(rt; output.is_empty());
+    assert!(rt; told.starts_with(b"maltlink: parameter word 1: MissingValue\n"));
+}
+
 /// A run with these words and this input ends well and reports this, whatever it writes. Only the steps of no packet are no
 /// text.
 fn notes<R: Abort + AllocGlobal>(rt: &R, words: &[&str], input: &str, wanted: &str) {

@@ -157,3 +157,19 @@ mod tests {
         Ok(())
     }
 }
+
+/// What is said of a packet of no bytes.
+#[test]
+fn text_of_a_wrong_length(rt: HostRuntime) {
+    let tuple = FiveTuple {
+        proto: 17,
+        src: SHORT,
+        dst: SHORT,
+        sport: 1,
+        dport: 2,
+    };
+    let refused = Packet::try_new(tuple, 0, Ecn::NotEct).err();
+    let fault = refused.expect(&rt, "a refusal");
+    let told = format!(in rt.alloc(); "{fault}").expect(&rt, "memory");
+    assert_eq!(rt; told.as_str(), "a packet has 1 to 65,535 bytes");
+}

@@ -598,3 +598,24 @@ const TEXTS: [(ParamFault, &str); 4] = [
     (ParamFault::NotANumber(30), "parameter word 30: NotANumber"),
     (ParamFault::OutOfRange(6), "parameter word 6: OutOfRange"),
 ];
+
+/// The name of each parameter is its word.
+#[test]
+fn names_of_parameters(rt: HostRuntime) {
+    for &(name, text) in &NAMES {
+        let told = format!(in rt.alloc(); "{name}").expect(&rt, "memory");
+        assert_eq!(rt; told.as_str(), text);
+    }
+}
+
+const NAMES: [(ParamName, &str); 9] = [
+    (ParamName::Limit, "limit"),
+    (ParamName::Flows, "flows"),
+    (ParamName::Quantum, "quantum"),
+    (ParamName::Mtu, "mtu"),
+    (ParamName::Target, "target"),
+    (ParamName::Interval, "interval"),
+    (ParamName::CeThreshold, "ce_threshold"),
+    (ParamName::MemoryLimit, "memory_limit"),
+    (ParamName::DropBatch, "drop_batch"),
+];

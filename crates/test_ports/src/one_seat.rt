@@ -4,12 +4,13 @@
 use crate::calls::Call;
 use crate::fixtures::{Form, counted, flows, packet};
 use crate::seats::{Part, plays, plays_in_room};
-use packet_core::{Classify, Ecn, Packet, ParamFields, Params};
+use packet_core::{Classify, Ecn, EcnUse, Packet, ParamFields, Params};
 use sched_core::{Engine, Event, Mark, MomentFault, Refusal, Step, Totals};
 use std::alloc::Global;
 use std::process::Abort;
 use std::sync::Wait;
 use std::thread::Threads;
+use test_support::by_port;
 
 /// Why a moment of 2^60 microseconds is refused.
 const TOO_LARGE: Refusal = Refusal::Moment(MomentFault::TooLarge);
@@ -162,6 +163,48 @@ fn enqueue(packet: Packet, moment: u64) -> Step {
         packet,
     }
 }
+
+/// A port of packets that can't be marked, and one with a bound on the bytes that wait. Each is open at the end, where
+/// nothing waits, and has one step for each call.
+#[test]
+fn other_parameters(rt: HostRuntime) {
+    let mut fields = by_port(1);
+    fields.ecn = EcnUse::Drop;
+    passes_two(&rt, rt.alloc(), fields);
+    fields = by_port(1);
+    fields.memory_limit = Some(100_000);
+    passes_two(&rt, rt.alloc(), fields);
+}
+
+/// Two packets pass through a port of these parameters.
+fn passes_two<R: Threads + Wait + Abort + Sync>(rt: &R, alloc: Global, fields: ParamFields) {
+    let params = Params::try_new(fields).expect(rt, "parameters");
+    let engine = plays_alone(rt, alloc, params, &TWO_PASS);
+    assert!(rt; !engine.is_closed());
+    assert_eq!(rt; engine.steps().len(), 4);
+}
+
+const TWO_PASS: [Call<'static>; 5] = [
+    Call::Comes(1, PACKET, 0, 0, 1),
+    Call::Goes(2, PACKET, 0, 2, Mark::NoMark),
+    Call::Comes(3, PACKET, 1, 0, 3),
+    Call::Goes(4, PACKET, 1, 4, Mark::NoMark),
+    Call::Counts(2, 2),
+];
+
+/// After the close each dequeue that finds none is one step.
+#[test]
+fn idle_after_the_close(rt: HostRuntime) {
+    let engine = plays_alone(&rt, rt.alloc(), flows(&rt, 1), &IDLE_AFTER_CLOSE);
+    let wanted = [
+        Step::Close { moment: 1 },
+        Step::Dequeue { moment: 2 },
+        Step::Dequeue { moment: 3 },
+    ];
+    assert_eq!(rt; engine.steps(), &wanted[..]);
+}
+
+const IDLE_AFTER_CLOSE: [Call<'static>; 3] = [Call::Close(1, Ok(1)), Call::Idle(2), Call::Idle(3)];
 
 /// More than 2^20 packets pass, and the port goes on, also after a dequeue that finds none.
 #[test]

@@ -219,6 +219,9 @@ fn settles<A: Ledger, S: Ledger, R: Wait + Abort>(
 ) -> Engine {
     let mut seats = seats;
     let last = seats.pop().expect(rt, "the last seat");
+    // Nor is it without any seat.
+    let (port, none) = unsettled(rt, port, Vec::new(alloc));
+    assert!(rt; none.is_empty());
     let (port, mut seats) = unsettled(rt, port, seats);
     let mut last = last;
     assert!(rt; has_room(&mut last, room));

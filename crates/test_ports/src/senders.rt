@@ -40,10 +40,10 @@ fn asks_once_for_each_call(rt: HostRuntime) {
 #[test]
 fn asks_once_for_each_of_many_calls(rt: HostRuntime) {
     let mut packets = Vec::new(rt.alloc());
-    for moment in 0..1_500 {
+    for moment in 0..5_000 {
         packets.push((moment, SHORT)).expect(&rt, "memory");
     }
-    asks(&rt, rt.alloc(), false, &packets, 1_500);
+    asks(&rt, rt.alloc(), false, &packets, 5_000);
 }
 
 /// A gate that is closed at the first asking for each call is asked for it once more.

@@ -89,7 +89,7 @@ impl Write for NarrowWriter {
     }
 }
 
-/// A writer that takes so many bytes, then once none, and from then on all. It counts its calls.
+/// A writer that takes so many bytes, then once none, and from then on all. It counts its calls, flushes too.
 #[derive(Drop)]
 struct PausingWriter {
     taken: Vec<u8>,
@@ -114,6 +114,7 @@ impl Write for PausingWriter {
     }
 
     fn flush(&mut self) -> io::Result<()> {
+        self.calls = self.calls.saturating_add(1);
         Ok(())
     }
 }

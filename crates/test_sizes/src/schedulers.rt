@@ -1,7 +1,7 @@
 //! Schedulers, engines, queue discs and choosers of flows.
 
 use crate::sizes::{LARGEST, SHORT, SIZES, first, packet, params, params_of, size};
-use journal_core::{Journal, MAX_EVENTS};
+use journal_core::{Journal, MAX_EVENTS, Tally};
 use packet_core::ParamFields;
 use queue_disc_core::QueueDisc;
 use sched_core::{Engine, FlowChooser, Sched, Step, run_steps};
@@ -125,5 +125,15 @@ fn step_lists(rt: &(impl Abort + AllocGlobal)) {
             first(rt, &steps, size(number)),
         );
         assert!(rt; ran.is_ok());
+    }
+}
+
+/// As many packets as the largest size come to a tally, each of a five-tuple of its own.
+#[test]
+fn tallied_packets(rt: HostRuntime) {
+    let mut tally = Tally::new(rt.alloc(), &SEED);
+    for number in 0..LARGEST {
+        let tuple = packet(&rt, number).tuple();
+        assert!(rt; tally.accept(tuple, 0).is_ok());
     }
 }

@@ -12,8 +12,8 @@ mod trace_run;
 
 pub use journal_report::{SenderRow, write_journal, write_journal_to};
 pub use row_core::{
-    MAX_BYTES, MAX_INTERRUPTIONS, MAX_ROWS, Source, TraceFault, TraceFaultKind, read_trace,
-    read_trace_from,
+    MAX_BYTES, MAX_INTERRUPTIONS, MAX_ROWS, Records, Source, TraceFault, TraceFaultKind,
+    read_trace, read_trace_from,
 };
 pub use streams::Sink;
 pub use trace_run::{RunFault, run, run_between, write_text};

@@ -21,7 +21,7 @@ use crate::streams::Sink;
 use journal_core::{Noted, Tally};
 use packet_core::{Packet, Params, Seed};
 use row_core::{
-    Interruptions, MAX_BYTES, MAX_INTERRUPTIONS, Next, Source, TraceFault, TraceFaultKind,
+    Interruptions, MAX_BYTES, MAX_INTERRUPTIONS, Next, Records, Source, TraceFault, TraceFaultKind,
     TraceRows, read_text,
 };
 use sched_core::{Answer, Memory, Refusal, Sched, Step};
@@ -64,8 +64,8 @@ impl From<AllocError> for RunFault {
 ///
 /// `Read` at row 0 is answered only where a read was answered with an error, and `Write` only where a write was answered
 /// with an error or took nothing. An interruption is such an error only after `MAX_INTERRUPTIONS` others of the same
-/// stream. `Read` at a later row is answered only where the reader of `csv` over the text has failed.
-pub fn run<R: Read + Source, W: Write + Sink>(
+/// stream. `Read` at a later row is answered only where a call of `csv` over the text was answered with an error.
+pub fn run<R: Read + Source + Records, W: Write + Sink>(
     alloc: Global,
     reader: &mut R,
     writer: &mut W,
@@ -78,12 +78,13 @@ pub fn run<R: Read + Source, W: Write + Sink>(
         → IfSome (R.Source.remaining reader.old) (λ bytes. (text : List ℕ) × IsReportOf params seed bytes text
         × (count : ℕ) × W.Wrote writer.old (take count text) writer.new)) }
     ensures trace { IfErr result (λ fault. (why : TraceFault) → fault ≡ RunFault.Trace why
-        → IfSome (R.Source.remaining reader.old) (λ bytes. IsFaultOf bytes why)) }
+        → IfSome (R.Source.remaining reader.old) (λ bytes. IsFaultOf
+        (EndsWith R.Answered IsReadFailure reader.old reader.new) R.Cut bytes why)) }
     ensures untouched { IfErr result (λ fault. (fault ≢ RunFault.Write)
         → Keeps (W.contents writer.old) (W.contents writer.new)) }
     ensures read { IfErr result (λ fault. (why : TraceFault) → fault ≡ RunFault.Trace why → why.what ≡ kind.Read
         → ReadFails (R.Source.remaining reader.old)
-        (EndsWith R.Answered IsReadFailure reader.old reader.new) why.row) }
+        (EndsWith R.Answered IsReadFailure reader.old reader.new) R.Cut why.row) }
     ensures write { IfErr result (λ fault. fault ≡ RunFault.Write
         → EndsWith W.Answered IsWriteFailure writer.old writer.new) }
     ensures memory { IfErr result (λ fault. fault ≡ RunFault.Memory
@@ -96,7 +97,7 @@ pub fn run<R: Read + Source, W: Write + Sink>(
 }
 
 /// The same as `run`, from a source to a sink which needn't be a `Read` and a `Write`.
-pub fn run_between<S: Source, K: Sink>(
+pub fn run_between<S: Source + Records, K: Sink>(
     alloc: Global,
     source: &mut S,
     sink: &mut K,
@@ -109,14 +110,15 @@ pub fn run_between<S: Source, K: Sink>(
         → IfSome (S.remaining source.old) (λ bytes. (text : List ℕ) × IsReportOf params seed bytes text
         × (count : ℕ) × K.Wrote sink.old (take count text) sink.new)) }
     ensures trace { IfErr result (λ fault. (why : TraceFault) → fault ≡ RunFault.Trace why
-        → IfSome (S.remaining source.old) (λ bytes. IsFaultOf bytes why)) }
+        → IfSome (S.remaining source.old) (λ bytes. IsFaultOf
+        (EndsWith S.Answered IsReadFailure source.old source.new) S.Cut bytes why)) }
     ensures untouched { IfErr result (λ fault. (fault ≢ RunFault.Write) → sink.new ≡ sink.old) }
 
     // Read comes only where the source was given up or `csv`'s reader of its text has failed, and Write only where the
     // sink was given up.
     ensures read { IfErr result (λ fault. (why : TraceFault) → fault ≡ RunFault.Trace why → why.what ≡ kind.Read
         → ReadFails (S.remaining source.old)
-        (EndsWith S.Answered IsReadFailure source.old source.new) why.row) }
+        (EndsWith S.Answered IsReadFailure source.old source.new) S.Cut why.row) }
     ensures write { IfErr result (λ fault. fault ≡ RunFault.Write
         → EndsWith K.Answered IsWriteFailure sink.old sink.new) }
 
@@ -128,35 +130,44 @@ pub fn run_between<S: Source, K: Sink>(
     ensures wrote { OnOk result (WentOn K.Answered sink.old sink.new) }
 {
     let text = read_text(alloc, source)?;
-    let report = run_text(alloc, &text, params, seed)?;
+    let report = run_text::<S>(alloc, &text, params, seed)?;
     write_text(sink, &report)
 }
 
 /// Makes the steps of a text with a new scheduler of those parameters and that seed, and gives the report.
-fn run_text(alloc: Global, text: &[u8], params: Params, seed: Seed) -> Result<Vec<u8>, RunFault>
+fn run_text<C: Records>(
+    alloc: Global,
+    text: &[u8],
+    params: Params,
+    seed: Seed,
+) -> Result<Vec<u8>, RunFault>
     requires { length text.now ≤ MAX_BYTES }
     ensures report { IfOk result (λ report. IsReportOf params seed text.now report.items) }
     ensures trace { IfErr result (λ fault. (why : TraceFault) → fault ≡ RunFault.Trace why
-        → (reader : TextReader) × IsRowsFault text.now reader why) }
+        → (reader : TextReader) × IsRowsFault C.Cut text.now reader why) }
     ensures write { IfErr result (λ fault. fault ≢ RunFault.Write) }
 {
     let mut sched = Sched::try_with_recorder(alloc, params, seed, Noted::new(alloc))?;
-    text_of(alloc, text, &mut sched)
+    text_of::<C>(alloc, text, &mut sched)
 }
 
 /// Makes the steps of a text with a new scheduler, and gives the report.
-fn text_of(alloc: Global, text: &[u8], sched: &mut Sched<Noted>) -> Result<Vec<u8>, RunFault>
+fn text_of<C: Records>(
+    alloc: Global,
+    text: &[u8],
+    sched: &mut Sched<Noted>,
+) -> Result<Vec<u8>, RunFault>
     requires short { length text.now ≤ MAX_BYTES }
     requires new { sched.old.standing.events ≡ [] }
     ensures report { IfOk result (λ report. (params : ParamFields) → (seed : Seed)
         → sched.old ≡ new_scheduler params seed → IsReportOf params seed text.now report.items) }
     ensures trace { IfErr result (λ fault. (why : TraceFault) → fault ≡ RunFault.Trace why
-        → (reader : TextReader) × IsRowsFault text.now reader why) }
+        → (reader : TextReader) × IsRowsFault C.Cut text.now reader why) }
     ensures write { IfErr result (λ fault. fault ≢ RunFault.Write) }
 {
     let mut report = Rows::new(alloc);
     let mut tally = Tally::new(alloc, &sched.seed());
-    run_rows(
+    run_rows::<C>(
         sched,
         &mut TraceRows::new(alloc, text),
         &mut report,
@@ -166,7 +177,7 @@ fn text_of(alloc: Global, text: &[u8], sched: &mut Sched<Noted>) -> Result<Vec<u
 }
 
 /// Makes the steps of all rows of a text, from its start on, each as it is read, and writes its rows of the report.
-fn run_rows(
+fn run_rows<C: Records>(
     sched: &mut Sched<Noted>,
     rows: &mut TraceRows<'_>,
     report: &mut Rows,
@@ -177,12 +188,12 @@ fn run_rows(
         → RunsText text sched.old sched.new report.old report.new) }
     ensures seen { OnOk result (HasSeen tally.new (acceptances sched.new.standing.events)) }
     ensures trace { IfErr result (λ fault. (why : TraceFault) → fault ≡ RunFault.Trace why
-        → (text : List ℕ) → HasTaken text rows.old 0 [] → IsRowsFault text (reader_of rows.new) why) }
+        → (text : List ℕ) → HasTaken text rows.old 0 [] → IsRowsFault C.Cut text (reader_of rows.new) why) }
     ensures write { IfErr result (λ fault. fault ≢ RunFault.Write) }
 {
     // A record takes a byte or more, so the text ends before the turns do.
     for _turn in 0..u64::MAX {
-        match rows.next()? {
+        match rows.next::<C>()? {
             Next::End => return Ok(()),
             Next::NoStep => {}
             Next::Row(step) => run_step(sched, &step, report, tally)?,

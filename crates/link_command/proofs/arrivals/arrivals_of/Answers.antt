@@ -9,30 +9,30 @@ use Rattle.link_command.proofs.arrivals.arrivals_of.Goals as goal
 use Rattle.link_command.proofs.arrivals.arrivals_of.Goals.{in-NoStep, in-Row+in-Ok-arrival_of+else-is_err}
 
 pub loop-turn-init : goal.loop-turn-init
-loop-turn-init c = λ text start. rw (c.new-steps.ensures.items, c.new-arrivals.ensures.items) (none_so_far text c.args.rows.now start)
+loop-turn-init g c = λ text start. rw (c.new-steps.ensures.items, c.new-arrivals.ensures.items) (none_so_far text c.args.rows.now start)
 
 pub returns-in-Err-clause-fault : goal.returns-in-Err-clause-fault
-returns-in-Err-clause-fault c = λ text start.
+returns-in-Err-clause-fault g c = λ text start.
     let stops = c.in-Err.ensures.fault text _ _ (c.loop-turn.invariant text start).taken in
-    rw c.fault_at.ensures (rows_fault (Some text) text (reader_of c.next.new.self) c.in-Err.fault refl stops start.small)
+    rw c.fault_at.ensures (rows_fault (Some text) text g.C.Records.Cut (reader_of c.next.new.self) c.in-Err.fault refl stops _ start.small)
 
 pub returns-in-Err-clause-memory : goal.returns-in-Err-clause-memory
-returns-in-Err-clause-memory c = λ memory. c.in-Err.ensures.memory (of_trace c.in-Err.fault.what (rw c.fault_at.ensures at memory))
+returns-in-Err-clause-memory g c = λ memory. c.in-Err.ensures.memory (of_trace c.in-Err.fault.what (rw c.fault_at.ensures at memory))
 
 pub returns-in-End-clause-arrivals : goal.returns-in-End-clause-arrivals
-returns-in-End-clause-arrivals c = λ text start. (c.loop-turn.invariant text start).are
+returns-in-End-clause-arrivals g c = λ text start. (c.loop-turn.invariant text start).are
 
 pub returns-in-End-clause-text : goal.returns-in-End-clause-text
-returns-in-End-clause-text c = λ text start.
+returns-in-End-clause-text g c = λ text start.
     let so_far = c.loop-turn.invariant text start in
     let read = (rw c.in-End.is at c.in-Ok.ensures.taken) text _ _ so_far.taken in
     record { steps = c.loop-turn.steps.items; read = rw (le-ltb 134217728 (length text) start.small) read; same = so_far.same }
 
 pub first_fault-requires : goal.first_fault-requires
-first_fault-requires c = λ memory. no_memory c.loop-turn.last c.in-Row.step c.in-Err-arrival_of.what c.in-Err-arrival_of.ensures.fault memory
+first_fault-requires g c = λ memory. no_memory c.loop-turn.last c.in-Row.step c.in-Err-arrival_of.what c.in-Err-arrival_of.ensures.fault memory
 
 pub returns-in-Err-arrival_of-clause-fault : goal.returns-in-Err-arrival_of-clause-fault
-returns-in-Err-arrival_of-clause-fault c = λ text start.
+returns-in-Err-arrival_of-clause-fault g c = λ text start.
     let before = c.loop-turn.invariant text start in
     let steps = c.loop-turn.steps.items in
     let step = c.in-Row.step in
@@ -54,12 +54,12 @@ returns-in-Err-arrival_of-clause-fault c = λ text start.
     (rw c.and-steps.ensures.items at c.first_fault.ensures.fault) text _ (length steps) taken fault row_is
 
 pub returns-then-is_err-clause-fault : goal.returns-then-is_err-clause-fault
-returns-then-is_err-clause-fault c = λ text start.
+returns-then-is_err-clause-fault g c = λ text start.
     let taken = (rw c.in-Row.is at c.in-Ok.ensures.taken) text _ _ (c.loop-turn.invariant text start).taken in
     (rw c.and-steps.ensures.items at c.first_fault-then-is_err.ensures.fault) text _ 0 taken tt tt
 
 pub loop-turn-preserved : goal.loop-turn-preserved
-loop-turn-preserved c = λ text start.
+loop-turn-preserved g c = λ text start.
     let so_far = c.loop-turn.invariant text start in
     elim c.match-next-2.branch [
       | in-NoStep w ↦
@@ -88,4 +88,4 @@ loop-turn-preserved c = λ text start.
     ]
 
 pub returns-clause-fault : goal.returns-clause-fault
-returns-clause-fault c = λ text start. absurd (omega (arith, few_turns text _ _ _ (c.loop-turn.invariant text start).taken))
+returns-clause-fault g c = λ text start. absurd (omega (arith, few_turns text _ _ _ (c.loop-turn.invariant text start).taken))

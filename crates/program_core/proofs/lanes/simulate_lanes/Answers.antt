@@ -13,8 +13,8 @@ returns-in_err-write_journal-clause-fault g c =
     let params_read : params_of_words (map (λ w. w.now) c.args.request.now.by.run.parameters.items) ≡ Ok c.in_ok-params.params = search rules in
     let made : AreLanesJournal c.in_ok-params.params c.in_ok-seed.seed c.args.request.now.by.senders c.in_ok-steps.steps.items c.in_ok-engine.engine.sched.standing.events c.deref-3.result.now = search rules in
     err_told c.from_residual-in_err-write_journal.result (run_fault_told fault) _ c.from_residual-in_err-write_journal.ensures.1
-    (lanes_fault (option_map (λ s. s.now) c.args.request.now.by.run.seed) (map (λ w. w.now) c.args.request.now.by.run.parameters.items)
-    c.args.request.now.by.senders c.args.request.now.monitors (g.R.Read.remaining c.args.reader.now) (g.W.Write.contents c.args.writer.now) (g.W.Write.contents c.write_journal.new.writer) fault
+    (lanes_fault _ (option_map (λ s. s.now) c.args.request.now.by.run.seed) (map (λ w. w.now) c.args.request.now.by.run.parameters.items)
+    c.args.request.now.by.senders c.args.request.now.monitors (g.R.Source.remaining c.args.reader.now) (g.W.Write.contents c.args.writer.now) (g.W.Write.contents c.write_journal.new.writer) fault
     (begun (option_map (λ s. s.now) c.args.request.now.by.run.seed) _ _ c.in_ok-seed.seed.0 c.in_ok-params.params c.in_ok-steps.steps.items c.in_ok-seed.ensures.ok params_read c.in_ok-steps.ensures.steps)
     (λ is.
     senders_run AreLanesJournal (option_map (λ s. s.now) c.args.request.now.by.run.seed) _ _ _ _ c.in_ok-seed.seed c.in_ok-params.params c.in_ok-steps.steps.items c.in_ok-engine.engine.sched.standing.events c.deref-3.result.now
@@ -61,7 +61,7 @@ returns-in_err-engine-clause-fault g c =
     let fault = c.in_err-engine.field-0.0 in
     let params_read : params_of_words (map (λ w. w.now) c.args.request.now.by.run.parameters.items) ≡ Ok c.in_ok-params.params = search rules in
     err_told c.from_residual-in_err-engine.result (senders_fault_told fault) _ c.from_residual-in_err-engine.ensures.1
-    (lanes_run_fault (option_map (λ s. s.now) c.args.request.now.by.run.seed) (map (λ w. w.now) c.args.request.now.by.run.parameters.items) c.args.request.now.by.senders c.args.request.now.monitors (g.R.Read.remaining c.args.reader.now) (g.W.Write.contents c.args.writer.now) fault
+    (lanes_run_fault _ (option_map (λ s. s.now) c.args.request.now.by.run.seed) (map (λ w. w.now) c.args.request.now.by.run.parameters.items) c.args.request.now.by.senders c.args.request.now.monitors (g.R.Source.remaining c.args.reader.now) (g.W.Write.contents c.args.writer.now) fault
     c.in_err-engine.ensures.fault
     (begun (option_map (λ s. s.now) c.args.request.now.by.run.seed) _ _ c.in_ok-seed.seed.0 c.in_ok-params.params c.in_ok-steps.steps.items c.in_ok-seed.ensures.ok params_read c.in_ok-steps.ensures.steps))
 

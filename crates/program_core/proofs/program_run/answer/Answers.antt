@@ -9,7 +9,7 @@ returns-in-Locked-clause-answer g c =
     let senders = c.in-Locked.senders in
     let same = c.in-Locked.is in
     answers_so c.simulate_locked.result _ _ (λ answers. inr (inl (c.in_ok-trace.ensures.locked senders same, answers)))
-    (answers_senders AreLockedJournal (map (λ w. w.now) c.args.words.now) (g.R.Read.remaining c.args.reader.now) (g.W.Write.contents c.args.writer.now)
+    (answers_senders AreLockedJournal (map (λ w. w.now) c.args.words.now) (g.R.Source.remaining c.args.reader.now) (g.W.Write.contents c.args.writer.now)
     (g.W.Write.contents c.simulate_locked.new.writer) c.simulate_locked.result _ _ senders.senders
     (c.in_ok-trace.ensures.locked_seed senders same) (c.in_ok-trace.ensures.locked_parameters senders same)
     (c.in_ok-trace.ensures.senders senders same) c.simulate_locked.ensures.journal)
@@ -19,7 +19,7 @@ returns-in-Lanes-clause-answer g c =
     let lanes = c.in-Lanes.lanes in
     let same = c.in-Lanes.is in
     answers_so c.simulate_lanes.result _ _ (λ answers. inr (inr (inl (c.in_ok-trace.ensures.lanes lanes same, answers))))
-    (answers_senders AreLanesJournal (map (λ w. w.now) c.args.words.now) (g.R.Read.remaining c.args.reader.now) (g.W.Write.contents c.args.writer.now)
+    (answers_senders AreLanesJournal (map (λ w. w.now) c.args.words.now) (g.R.Source.remaining c.args.reader.now) (g.W.Write.contents c.args.writer.now)
     (g.W.Write.contents c.simulate_lanes.new.writer) c.simulate_lanes.result _ _ lanes.by.senders
     (c.in_ok-trace.ensures.lanes_seed lanes same) (c.in_ok-trace.ensures.lanes_parameters lanes same)
     (c.in_ok-trace.ensures.lanes_senders lanes same) c.simulate_lanes.ensures.journal)
@@ -43,7 +43,7 @@ pub returns-in-Lanes-clause-told : goal.returns-in-Lanes-clause-told
 returns-in-Lanes-clause-told g c =
     let lanes = c.in-Lanes.lanes in
     let same = c.in-Lanes.is in
-    answers_watched (map (λ w. w.now) c.args.words.now) (g.R.Read.remaining c.args.reader.now) (g.W.Write.contents c.args.writer.now)
+    answers_watched (map (λ w. w.now) c.args.words.now) (g.R.Source.remaining c.args.reader.now) (g.W.Write.contents c.args.writer.now)
     (g.W.Write.contents c.simulate_lanes.new.writer) (g.F.Write.contents c.args.told.now) (g.F.Write.contents c.simulate_lanes.new.told)
     c.simulate_lanes.result _ _ lanes.by.senders lanes.monitors
     (c.in_ok-trace.ensures.lanes_seed lanes same) (c.in_ok-trace.ensures.lanes_parameters lanes same)
@@ -58,7 +58,7 @@ pub returns-in-Trace-clause-fault : goal.returns-in-Trace-clause-fault
 returns-in-Trace-clause-fault g c =
     let trace = c.in-Trace.trace in
     let same = c.in-Trace.is in
-    trace_fault_on (map (λ w. w.now) c.args.words.now) _ _ (g.R.Read.remaining c.args.reader.now) (g.W.Write.contents c.args.writer.now)
+    trace_fault_on _ (map (λ w. w.now) c.args.words.now) _ _ (g.R.Source.remaining c.args.reader.now) (g.W.Write.contents c.args.writer.now)
     (g.W.Write.contents c.simulate.new.writer) c.simulate.result (c.in_ok-trace.ensures.seed trace same) (c.in_ok-trace.ensures.parameters trace same)
     (c.in_ok-trace.ensures.trace trace same) (rw c.deref.ensures.value at c.simulate.ensures.fault)
 
@@ -66,7 +66,7 @@ pub returns-in-Locked-clause-fault : goal.returns-in-Locked-clause-fault
 returns-in-Locked-clause-fault g c =
     let senders = c.in-Locked.senders in
     let same = c.in-Locked.is in
-    locked_fault_on (map (λ w. w.now) c.args.words.now) _ _ senders.senders (g.R.Read.remaining c.args.reader.now) (g.W.Write.contents c.args.writer.now)
+    locked_fault_on _ (map (λ w. w.now) c.args.words.now) _ _ senders.senders (g.R.Source.remaining c.args.reader.now) (g.W.Write.contents c.args.writer.now)
     (g.W.Write.contents c.simulate_locked.new.writer) c.simulate_locked.result (c.in_ok-trace.ensures.locked_seed senders same)
     (c.in_ok-trace.ensures.locked_parameters senders same) (c.in_ok-trace.ensures.senders senders same) (c.in_ok-trace.ensures.locked senders same)
     c.simulate_locked.ensures.fault
@@ -75,7 +75,7 @@ pub returns-in-Lanes-clause-fault : goal.returns-in-Lanes-clause-fault
 returns-in-Lanes-clause-fault g c =
     let lanes = c.in-Lanes.lanes in
     let same = c.in-Lanes.is in
-    lanes_fault_on (map (λ w. w.now) c.args.words.now) _ _ lanes.by.senders lanes.monitors (g.R.Read.remaining c.args.reader.now) (g.W.Write.contents c.args.writer.now)
+    lanes_fault_on _ (map (λ w. w.now) c.args.words.now) _ _ lanes.by.senders lanes.monitors (g.R.Source.remaining c.args.reader.now) (g.W.Write.contents c.args.writer.now)
     (g.W.Write.contents c.simulate_lanes.new.writer) c.simulate_lanes.result (c.in_ok-trace.ensures.lanes_seed lanes same)
     (c.in_ok-trace.ensures.lanes_parameters lanes same) (c.in_ok-trace.ensures.lanes_senders lanes same) (c.in_ok-trace.ensures.monitors lanes same)
     (c.in_ok-trace.ensures.lanes lanes same) c.simulate_lanes.ensures.fault

@@ -9,10 +9,10 @@ returns-clause-fault g c =
     let text = c.in_ok-text.text.items in
     let small : length text ≤ 134217728 = search rules in
     let start = rw c.deref.ensures.value at c.new.ensures in
-    IfErr-weaker c.all_steps.result _ _ (λ fault stops. rows_fault (g.S.Source.remaining c.args.source.now) text (reader_of c.all_steps.new.rows) fault c.in_ok-text.ensures.whole (stops text start) small) c.all_steps.ensures.fault
+    IfErr-weaker c.all_steps.result _ _ (λ fault stops. rows_fault (g.S.Source.remaining c.args.source.now) text g.S.Records.Cut (reader_of c.all_steps.new.rows) fault c.in_ok-text.ensures.whole (stops text start) _ small) c.all_steps.ensures.fault
 
 pub returns-clause-read : goal.returns-clause-read
 returns-clause-read g c =
     let text = c.in_ok-text.text.items in
     let start = rw c.deref.ensures.value at c.new.ensures in
-    IfErr-weaker c.all_steps.result _ _ (λ fault stops. rows_read _ text (reader_of c.all_steps.new.rows) fault c.in_ok-text.ensures.whole (stops text start) _) c.all_steps.ensures.fault
+    IfErr-weaker c.all_steps.result _ _ (λ fault stops. rows_read _ text g.S.Records.Cut (reader_of c.all_steps.new.rows) fault c.in_ok-text.ensures.whole (stops text start) _) c.all_steps.ensures.fault

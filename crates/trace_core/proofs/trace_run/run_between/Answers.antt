@@ -10,14 +10,14 @@ returns-in_err-report-clause-trace g c =
     let small : length text ≤ 134217728 = search rules in
     rw err (λ why is.
     let stops = rw c.deref.ensures.value at c.in_err-report.ensures.trace why is in
-    rows_fault (g.S.Source.remaining c.args.source.now) text stops.0 why c.in_ok-text.ensures.whole stops.1 small)
+    rows_fault (g.S.Source.remaining c.args.source.now) text g.S.Records.Cut stops.0 why c.in_ok-text.ensures.whole stops.1 _ small)
 
 pub returns-in_err-report-clause-read : goal.returns-in_err-report-clause-read
 returns-in_err-report-clause-read g c =
     let err : c.from_residual-in_err-report.result ≡ Err c.in_err-report.field-0.0 = search rules in
     rw err (λ why is.
     let stops = rw c.deref.ensures.value at c.in_err-report.ensures.trace why is in
-    rows_read _ c.in_ok-text.text.items stops.0 why c.in_ok-text.ensures.whole stops.1 _)
+    rows_read _ c.in_ok-text.text.items g.S.Records.Cut stops.0 why c.in_ok-text.ensures.whole stops.1 _)
 
 pub returns-in_err-report-clause-memory : goal.returns-in_err-report-clause-memory
 returns-in_err-report-clause-memory g c =

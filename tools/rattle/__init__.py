@@ -1,0 +1,1 @@
+"""Reads the sources and finds the calls in them, for `tools/path-of-a-packet`."""
