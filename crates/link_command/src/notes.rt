@@ -3,14 +3,20 @@
 
 ghost use Rattle.std.specs.Prelude.{◌≡◌, IfOk, false};
 ghost use Rattle.std.specs.Io.KnownBytes.{Keeps};
-ghost use Rattle.link_command.specs.Runs.{IsWritten};
+ghost use Rattle.link_core.specs.Fifo.{IsFifoJournal};
+ghost use Rattle.link_core.specs.LinkRuns.{HasRunLink};
+ghost use Rattle.link_command.specs.Runs.{HasFifoRows, HasRunRows, IsWritten};
+ghost use Rattle.link_command.specs.RunsSaid.{run_parts_of};
 ghost use Rattle.link_command.specs.Notes.{marks_note, marks_text, no_packet_text, run_note, tuple_text};
 
 use crate::marks::vain_place;
+use crate::program_run::Report;
+use crate::values::Run;
 use journal_core::Memory;
 use link_core::Arrival;
-use link_report::Packets;
+use link_report::{Gathered, Packets};
 use packet_core::{EcnUse, FiveTuple, Params};
+use sched_core::{Engine, Recorder, StepRecorder};
 use std::alloc::Global;
 use std::io::Write;
 use text_core::{AddressText, Digits};
@@ -28,17 +34,6 @@ pub struct Terminals {
     pub faults: bool,
 }
 
-/// How far a run is.
-#[derive(Clone, Copy, Debug, PartialEq, Eq)]
-pub(crate) enum Stage {
-    /// The arrivals are read.
-    Read,
-    /// The link's run is made.
-    Run,
-    /// The run through a FIFO is made too.
-    Compared,
-}
-
 /// Reports that arrivals are read, where they are read from a terminal. A note that can't be written is passed over.
 pub(crate) fn note_input<F: Write>(notes: &mut F, terminals: Terminals)
     ensures { terminals.input ≡ false → Keeps (F.contents notes.old) (F.contents notes.new) }
@@ -51,21 +46,94 @@ pub(crate) fn note_input<F: Write>(notes: &mut F, terminals: Terminals)
     }
 }
 
-/// Reports how far a long run is, where standard error is a terminal. A note that can't be written is passed over.
-pub(crate) fn note_stage<F: Write>(
-    notes: &mut F,
-    terminals: Terminals,
-    stage: Stage,
-    arrivals: usize,
-)
+/// Reports that the arrivals of a long run are read, where standard error is a terminal. A note that can't be written is
+/// passed over, as each of those below.
+pub(crate) fn note_read<F: Write>(notes: &mut F, terminals: Terminals, arrivals: &[Arrival])
     ensures { terminals.faults ≡ false → Keeps (F.contents notes.old) (F.contents notes.new) }
 {
-    if terminals.faults && arrivals >= LONG_RUN {
-        let _ = match stage {
-            Stage::Read => writeln!(notes, "maltlink: {arrivals} arrivals are read"),
-            Stage::Run => writeln!(notes, "maltlink: the link has sent its last packet"),
-            Stage::Compared => writeln!(notes, "maltlink: the FIFO has sent its last packet"),
-        };
+    if is_watched(terminals, arrivals) {
+        let _ = writeln!(notes, "maltlink: {} arrivals are read", arrivals.len());
+    }
+}
+
+/// Whether someone watches a run of these arrivals, which takes long.
+fn is_watched(terminals: Terminals, arrivals: &[Arrival]) -> bool
+    ensures { terminals.faults ≡ false → result ≡ false }
+{
+    terminals.faults && arrivals.len() >= LONG_RUN
+}
+
+/// Reports that the link's run is made, by this engine. So it can't be reported before.
+pub(crate) fn note_run<K: Recorder, S: StepRecorder, F: Write>(
+    notes: &mut F,
+    terminals: Terminals,
+    _run: &Run,
+    arrivals: &[Arrival],
+    _engine: &Engine<K, S>,
+)
+    requires { HasRunLink _run.now.params _run.now.seed _run.now.link arrivals.now _engine.now }
+    ensures { terminals.faults ≡ false → Keeps (F.contents notes.old) (F.contents notes.new) }
+{
+    note_sent(notes, terminals, arrivals);
+}
+
+/// Reports that the link's run is made, whose rows stand in this report. So it can't be reported before.
+pub(crate) fn note_report<F: Write>(
+    notes: &mut F,
+    terminals: Terminals,
+    _run: &Run,
+    arrivals: &[Arrival],
+    _report: &Report,
+)
+    requires { HasRunRows (run_parts_of _run.now) arrivals.now _report.now.text.items }
+    ensures { terminals.faults ≡ false → Keeps (F.contents notes.old) (F.contents notes.new) }
+{
+    note_sent(notes, terminals, arrivals);
+}
+
+/// The note of both.
+fn note_sent<F: Write>(notes: &mut F, terminals: Terminals, arrivals: &[Arrival])
+    ensures { terminals.faults ≡ false → Keeps (F.contents notes.old) (F.contents notes.new) }
+{
+    if is_watched(terminals, arrivals) {
+        let _ = writeln!(notes, "maltlink: the link has sent its last packet");
+    }
+}
+
+/// Reports that the FIFO's run is made, whose rows these are. So it can't be reported before.
+pub(crate) fn note_rows<F: Write>(
+    notes: &mut F,
+    terminals: Terminals,
+    _run: &Run,
+    arrivals: &[Arrival],
+    _rows: &[u8],
+)
+    requires { HasFifoRows (run_parts_of _run.now) arrivals.now _rows.now }
+    ensures { terminals.faults ≡ false → Keeps (F.contents notes.old) (F.contents notes.new) }
+{
+    note_compared(notes, terminals, arrivals);
+}
+
+/// Reports that the FIFO's run is made, whose events that recorder was told. So it can't be reported before.
+pub(crate) fn note_fifo<F: Write>(
+    notes: &mut F,
+    terminals: Terminals,
+    _run: &Run,
+    arrivals: &[Arrival],
+    _fifo: &Gathered,
+)
+    requires { IsFifoJournal _run.now.params _run.now.seed _run.now.link arrivals.now _fifo.now.events }
+    ensures { terminals.faults ≡ false → Keeps (F.contents notes.old) (F.contents notes.new) }
+{
+    note_compared(notes, terminals, arrivals);
+}
+
+/// The note of both.
+fn note_compared<F: Write>(notes: &mut F, terminals: Terminals, arrivals: &[Arrival])
+    ensures { terminals.faults ≡ false → Keeps (F.contents notes.old) (F.contents notes.new) }
+{
+    if is_watched(terminals, arrivals) {
+        let _ = writeln!(notes, "maltlink: the FIFO has sent its last packet");
     }
 }
 

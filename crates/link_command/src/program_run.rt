@@ -27,7 +27,10 @@ ghost use Rattle.sched_core.specs.Schedulers.{IsMadeFor};
 use crate::arrivals::read_arrivals;
 use crate::command_line::{Asked, RunRequest, TableName, parse};
 use crate::faults::{ProgramFault, tell};
-use crate::notes::{Stage, Terminals, note_input, note_stage, run_note, write_note};
+use crate::notes::{
+    Terminals, note_fifo, note_input, note_read, note_report, note_rows, note_run, run_note,
+    write_note,
+};
 use crate::values::{Run, run_of};
 use link_core::laws::few_events;
 use link_core::{
@@ -51,11 +54,11 @@ const SUCCESS: u8 = 0;
 
 /// What the words ask for.
 #[derive(Drop)]
-struct Report {
+pub(crate) struct Report {
     /// A table, or another text.
-    text: Vec<u8>,
+    pub(crate) text: Vec<u8>,
     /// A note on it for people, which mostly is empty.
-    note: Vec<u8>,
+    pub(crate) note: Vec<u8>,
 }
 
 /// The whole program over the words behind its name. It reads arrivals and writes a table of a link's run, or writes help
@@ -158,7 +161,7 @@ fn run_text<R: Read + Source + Records, F: Write>(
     let run = run_of(alloc, request)?;
     note_input(notes, terminals);
     let arrivals = read_arrivals(alloc, reader)?;
-    note_stage(notes, terminals, Stage::Read, arrivals.len());
+    note_read(notes, terminals, &arrivals);
     table_text(alloc, request, &run, &arrivals, notes, terminals)
 }
 
@@ -195,7 +198,7 @@ fn table_text<F: Write>(
         events,
         NullRecorder::new(),
     )?;
-    note_stage(notes, terminals, Stage::Run, arrivals.len());
+    note_run(notes, terminals, run, arrivals, &engine);
     // A million arrivals have two million events, and each table takes that many.
     few_events();
     let told = Told {
@@ -313,7 +316,7 @@ fn trace_text<F: Write>(
     let events = recorder_for(alloc, &run.seed, TableName::Steps);
     let steps = StepList::new(alloc);
     let engine = run_told(alloc, run, arrivals, events, steps)?;
-    note_stage(notes, terminals, Stage::Run, arrivals.len());
+    note_run(notes, terminals, run, arrivals, &engine);
     // The recorder takes as many events as a million arrivals have.
     few_events();
     let (left, steps) = engine.give_up();
@@ -355,7 +358,7 @@ fn bins_text<F: Write>(
     ensures quiet { terminals.faults ≡ false → Keeps (F.contents notes.old) (F.contents notes.new) }
 {
     let mut report = run_rows(alloc, run, arrivals)?;
-    note_stage(notes, terminals, Stage::Run, arrivals.len());
+    note_report(notes, terminals, run, arrivals, &report);
     if !request.has_fifo {
         return Ok(report);
     }
@@ -363,34 +366,6 @@ fn bins_text<F: Write>(
     note_rows(notes, terminals, run, arrivals, &rows);
     report.text.extend_from_slice(&rows)?;
     Ok(report)
-}
-
-/// Reports that the FIFO's run is made, whose rows these are. So it can't be reported before.
-fn note_rows<F: Write>(
-    notes: &mut F,
-    terminals: Terminals,
-    _run: &Run,
-    arrivals: &[Arrival],
-    _rows: &[u8],
-)
-    requires { HasFifoRows (run_parts_of _run.now) arrivals.now _rows.now }
-    ensures { terminals.faults ≡ false → Keeps (F.contents notes.old) (F.contents notes.new) }
-{
-    note_stage(notes, terminals, Stage::Compared, arrivals.len());
-}
-
-/// Reports that the FIFO's run is made, whose events that recorder was told. So it can't be reported before.
-fn note_fifo<F: Write>(
-    notes: &mut F,
-    terminals: Terminals,
-    _run: &Run,
-    arrivals: &[Arrival],
-    _fifo: &Gathered,
-)
-    requires { IsFifoJournal _run.now.params _run.now.seed _run.now.link arrivals.now _fifo.now.events }
-    ensures { terminals.faults ≡ false → Keeps (F.contents notes.old) (F.contents notes.new) }
-{
-    note_stage(notes, terminals, Stage::Compared, arrivals.len());
 }
 
 /// The header and the rows of bins of a run of these arrivals, with the note on it.

@@ -18,6 +18,7 @@ mod recorders;
 mod renewals;
 mod runs;
 mod schedulers;
+mod sizes;
 mod steps;
 mod traces;
 mod values;
@@ -39,7 +40,7 @@ const REFUSED: u32 = 1_000;
 const ALL: &str = "all";
 
 /// The names of the sequences.
-const SEQUENCES: [&str; 24] = [
+const SEQUENCES: [&str; 25] = [
     "flows",
     "sched",
     "engine",
@@ -57,6 +58,7 @@ const SEQUENCES: [&str; 24] = [
     "gathered",
     "tallied",
     "renewed",
+    "sizes",
     "lists",
     "run_closed",
     "run_dequeues",
@@ -172,6 +174,7 @@ fn make<H: Print + Threads + Wait + Sync>(
         "gathered" => recorders::gathered(values, calls),
         "tallied" => recorders::tallied(values, calls),
         "renewed" => renewals::renewed(values, calls),
+        "sizes" => sizes::sizes(rt, values, calls),
         "lists" => runs::lists(values, calls),
         "run_closed" => runs::closed(rt, values, calls),
         "run_dequeues" => runs::dequeues(rt, values, calls),

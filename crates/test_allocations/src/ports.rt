@@ -6,7 +6,7 @@ use crate::calls::Memory::{EnqueueRooms, Keeps, Takes};
 use crate::calls::{Answer, Calls, Row, Subject, compared};
 use crate::pictures::first_of;
 use crate::recorders::{take, take_steps};
-use crate::steps::{admitted, gave};
+use crate::steps::{admitted, gave, has_room};
 use crate::values::{SEED, Values};
 use packet_core::Packet;
 use port_core::{LockedPort, Open, PortSeat, Stop, send_locked};
@@ -18,6 +18,9 @@ use std::sync::ledger::{Blank, Ledger};
 /// So many packets come, and as many are sent by a sender.
 const PACKETS: u64 = 5;
 
+/// So many more come to a port over lists with memory, once there is room for them.
+const MORE: u64 = 35;
+
 /// What comes after the close is refused.
 const CLOSED: Refusal = Refusal::ClosedAlready;
 
@@ -26,6 +29,10 @@ const CLOSED: Refusal = Refusal::ClosedAlready;
 enum Call {
     /// An enqueue at that moment, and the packet's id.
     Enqueue(u64, Result<u64, Refusal>),
+    /// So many enqueues at that moment, each of them accepted.
+    Enqueues(u64, u64),
+    /// The seat takes memory for so many packets more.
+    Reserve(u64),
     /// A dequeue at that moment, and the id of the packet that it gives.
     Dequeue(u64, Result<Option<u64>, Refusal>),
     /// A close at that moment.
@@ -65,13 +72,15 @@ static CLOSES: [Row<'static, Call>; 4] = [
 ];
 
 /// Packets come and go at a port over lists with memory for these steps, and it is closed. The first enqueue takes
-/// memory for several packets.
-static QUIET: [Row<'static, Call>; 9] = [
+/// memory for several packets. A seat that was told of packets has memory for as many more as it reserves.
+static QUIET: [Row<'static, Call>; 11] = [
     (Takes, Call::Enqueue(0, Ok(0)), ENQUEUE_IN_ROOM),
     (EnqueueRooms, Call::Enqueue(1, Ok(1)), ENQUEUE_IN_ROOM),
     (EnqueueRooms, Call::Enqueue(2, Ok(2)), ENQUEUE_IN_ROOM),
     (EnqueueRooms, Call::Enqueue(3, Ok(3)), ENQUEUE_IN_ROOM),
     (EnqueueRooms, Call::Enqueue(4, Ok(4)), ENQUEUE_IN_ROOM),
+    (Takes, Call::Reserve(MORE), "PortSeat::reserve"),
+    (EnqueueRooms, Call::Enqueues(4, MORE), ENQUEUE_IN_ROOM),
     (EnqueueRooms, Call::Dequeue(5, Ok(Some(0))), DEQUEUE_IN_ROOM),
     (EnqueueRooms, Call::Dequeue(5, Ok(Some(1))), DEQUEUE_IN_ROOM),
     (
@@ -79,7 +88,7 @@ static QUIET: [Row<'static, Call>; 9] = [
         Call::Close(5, Ok(5)),
         "LockedPort::close over lists with memory",
     ),
-    (EnqueueRooms, Call::Seat(5, 2), "PortSeat"),
+    (EnqueueRooms, Call::Seat(PACKETS + MORE, 2), "PortSeat"),
 ];
 
 /// The name of an enqueue there.
@@ -148,7 +157,7 @@ fn started<A: Ledger, S: Ledger, R: Wait>(
     }
 }
 
-/// Each seat takes memory for those packets. Where it is refused it is taken once more.
+/// Each seat takes memory for the first packets. Where it is refused it is taken once more.
 fn make_room<A: Ledger, S: Ledger>(seats: &mut [PortSeat<A, S>], calls: &mut Calls<'_>) {
     for seat in 0..seats.len() {
         if seats[seat].reserve(PACKETS as usize).is_err() {
@@ -226,6 +235,14 @@ impl<A: Ledger, S: Ledger, R: Wait> Subject for AtPort<'_, A, S, R> {
                 let answer = self.port.enqueue(self.rt, &mut self.seat, moment, packet);
                 compared(answer, admitted(moment, wanted))
             }
+            Call::Enqueues(moment, many) => {
+                let before = self.seat.accepted();
+                for _ in 0..many {
+                    let _ = self.port.enqueue(self.rt, &mut self.seat, moment, packet);
+                }
+                Answer::of(self.seat.accepted() == before.saturating_add(many))
+            }
+            Call::Reserve(packets) => has_room(self.seat.reserve(packets as usize)),
             Call::Dequeue(moment, wanted) => {
                 gave(self.port.dequeue(self.rt, &mut self.seat, moment), wanted)
             }

@@ -15,17 +15,36 @@ use packet_core::{Ecn, Packet, Seed, Waiting};
 use test_support::tuple;
 
 /// So many packets come, each of another five-tuple, and then go. For so many a recorder stores the flows' latest ones.
-const PACKETS: u64 = 80;
+const PACKETS: u64 = 10_220;
 
-/// Memory is reserved for several events, where there is some for fewer, and to tell them takes none. So at the end each
-/// packet is there. Where no memory is given for the flows' latest five-tuples, no call is refused.
+/// No machine has memory for so many events.
+const NO_ROOM: usize = 1 << 40;
+
+/// Memory is reserved for several events, where there is some for fewer, and to tell them takes none, all of them
+/// arrivals or not. So at the end each packet is there. Where no memory is given for the flows' latest five-tuples, no
+/// call is refused.
 pub(crate) fn gathered(values: &Values, calls: &mut Calls<'_>) {
     let mut gathered = Gathered::new(values.alloc, &Seed([0; 16]), u64::MAX);
-    for (fewer, count) in [(0, 1), (2, 20), (3, 90), (1, 49)] {
+    for (fewer, count) in [
+        (40, 60),
+        (0, 1),
+        (2, 20),
+        (3, 90),
+        (1, 49),
+        (0, 10_000),
+        (0, PACKETS as usize),
+    ] {
         take(&mut gathered, fewer, calls);
         tell(&mut gathered, count, values, calls);
     }
     calls.wanted(has_all(&gathered), "Gathered::packets");
+    take_for_two(values, calls);
+}
+
+/// A recorder that makes the packets of two events takes memory for those, however many are reserved.
+fn take_for_two(values: &Values, calls: &mut Calls<'_>) {
+    let mut gathered = Gathered::new(values.alloc, &SEED, 2);
+    take(&mut gathered, NO_ROOM, calls);
 }
 
 /// Tells it so many events, for which memory is reserved at once.

@@ -68,7 +68,7 @@ pub(crate) fn plays<'a>(values: &Values, rows: &[Row<'a, Call>], calls: &mut Cal
 }
 
 /// A new scheduler. Where memory was refused, the same call with ample memory gives one.
-fn new_sched(values: &Values, calls: &mut Calls<'_>) -> Option<Sched> {
+pub(crate) fn new_sched(values: &Values, calls: &mut Calls<'_>) -> Option<Sched> {
     match Sched::try_new(values.alloc, values.params, SEED) {
         Ok(sched) => Some(sched),
         Err(_) => {

@@ -45,6 +45,10 @@ pub(crate) enum Call<'a> {
     Counts(u64, u64),
     /// The last sender that is left finishes, and so many packets are left in its lane.
     Finish(u64),
+    /// The same, where a pump at 7, of at most eight packets, takes so many of them before the lane is settled.
+    FinishPumped(u64, u64),
+    /// The last sender that is left is dropped, and its lane isn't settled.
+    DropLast,
     /// The last sender that is left sends its packets, through an open gate.
     Send(Sending<'a>),
     /// The same through that gate.
@@ -111,20 +115,33 @@ fn makes_all<J: BookName, X: Screen<Shown<J>> + Drop, R: Abort>(
     assert_eq!(rt; opened.device.engine().events(), events);
 }
 
-/// The calls are made with two new lanes with room for two packets each, whose device keeps neither events nor steps.
-pub(crate) fn plays_unstored<R: Wait + Abort>(rt: &R, alloc: Global, calls: &[Call<'_>]) {
-    at_unstored::<Brand, _>(rt, alloc, BookBlank::new(), calls);
+/// The calls are made with so many new lanes, with room for so many packets each, whose device keeps neither events nor
+/// steps.
+pub(crate) fn plays_unstored<R: Wait + Abort>(
+    rt: &R,
+    alloc: Global,
+    lanes: (u32, u32),
+    calls: &[Call<'_>],
+) {
+    let (number, capacity) = lanes;
+    assert!(rt; 0 < number && number <= MAX_LANES);
+    assert!(rt; 0 < capacity && capacity <= MAX_CAPACITY);
+    at_unstored::<Brand, _>(rt, alloc, BookBlank::new(), number, capacity, calls);
 }
 
 fn at_unstored<J: BookName, R: Wait + Abort>(
     rt: &R,
     alloc: Global,
     blank: BookBlank,
+    number: u32,
+    capacity: u32,
     calls: &[Call<'_>],
 )
-    requires { blank ≡ J.book }
+    requires book { blank ≡ J.book }
+    requires number { (0 < number) × (number ≤ MAX_LANES) }
+    requires capacity { (0 < capacity) × (capacity ≤ MAX_CAPACITY) }
 {
-    let mut opened = open_unstored::<J, R>(rt, alloc, blank);
+    let mut opened = open_unstored::<J, R>(rt, alloc, blank, number, capacity);
     makes(rt, &mut opened, calls);
 }
 
@@ -142,6 +159,8 @@ fn makes<J: BookName, X: Screen<Shown<J>> + Drop, K: Recorder, S: StepRecorder, 
                 submits(rt, &mut opened.senders, lane, packet, wanted);
             }
             Call::Finish(left) => finishes(rt, opened, left),
+            Call::FinishPumped(taken, left) => finishes_pumped(rt, opened, taken, left),
+            Call::DropLast => drops_last(rt, opened),
             Call::Send(sending) => sends(rt, opened, &Open, sending),
             Call::Ask(gate, sending) => sends(rt, opened, gate, sending),
             _ => is_answered(rt, &mut opened.device, call),
@@ -192,6 +211,34 @@ fn finishes<J: BookName, X: Screen<Shown<J>> + Drop, K: Recorder, S: StepRecorde
     let (sender, lane) = last(rt, opened);
     let end = sender.finish().expect(rt, "an end");
     settles(rt, &mut opened.device, lane, end, left);
+}
+
+/// The last sender submits nothing more, a pump takes so many packets from its lane, and so many are left there.
+fn finishes_pumped<J: BookName, X: Screen<Shown<J>> + Drop, K: Recorder, S: StepRecorder, R: Abort>(
+    rt: &R,
+    opened: &mut Opened<J, X, K, S>,
+    taken: u64,
+    left: u64,
+)
+    requires { AreFirst (sender_rings opened.old.senders.items) (rings_of opened.old.device.lanes) }
+    ensures { AreFirst (sender_rings opened.new.senders.items) (rings_of opened.new.device.lanes) }
+{
+    let (sender, lane) = last(rt, opened);
+    let end = sender.finish().expect(rt, "an end");
+    pumps(rt, &mut opened.device, end.lane(), 7, 8, Ok(taken));
+    settles(rt, &mut opened.device, lane, end, left);
+}
+
+/// The last sender goes, without an end of its lane.
+fn drops_last<J: BookName, X: Screen<Shown<J>> + Drop, K: Recorder, S: StepRecorder, R: Abort>(
+    rt: &R,
+    opened: &mut Opened<J, X, K, S>,
+)
+    requires { AreFirst (sender_rings opened.old.senders.items) (rings_of opened.old.device.lanes) }
+    ensures { AreFirst (sender_rings opened.new.senders.items) (rings_of opened.new.device.lanes) }
+{
+    let (sender, _lane) = last(rt, opened);
+    drop(sender);
 }
 
 /// The last sender sends its packets through the gate, and so many packets are left in its lane.
@@ -250,7 +297,12 @@ fn is_answered<J: BookName, X: Screen<Shown<J>> + Drop, K: Recorder, S: StepReco
             let totals = device.engine().totals();
             assert_eq!(rt; (totals.accepted, totals.sent), (accepted, sent));
         }
-        Call::Submit(..) | Call::Finish(_) | Call::Send(_) | Call::Ask(..) => {}
+        Call::Submit(..)
+        | Call::Finish(_)
+        | Call::FinishPumped(..)
+        | Call::DropLast
+        | Call::Send(_)
+        | Call::Ask(..) => {}
     }
 }
 

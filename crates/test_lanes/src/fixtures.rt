@@ -77,19 +77,23 @@ pub(crate) fn open<'a, J: BookName, R: Wait + Abort>(
     lanes(rt, alloc, blank, one_flow(rt), SEED, layout).expect(rt, "lanes")
 }
 
-/// Two lanes with room for two packets each, to a device that keeps neither events nor steps.
+/// The same to a device that keeps neither events nor steps.
 pub(crate) fn open_unstored<'a, J: BookName, R: Wait + Abort>(
     rt: &'a R,
     alloc: Global,
     blank: BookBlank,
+    number: u32,
+    capacity: u32,
 ) -> Opened<J, LeftRight<Shown<J>, &'a R>, NullRecorder, NullRecorder>
-    requires { blank ≡ J.book }
+    requires book { blank ≡ J.book }
+    requires number { (0 < number) × (number ≤ MAX_LANES) }
+    requires capacity { (0 < capacity) × (capacity ≤ MAX_CAPACITY) }
     ensures { AreFirst (sender_rings result.senders.items) (rings_of result.device.lanes) }
 {
     let (events, steps) = (NullRecorder::new(), NullRecorder::new());
     let layout = Layout {
-        lanes: 2,
-        capacity: 2,
+        lanes: number,
+        capacity,
         monitors: 0,
     };
     lanes_with_recorders(rt, alloc, blank, one_flow(rt), SEED, layout, events, steps).expect(

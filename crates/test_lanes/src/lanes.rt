@@ -82,6 +82,62 @@ fn full_again_and_again(rt: HostRuntime) {
     plays(&rt, rt.alloc(), (1, 1), &calls, &events);
 }
 
+/// A lane with room for any power of two, or for one packet fewer or more, is full after as many packets. It has room for
+/// one once one was taken, and for all once it was emptied. So it is up to 4,096 packets.
+#[test]
+fn full_at_any_short_capacity(rt: HostRuntime) {
+    fills_each(&rt, rt.alloc(), 1, 13);
+}
+
+/// So it is from 8,192 up to 65,536.
+#[test]
+fn full_at_any_long_capacity(rt: HostRuntime) {
+    fills_each(&rt, rt.alloc(), 8_192, 4);
+}
+
+/// Lanes with room for that power of two and so many in all, each twice as large as the one before, and for one packet
+/// fewer and more.
+fn fills_each<R: Wait + Abort>(rt: &R, alloc: Global, first: u32, powers: u32) {
+    let mut power = first;
+    for _power in 0..powers {
+        for capacity in power.saturating_sub(1).max(1)..=power.saturating_add(1) {
+            fills_twice(rt, alloc, capacity);
+        }
+        power = power.saturating_mul(2);
+    }
+}
+
+/// A lane with room for so many packets is filled and emptied, two times.
+fn fills_twice<R: Wait + Abort>(rt: &R, alloc: Global, capacity: u32) {
+    let packet = packet(rt, 1);
+    let mut calls = Vec::new(alloc);
+    for _time in 0..2 {
+        for _packet in 0..capacity {
+            calls.push(put(0, packet)).expect(rt, "memory");
+        }
+        calls
+            .extend_from_slice(&[
+                full(0, packet),
+                takes(0, 1, 1),
+                put(0, packet),
+                full(0, packet),
+            ])
+            .expect(rt, "memory");
+        // The last of these pumps finds fewer than 1,024 packets.
+        let mut left = capacity;
+        for _pump in 0..=capacity / 1_024 {
+            let burst = left.min(1_024);
+            calls
+                .push(takes(0, 1_024, u64::from(burst)))
+                .expect(rt, "memory");
+            left = left.saturating_sub(burst);
+        }
+    }
+    let all = u64::from(capacity).saturating_add(1).saturating_mul(2);
+    calls.push(Call::Counts(all, 0)).expect(rt, "memory");
+    plays_unstored(rt, alloc, (1, capacity), &calls);
+}
+
 /// A pump takes all that stand in its lane, where its burst lets it: the largest burst is 1,024.
 #[test]
 fn a_long_burst(rt: HostRuntime) {
@@ -160,6 +216,69 @@ fn end_of_the_greatest_capacity(rt: HostRuntime) {
     let calls = [put(0, p[1]), put(0, p[2]), takes(0, 1, 1), Call::Finish(1)];
     let events = [accepted(0, 0, p[1])];
     plays(&rt, rt.alloc(), (1, MAX_CAPACITY), &calls, &events);
+}
+
+/// What a sender submitted comes out once it was dropped, whether the device looked into its lane before or not, and
+/// then the lane is empty.
+#[test]
+fn packets_of_a_dropped_sender(rt: HostRuntime) {
+    let p = packets(&rt, 0);
+    let calls = [
+        put(0, p[1]),
+        takes(0, 8, 1),
+        put(0, p[2]),
+        put(1, p[3]),
+        put(1, p[4]),
+        Call::DropLast,
+        takes(1, 1, 1),
+        Call::DropLast,
+        takes(0, 8, 1),
+        takes(1, 8, 1),
+        takes(0, 8, 0),
+        takes(1, 8, 0),
+    ];
+    let events = [
+        accepted(0, 0, p[1]),
+        accepted(1, 1, p[3]),
+        accepted(0, 2, p[2]),
+        accepted(1, 3, p[4]),
+    ];
+    plays(&rt, rt.alloc(), (2, 4), &calls, &events);
+}
+
+/// What a sender submitted comes out once it has finished, before its lane is settled and after it.
+#[test]
+fn packets_of_a_finished_sender(rt: HostRuntime) {
+    let (p, q) = (packets(&rt, 0), packets(&rt, 6));
+    let calls = [
+        put(0, p[0]),
+        takes(0, 8, 1),
+        put(0, p[1]),
+        put(0, p[2]),
+        put(0, p[3]),
+        put(0, p[4]),
+        put(0, p[5]),
+        put(0, q[0]),
+        put(0, q[1]),
+        put(0, q[2]),
+        put(0, q[3]),
+        Call::FinishPumped(8, 1),
+        takes(0, 8, 1),
+        takes(0, 8, 0),
+    ];
+    let events = [
+        accepted(0, 0, p[0]),
+        accepted(0, 1, p[1]),
+        accepted(0, 2, p[2]),
+        accepted(0, 3, p[3]),
+        accepted(0, 4, p[4]),
+        accepted(0, 5, p[5]),
+        accepted(0, 6, q[0]),
+        accepted(0, 7, q[1]),
+        accepted(0, 8, q[2]),
+        accepted(0, 9, q[3]),
+    ];
+    plays(&rt, rt.alloc(), (1, 16), &calls, &events);
 }
 
 /// The refusals of a pump are tested in the order of their rules, also after the close, and a refused pump leaves the
@@ -251,7 +370,7 @@ fn counts_without_a_journal(rt: HostRuntime) {
         gives(p[1]),
         Call::Counts(3, 1),
     ];
-    plays_unstored(&rt, rt.alloc(), &calls);
+    plays_unstored(&rt, rt.alloc(), (2, 2), &calls);
 }
 
 /// Once its device was dropped, a sender fills its lane as before, and has no end.

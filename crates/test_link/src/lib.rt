@@ -5,6 +5,8 @@
 #[cfg(test)]
 mod fields;
 #[cfg(test)]
+mod recorders;
+#[cfg(test)]
 mod runs;
 #[cfg(test)]
 mod times;

@@ -215,6 +215,24 @@ as in 'mtu 1514'\n\nUsage: maltlink --rate <RATE> --mpu <N> [PARAM]...\n\nFor mo
     refuses(&rt, &["--rate", "1mbit", "--mtu"], "", mtu);
 }
 
+/// With one dash, and with its value behind `=`, a parameter is shown as it is written, too.
+#[test]
+fn parameters_with_a_dash_or_a_value(rt: HostRuntime) {
+    let table = [
+        ("-limit", "'-l'", "limit 10240", "[OPTIONS] "),
+        ("--limit=200", "'--limit'", "limit 10240", ""),
+        ("--target=5ms", "'--target'", "target 5ms", ""),
+    ];
+    for (word, found, form, options) in table {
+        let wanted = format!(in rt.alloc();
+            "error: unexpected argument {found} found\n  \"{word}\": a parameter is written without dashes, \
+as in '{form}'\n\nUsage: maltlink {options}--rate <RATE> [PARAM]...\n\nFor more information, try '--help'.\n"
+        );
+        let words = ["--rate", "1mbit", word];
+        refuses(&rt, &words, "", wanted.expect(&rt, "memory").as_str());
+    }
+}
+
 const FORMS: [(&str, &str); 10] = [
     ("--limit", "limit 10240"),
     ("--flows", "flows 1024"),
@@ -234,7 +252,32 @@ const FORMS: [(&str, &str); 10] = [
 fn the_word_that_is_no_option(rt: HostRuntime) {
     let rest =
         "\n\nUsage: maltlink [OPTIONS] --rate <RATE> [PARAM]...\n\nFor more information, try '--help'.\n";
-    let table: [(&[&str], &str, &str); 4] = [
+    let table: [(&[&str], &str, &str); 9] = [
+        (
+            &["--rate", "1mbit", "--compare", "fifo", "-x"],
+            "'-x'",
+            "  \"-x\": no option has that name ('maltlink --help' lists them)",
+        ),
+        (
+            &["--rate", "1mbit", "--compare=fifo", "--every=5ms", "-x"],
+            "'-x'",
+            "  \"-x\": no option has that name ('maltlink --help' lists them)",
+        ),
+        (
+            &["--rate", "1mbit", "--every", "5ms", "-x"],
+            "'-x'",
+            "  \"-x\": no option has that name ('maltlink --help' lists them)",
+        ),
+        (
+            &["--rate", "1mbit", "--every", "-5ms"],
+            "'-5'",
+            "  --every \"-5ms\": wanted is a time from 1ms to 1000s",
+        ),
+        (
+            &["--rate", "1mbit", "--compare", "-x"],
+            "'-x'",
+            "  --compare \"-x\": wanted is one of those that 'maltlink --help' lists",
+        ),
         (
             &["--rate=1mbit", "-x"],
             "'-x'",

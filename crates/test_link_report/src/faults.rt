@@ -33,6 +33,11 @@ address of the kind of SRC; wanted is four numbers joined by dots, or after a ro
 four numbers joined by dots, or after a row version,2 also 32 hexadecimal digits\n",
         ),
         (
+            "enq,0,6,20010db8000000000000000000000001,20010db8000000000000000000000002,5000,443,1514,2\n",
+            "maltlink: row 1: BadAddress\n  row 1, field 4 (SRC): \"20010db8000000000000000000000001\" is no \
+address; wanted is four numbers joined by dots, or after a row version,2 also 32 hexadecimal digits\n",
+        ),
+        (
             "enq,0,256,10.0.0.1,10.0.0.9,5000,443,1514,2\n",
             "maltlink: row 1: BadNumber\n  row 1, field 3 (PROTO): \"256\" is no such number; wanted is 0 to 255\n",
         ),

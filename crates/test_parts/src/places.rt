@@ -166,6 +166,20 @@ fn protocols_are_spread(rt: &impl Abort, address: Ip, places: u32) {
     }
 }
 
+/// Whether about half of 256 five-tuples have their places in the second half of many.
+fn many_places_are_reached(rt: &impl Abort, address: Ip, places: usize) {
+    for factors in &FACTORS {
+        let mut beyond: u32 = 0;
+        for number in 0..=u8::MAX {
+            let tuple = varied(address, address, Part::SourcePort, number);
+            if TupleWords::new(&tuple).place(*factors, places.max(1)) >= places / 2 {
+                beyond = beyond.saturating_add(1);
+            }
+        }
+        assert!(rt; 80 < beyond && beyond < 176, "{places}: {beyond}");
+    }
+}
+
 #[cfg(test)]
 mod tests {
     use super::*;
@@ -185,6 +199,14 @@ mod tests {
         }
         for byte in 0..16 {
             ends_are_spread(&rt, LONG, byte);
+        }
+    }
+
+    #[test]
+    fn second_halves_are_reached(rt: HostRuntime) {
+        for bits in 1..19 {
+            many_places_are_reached(&rt, SHORT, 1 << bits);
+            many_places_are_reached(&rt, LONG, 1 << bits);
         }
     }
 

@@ -93,3 +93,20 @@ fn zeros_and_ipv4_inside(rt: HostRuntime) {
         ],
     );
 }
+
+/// The two colons of an address stay in one row, though the first of them would fit into the row before.
+#[test]
+fn colons_stay_together(rt: HostRuntime) {
+    are_shown(
+        &rt,
+        [
+            0x20, 0x01, 0xfd, 0xb8, 0x12, 0x34, 0xab, 0x56, 0, 0x78, 0, 0x90, 0, 0, 0, 0,
+        ],
+        [0; 16],
+        &[
+            ">0: tcp [2001:fdb8:1234:ab56:78:</text>",
+            ">90::]:5000</text>",
+            ">to [::]:443</text>",
+        ],
+    );
+}

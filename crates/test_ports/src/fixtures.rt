@@ -20,6 +20,17 @@ pub(crate) fn hashed<R: Abort>(rt: &R) -> Params {
     Params::try_new(fields).expect(rt, "parameters")
 }
 
+/// One flow with room for ten packets, which loses one packet at an overflow, and with a threshold of 200 ms.
+pub(crate) fn room_for_ten<R: Abort>(rt: &R) -> Params {
+    let mut fields = ParamFields::standard();
+    fields.flows = 1;
+    fields.classify = Classify::Dport;
+    fields.limit = 10;
+    fields.drop_batch = 1;
+    fields.ce_threshold = Some(200_000);
+    Params::try_new(fields).expect(rt, "parameters")
+}
+
 /// What a packet is made of.
 #[derive(Clone, Copy)]
 pub(crate) enum Form {

@@ -2,9 +2,9 @@
 //! engine is that a settling gives.
 
 use crate::calls::Call;
-use crate::fixtures::{Form, counted, flows, packet};
+use crate::fixtures::{Form, counted, flows, packet, room_for_ten};
 use crate::seats::{Part, plays, plays_in_room};
-use packet_core::{Classify, Ecn, EcnUse, Packet, ParamFields, Params};
+use packet_core::{Ecn, EcnUse, Packet, ParamFields, Params};
 use sched_core::{Engine, Event, Mark, MomentFault, Refusal, Step, Totals};
 use std::alloc::Global;
 use std::process::Abort;
@@ -358,29 +358,19 @@ fn are_accepted<R: Abort>(rt: &R, events: &[Event], forms: &[Form]) {
     }
 }
 
-/// One flow with room for ten packets, which loses one packet at an overflow, and with a threshold of 200 ms.
-fn room_for_ten<R: Abort>(rt: &R) -> Params {
-    let mut fields = ParamFields::standard();
-    fields.flows = 1;
-    fields.classify = Classify::Dport;
-    fields.limit = 10;
-    fields.drop_batch = 1;
-    fields.ce_threshold = Some(200_000);
-    Params::try_new(fields).expect(rt, "parameters")
-}
-
-/// The statistics of a port have each kind of drop and mark, what waits, and the close. Eleven packets of 1,000 to 1,010
-/// bytes come at 0, so the first is dropped. Of those with the ids 4 and 5 the sender takes part in ECN. At 5 ms the
-/// packet 1 is sent. At 105 ms CoDel drops the packet 2, and the packet 3 is sent. At 205 ms CoDel marks the packet 4. A
-/// microsecond later the packet 5 is not due, and is marked for the threshold. At 275.71 ms CoDel drops the packet 6, and
-/// the packet 7 is sent. So the packets 8, 9 and 10 wait.
+/// The statistics of a port have each kind of drop and mark, what waits, and the close. Eleven packets of 1,000 to
+/// 1,010 bytes come at 0, so the first is dropped. Before the last of them the port is full, and is asked for its
+/// statistics. Of those with the ids 4 and 5 the sender takes part in ECN. At 5 ms the packet 1 is sent. At 105 ms
+/// CoDel drops the packet 2, and the packet 3 is sent. At 205 ms CoDel marks the packet 4. A microsecond later the
+/// packet 5 is not due, and is marked for the threshold. At 275.71 ms CoDel drops the packet 6, and the packet 7 is
+/// sent. So the packets 8, 9 and 10 wait.
 #[test]
 fn totals_of_a_whole_run(rt: HostRuntime) {
     let engine = plays_alone(&rt, rt.alloc(), room_for_ten(&rt), &WHOLE_RUN);
     assert_eq!(rt; engine.totals(), CLOSED);
 }
 
-const WHOLE_RUN: [Call<'static>; 19] = [
+const WHOLE_RUN: [Call<'static>; 20] = [
     Call::Comes(0, Form::Ip6(1_000, Ecn::NotEct), 0, 0, 0),
     Call::Comes(0, Form::Ip6(1_001, Ecn::NotEct), 1, 0, 0),
     Call::Comes(0, Form::Ip6(1_002, Ecn::NotEct), 2, 0, 0),
@@ -391,6 +381,7 @@ const WHOLE_RUN: [Call<'static>; 19] = [
     Call::Comes(0, Form::Ip6(1_007, Ecn::NotEct), 7, 0, 0),
     Call::Comes(0, Form::Ip6(1_008, Ecn::NotEct), 8, 0, 0),
     Call::Comes(0, Form::Ip6(1_009, Ecn::NotEct), 9, 0, 0),
+    Call::Counts(10, 0),
     Call::Comes(0, Form::Ip6(1_010, Ecn::NotEct), 10, 0, 0),
     Call::Goes(5_000, Form::Ip6(1_001, Ecn::NotEct), 1, 5_000, Mark::NoMark),
     Call::Goes(

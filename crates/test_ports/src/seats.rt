@@ -26,6 +26,8 @@ pub(crate) enum Part<'a> {
     /// Each seat makes the same calls. Then the seats at each two of these places change places, in turn, and the port
     /// is handed them in that order.
     Each(&'a [Call<'a>], &'a [(usize, usize)]),
+    /// In each of these rounds each seat makes the same calls.
+    Rounds(&'a [&'a [Call<'a>]]),
     /// Two senders, at once or in turn, make so many calls each and stop so.
     Gates(bool, [(u64, Stop); 2]),
     /// All seats but the last send a thousand packets each, and the last one takes packets meanwhile.
@@ -142,6 +144,7 @@ fn do_part<A: Ledger + Send + Sync, S: Ledger + Send + Sync, R: Threads + Wait +
         Part::Each(calls, places) => {
             change_places(rt, each(rt, alloc, port, seats, calls), places)
         }
+        Part::Rounds(rounds) => in_rounds(rt, alloc, port, seats, rounds),
         Part::Gates(at_once, wanted) => both_send(rt, port, seats, at_once, wanted),
         Part::Beside => all_send(rt, alloc, port, seats),
     }
@@ -191,6 +194,21 @@ fn each<A: Ledger, S: Ledger, R: Wait + Abort>(
             .expect(rt, "memory");
     }
     made
+}
+
+/// In each of these rounds each seat makes the same calls.
+fn in_rounds<A: Ledger, S: Ledger, R: Wait + Abort>(
+    rt: &R,
+    alloc: Global,
+    port: &LockedPort<A, S>,
+    seats: Vec<PortSeat<A, S>>,
+    rounds: &[&[Call<'_>]],
+) -> Vec<PortSeat<A, S>> {
+    let mut seats = seats;
+    for calls in rounds {
+        seats = each(rt, alloc, port, seats, calls);
+    }
+    seats
 }
 
 /// The seats at each two of these places change places, in turn.

@@ -18,13 +18,26 @@ const SENDS_ONE: [Call<'static>; 2] = [
     Call::Told(&[(0, PACKET)]),
 ];
 
-/// A port has any number of seats from 1 to 65, each of which sends a packet, and it is settled with all of them.
+/// The seat sends another one.
+const SENDS_ANOTHER: [Call<'static>; 2] = [
+    Call::Send(Sending {
+        packets: &[(0, PACKET)],
+        calls: 1,
+        stop: Stop::Done,
+    }),
+    Call::Told(&[(0, PACKET), (0, PACKET)]),
+];
+
+/// A port has any number of seats from 1 to 65, and it is settled with all of them. Each sends a packet, and another
+/// one once all have sent theirs: no seat's packet closes the port.
 #[test]
 fn any_number_of_seats(rt: HostRuntime) {
     for seats in 1..=MAX_SEATS {
-        let part = Part::Each(&SENDS_ONE, &[]);
+        let part = Part::Rounds(&[&SENDS_ONE, &SENDS_ANOTHER]);
         let engine = plays(&rt, rt.alloc(), flows(&rt, 1), seats, part, &[]);
-        assert_eq!(rt; counted(&engine.totals()), (u64::from(seats), 0));
+        assert!(&rt; !engine.is_closed());
+        let all = u64::from(seats).saturating_mul(2);
+        assert_eq!(rt; counted(&engine.totals()), (all, 0));
     }
 }
 

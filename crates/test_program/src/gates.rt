@@ -11,20 +11,27 @@ const MAX_LOOKS: u32 = 1_000_000;
 pub(crate) const FEW_LOOKS: u32 = 100;
 
 /// A sender's gate. It notes the call that the sender asks for. From one call on it waits until another sender has
-/// asked for its second call, so that its first was answered, and until the main thread has opened the gates.
+/// asked for its second call, so that its first was answered, and until the main thread has opened the gates. It counts
+/// how often it let a call through.
 #[derive(Drop)]
 pub(crate) struct Held<'a> {
     pub(crate) first_held: u64,
     pub(crate) asked: &'a AtomicU64,
     pub(crate) asked_there: &'a AtomicU64,
     pub(crate) open: &'a AtomicU64,
+    pub(crate) passed: AtomicU64,
 }
 
 impl Gate for Held<'_> {
     fn pass(&self, call: u64) -> bool {
         self.asked.store(call, Ordering::SeqCst);
-        call < self.first_held
-            || self.asked_there.load(Ordering::SeqCst) >= 2 && self.open.load(Ordering::SeqCst) >= 1
+        let passes = call < self.first_held
+            || self.asked_there.load(Ordering::SeqCst) >= 2
+                && self.open.load(Ordering::SeqCst) >= 1;
+        if passes {
+            self.passed.fetch_add(1, Ordering::SeqCst);
+        }
+        passes
     }
 }
 

@@ -23,9 +23,9 @@ fn gate_lanes(rt: HostRuntime) {
     by_gates::<Brand, _>(&rt, rt.alloc(), BookBlank::new(), 2);
 }
 
-/// The same with 62 other senders. All but the last are held as sender 0 is, and each has a packet for which its lane has
-/// no room. The last one stalls before its second call. What all senders did is given back all the same, with the ends of
-/// their lanes.
+/// The same with 62 other senders. All but the last two are held as sender 0 is, and each has a packet for which its
+/// lane has no room. The last but one stalls before its second call, and the last one before its first. What all
+/// senders did is given back all the same, with the ends of their lanes.
 #[test]
 fn gate_lanes_of_64_senders(rt: HostRuntime) {
     by_gates::<Brand, _>(&rt, rt.alloc(), BookBlank::new(), 64);
@@ -63,8 +63,8 @@ fn lists<R: Abort>(rt: &R, alloc: Global, senders: usize) -> Vec<Vec<Packet>> {
     lists
 }
 
-/// The gates of so many senders: the second is held at its second call, and each other at its first. Of more than two the
-/// last one is held at its second call for ever.
+/// The gates of so many senders: the second is held at its second call, and each other at its first. Of more than two
+/// the last one is held at its first call for ever, and the one before it at its second.
 fn gates<'a, R: Abort>(
     rt: &R,
     alloc: Global,
@@ -80,7 +80,8 @@ fn gates<'a, R: Abort>(
         let (first_held, asked, asked_there) = match sender {
             0 => (1, zero, one),
             1 => (2, one, zero),
-            _ if sender == senders - 1 => (2, others, never),
+            _ if sender == senders - 1 => (1, others, never),
+            _ if sender == senders.saturating_sub(2) => (2, others, never),
             _ => (1, others, one),
         };
         let held = Held {
@@ -88,6 +89,7 @@ fn gates<'a, R: Abort>(
             asked,
             asked_there,
             open,
+            passed: AtomicU64::new(0),
         };
         gates.push(held).expect(rt, "memory");
     }
@@ -113,7 +115,8 @@ fn send_by_gates<J: BookName, X: Screen<Shown<J>> + Drop, R: Threads + Abort + S
     assert!(rt; lists.len() == count && gates.len() == count);
     let (done, took) = send_held(rt, alloc, senders, device, &lists, &gates, (&one, &open));
     assert!(rt; took);
-    are_done(rt, count, done);
+    are_done(rt, count, &done);
+    passed_once(rt, &done, &gates);
 }
 
 /// Starts the senders with these gates, and gives what they did and whether the device accepted the one packet.
@@ -175,17 +178,29 @@ fn pumps<J: BookName, X: Screen<Shown<J>> + Drop>(
 }
 
 /// Each of so many senders submitted two packets, and its lane has an end. From the third sender on the lane was full
-/// then. Of more than two senders the last one stalled after its first packet.
-fn are_done<R: Abort>(rt: &R, senders: usize, done: Vec<LaneDone>) {
+/// then. Of more than two senders the last one stalled before its first packet, and the one before it after that.
+fn are_done<R: Abort>(rt: &R, senders: usize, done: &[LaneDone]) {
     assert_eq!(rt; done.len(), senders);
     let last = senders.saturating_sub(1);
     for (number, sender) in done.iter().enumerate() {
         let wanted = match number {
             0 | 1 => (2, Stop::Done),
-            _ if number == last => (1, Stop::Stalled),
+            _ if number == last => (0, Stop::Stalled),
+            _ if number == last.saturating_sub(1) => (1, Stop::Stalled),
             _ => (2, Stop::Full),
         };
         assert_eq!(rt; (sender.submitted, sender.stop), wanted);
         assert!(rt; sender.end.is_some());
+    }
+}
+
+/// Each gate let a call through once for each packet that its sender submitted, and once for the one that found its
+/// lane full.
+fn passed_once<R: Abort>(rt: &R, done: &[LaneDone], gates: &[Held<'_>]) {
+    assert_eq!(rt; gates.len(), done.len());
+    for (sender, gate) in done.iter().zip(gates) {
+        let full = if sender.stop == Stop::Full { 1 } else { 0 };
+        let passed = gate.passed.load(Ordering::SeqCst);
+        assert_eq!(rt; passed, sender.submitted.saturating_add(full));
     }
 }

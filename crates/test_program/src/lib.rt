@@ -24,3 +24,7 @@ mod runs;
 mod seeds;
 #[cfg(test)]
 mod streams;
+#[cfg(test)]
+mod texts;
+#[cfg(test)]
+mod writers;

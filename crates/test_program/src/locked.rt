@@ -14,19 +14,25 @@ use std::sync::atomic::{AtomicU64, Ordering};
 use std::sync::ledger::{Blank, Ledger};
 use std::thread::Threads;
 
-/// Holds a sender's calls, from the first that it is to hold on, until one of the other sender's was answered.
+/// Holds a sender's calls, from the first that it is to hold on, until one of the other sender's was answered. It
+/// counts how often it let a call through.
 #[derive(Drop)]
 struct Side<'a> {
     first_held: u64,
     answered: &'a AtomicU64,
     answered_there: &'a AtomicU64,
+    passed: AtomicU64,
 }
 
 impl Gate for Side<'_> {
     fn pass(&self, call: u64) -> bool {
         self.answered
             .store(call.saturating_sub(1), Ordering::SeqCst);
-        call < self.first_held || self.answered_there.load(Ordering::SeqCst) >= 1
+        let passes = call < self.first_held || self.answered_there.load(Ordering::SeqCst) >= 1;
+        if passes {
+            self.passed.fetch_add(1, Ordering::SeqCst);
+        }
+        passes
     }
 }
 
@@ -38,8 +44,8 @@ fn gate_locked(rt: HostRuntime) {
     at_gates::<Brand, Brand, _>(&rt, rt.alloc(), 2, Blank::new(3), Blank::new(3));
 }
 
-/// The same while 61 other senders send as they like, and one more stalls before its second call: what all senders did is
-/// given back all the same.
+/// The same while 61 other senders send as they like, and one more stalls before its second call: what all senders did
+/// is given back all the same, and the port stays open.
 #[test]
 fn gate_locked_of_64_senders(rt: HostRuntime) {
     at_gates::<Brand, Brand, _>(&rt, rt.alloc(), 64, Blank::new(65), Blank::new(65));
@@ -70,6 +76,7 @@ fn at_gates<A: Ledger + Send + Sync, S: Ledger + Send + Sync, R: Threads + Wait 
     let device = seats.pop().expect(rt, "the device's seat");
     let seats = send_by_gates(rt, alloc, &port, seats, device);
     let engine = port.settle(seats).ok().expect(rt, "an engine");
+    assert!(rt; !engine.is_closed());
     let stalled = if senders > 2 { 1 } else { 0 };
     assert_eq!(rt; engine.totals().accepted, 2 * u64::from(senders) - stalled);
 }
@@ -107,6 +114,7 @@ fn sides<'a, R: Abort>(
             first_held,
             answered,
             answered_there,
+            passed: AtomicU64::new(0),
         };
         sides.push(side).expect(rt, "memory");
     }
@@ -132,6 +140,7 @@ fn send_by_gates<
     let gates = sides(rt, alloc, seats.len(), &zero, &one, &others, &never);
     assert!(rt; lists.len() == seats.len() && gates.len() == seats.len());
     let (done, device) = send_held(rt, alloc, port, seats, device, &lists, &gates, &zero);
+    passed_once(rt, &done, &gates);
     seats_of(rt, alloc, done, device)
 }
 
@@ -167,6 +176,18 @@ fn waits<A: Ledger, S: Ledger, R: Wait>(
     let saw = has_asked(answered, 1);
     let _ = port.dequeue(rt, &mut device, 0);
     (device, saw)
+}
+
+/// Each gate let a call through once for each call that its sender made.
+fn passed_once<A: Ledger, S: Ledger, R: Abort>(
+    rt: &R,
+    done: &[LockedDone<A, S>],
+    gates: &[Side<'_>],
+) {
+    assert_eq!(rt; gates.len(), done.len());
+    for (sender, gate) in done.iter().zip(gates) {
+        assert_eq!(rt; gate.passed.load(Ordering::SeqCst), sender.calls);
+    }
 }
 
 /// The seats of senders that made both their calls, and the device's after them. Of more than two senders the last one

@@ -1,6 +1,7 @@
 //! Readers and writers that are slow, and that fail.
 
 use crate::runs::ends;
+use crate::writers::{Interrupted, NarrowWriter};
 use program_core::program;
 use std::io::{ErrorKind, Read, Write};
 use std::process::Abort;
@@ -54,6 +55,25 @@ impl Read for CutReader<'_> {
     }
 }
 
+/// A reader that gives its text, then its end, and another text if it is read once more.
+#[derive(Drop)]
+struct EndingReader<'a> {
+    text: &'a [u8],
+    has_ended: bool,
+    behind: &'a [u8],
+}
+
+impl Read for EndingReader<'_> {
+    fn read(&mut self, buf: &mut [u8]) -> io::Result<usize> {
+        if self.has_ended {
+            return self.behind.read(buf);
+        }
+        let count = self.text.read(buf)?;
+        self.has_ended = count == 0;
+        Ok(count)
+    }
+}
+
 /// A reader that gives its text a byte at a time.
 #[derive(Drop)]
 struct SlowReader<'a>(&'a [u8]);
@@ -62,30 +82,6 @@ impl Read for SlowReader<'_> {
     fn read(&mut self, buf: &mut [u8]) -> io::Result<usize> {
         let room = buf.len().min(1);
         self.0.read(&mut buf[..room])
-    }
-}
-
-/// A writer that takes so many bytes at once, as long as there is room, and then fails.
-#[derive(Drop)]
-struct NarrowWriter {
-    taken: Vec<u8>,
-    at_once: usize,
-    room: usize,
-}
-
-impl Write for NarrowWriter {
-    fn write(&mut self, buf: &[u8]) -> io::Result<usize> {
-        let room = self.room.saturating_sub(self.taken.len());
-        if room == 0 {
-            return Err(io::Error::from(ErrorKind::BrokenPipe));
-        }
-        let count = buf.len().min(self.at_once).min(room);
-        self.taken.extend_from_slice(&buf[..count])?;
-        Ok(count)
-    }
-
-    fn flush(&mut self) -> io::Result<()> {
-        Ok(())
     }
 }
 
@@ -115,43 +111,6 @@ impl Write for PausingWriter {
 
     fn flush(&mut self) -> io::Result<()> {
         self.calls = self.calls.saturating_add(1);
-        Ok(())
-    }
-}
-
-/// A stream that fails so often before it is read or written, by an interruption or another failure.
-#[derive(Drop)]
-struct Interrupted<T> {
-    stream: T,
-    left: u32,
-    failure: ErrorKind,
-}
-
-impl<T> Interrupted<T> {
-    /// It fails once more, if at all.
-    fn interrupt(&mut self) -> io::Result<()> {
-        if self.left == 0 {
-            return Ok(());
-        }
-        self.left -= 1;
-        Err(io::Error::from(self.failure))
-    }
-}
-
-impl Read for Interrupted<&[u8]> {
-    fn read(&mut self, buf: &mut [u8]) -> io::Result<usize> {
-        self.interrupt()?;
-        self.stream.read(buf)
-    }
-}
-
-impl Write for Interrupted<Vec<u8>> {
-    fn write(&mut self, buf: &[u8]) -> io::Result<usize> {
-        self.interrupt()?;
-        self.stream.write(buf)
-    }
-
-    fn flush(&mut self) -> io::Result<()> {
         Ok(())
     }
 }
@@ -286,6 +245,37 @@ fn slow_readers_are_read(rt: HostRuntime) {
     let report = "idle\nclosed\ntotals,0,0,0,0,0,0,0,0,0,0,0,closed\n";
     let mut reader = SlowReader(b"deq,0\nclose,1\n");
     expect_from(&rt, &mut reader, 0, report, "");
+}
+
+/// The first end is the end of the trace: nothing is read behind it, by one thread or by senders.
+#[test]
+fn nothing_is_read_behind_the_end(rt: HostRuntime) {
+    for (trace, report) in [(ONE_DEQUEUE, IDLE), (CLOSING, CLOSED)] {
+        expect_ended(&rt, &WORDS, trace, Some(report));
+        expect_ended(&rt, &["locked", "--senders", "1"], trace, None);
+        expect_ended(&rt, &["lanes", "--senders", "1"], trace, None);
+    }
+}
+
+/// Runs the program on a trace with a wrong row behind its end, which isn't read, and compares the report where one is
+/// wanted.
+fn expect_ended(
+    rt: &(impl Abort + AllocGlobal + Threads + Wait + Sync),
+    words: &[&str],
+    trace: &str,
+    report: Option<&str>,
+) {
+    let mut reader = EndingReader {
+        text: trace.as_bytes(),
+        has_ended: false,
+        behind: b"foo\n",
+    };
+    let mut written = Vec::new(rt.alloc());
+    ends(rt, words, &mut reader, &mut written, 0, "");
+    assert_eq!(rt; reader.behind.len(), 4);
+    if report.is_some() {
+        assert_eq!(rt; str::from_utf8(&written).ok(), report);
+    }
 }
 
 /// Words that are wrong are told before anything is read, by each of the commands.

@@ -1,6 +1,6 @@
 //! Packets that wait are given back by a flush.
 
-use crate::queue_discs::{disc, packet, tag_of};
+use crate::queue_discs::{credits_of, disc, packet, tag_of};
 use queue_disc_core::{Dropped, Flushed, QueueDisc, QueueDiscTotals};
 use sched_core::Cause;
 use std::process::Abort;
@@ -56,6 +56,19 @@ fn flush_gives_all_that_waits(rt: HostRuntime) {
     flush_in_parts(&rt, &mut disc);
     assert!(rt; disc.totals() == all_flushed());
     assert!(rt; disc.close(7) == Ok(()) && disc.totals().closed);
+}
+
+/// Where a flush has room for more than what waits, a dequeue finds none at its end, and so the flows leave their lists:
+/// the next packet's flow is a new one, with a whole quantum.
+#[test]
+fn flush_ends_with_a_dequeue(rt: HostRuntime) {
+    let mut disc = disc(&rt, 30);
+    for id in 0..5 {
+        come(&rt, &mut disc, 7, 1 + (id % 2) as u16, id);
+    }
+    assert!(rt; disc.flush(&mut [NONE; 10]) == 5 && disc.queued() == 0);
+    come(&rt, &mut disc, 7, 1, 5);
+    assert!(rt; credits_of(&rt, &disc, 1) == 1_514);
 }
 
 /// One packet is sent after 200 ms, which CoDel notes, and an arrival moves the moment on by more than an interval. So

@@ -135,14 +135,18 @@ fn renewed_after_more_than_a_million_packets(rt: HostRuntime) {
     renew_after_many(&rt, &mut disc);
 }
 
-/// A queue disc is opened for so many packets, and a packet passes.
+/// A queue disc is opened for so many packets, and a packet passes, whether a batch of drops is smaller than the limit
+/// or not.
 fn open_greatest(rt: &(impl Abort + AllocGlobal), flows: u32, limit: u32) {
-    let mut fields = by_port(flows);
-    fields.limit = limit;
-    let params = Params::try_new(fields).ok().expect(rt, "parameters");
-    let mut disc = QueueDisc::open(rt.alloc(), params, SEED).expect(rt, "memory");
-    come(rt, &mut disc, 1, 1, 0);
-    send(rt, &mut disc, 1, 0);
+    for drop_batch in [1, 64, 1_048_576] {
+        let mut fields = by_port(flows);
+        fields.limit = limit;
+        fields.drop_batch = drop_batch;
+        let params = Params::try_new(fields).ok().expect(rt, "parameters");
+        let mut disc = QueueDisc::open(rt.alloc(), params, SEED).expect(rt, "memory");
+        come(rt, &mut disc, 1, 1, 0);
+        send(rt, &mut disc, 1, 0);
+    }
 }
 
 /// Where memory is ample the most flows can be had, and the greatest limit.
@@ -153,13 +157,15 @@ fn greatest_parameters(rt: HostRuntime) {
     open_greatest(&rt, 4, 1_048_576);
 }
 
-/// After 2^39 packets of one scheduler, and not after three.
+/// After 2^39 packets of one scheduler, and not after three. Whoever wants none may ask for the greatest number.
 #[test]
 fn renewed_late_unless_asked_for(rt: HostRuntime) {
-    let mut disc = disc_renewed_after(&rt, 4, RENEW_AFTER);
-    pass_three(&rt, &mut disc);
-    come(&rt, &mut disc, 4, 1, 3);
-    assert!(rt; credits_of(&rt, &disc, 2) == 1_028);
+    for after in [RENEW_AFTER, u64::MAX] {
+        let mut disc = disc_renewed_after(&rt, 4, after);
+        pass_three(&rt, &mut disc);
+        come(&rt, &mut disc, 4, 1, 3);
+        assert!(rt; credits_of(&rt, &disc, 2) == 1_028);
+    }
 }
 
 /// No renewal while a packet waits, and none while a drop is unread, since then no packet is accepted. Drops have their

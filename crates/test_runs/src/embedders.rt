@@ -131,6 +131,15 @@ fn failed_read() -> TraceFault {
     }
 }
 
+/// The texts of faults.
+#[test]
+fn texts_of_faults(rt: HostRuntime) -> Result<(), std::test::Fail> {
+    let trace = RunFault::Trace(failed_read());
+    let texts = format!(in rt.alloc(); "{trace}, {}, {}", RunFault::Memory, RunFault::Write)?;
+    assert_eq!(rt; texts.as_str(), "row 0: Read, memory, write");
+    Ok(())
+}
+
 #[test]
 fn run_between_own_streams(rt: HostRuntime) {
     expect_run_between(&rt, TRACE, 1_000, REPORT, Ok(()));

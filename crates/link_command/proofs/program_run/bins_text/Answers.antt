@@ -16,7 +16,7 @@ returns-then-not-request-clause-text g c =
     }
 
 pub returns-in_err-extend_from_slice-clause-quiet : goal.returns-in_err-extend_from_slice-clause-quiet
-returns-in_err-extend_from_slice-clause-quiet g c = λ none. Keeps-trans _ _ _ (c.note_stage.ensures none) (c.note_rows.ensures none)
+returns-in_err-extend_from_slice-clause-quiet g c = λ none. Keeps-trans _ _ _ (c.note_report.ensures none) (c.note_rows.ensures none)
 
 pub returns-clause-text : goal.returns-clause-text
 returns-clause-text g c =
@@ -32,4 +32,4 @@ returns-clause-text g c =
     }
 
 pub returns-clause-quiet : goal.returns-clause-quiet
-returns-clause-quiet g c = λ none. Keeps-trans _ _ _ (c.note_stage.ensures none) (c.note_rows.ensures none)
+returns-clause-quiet g c = λ none. Keeps-trans _ _ _ (c.note_report.ensures none) (c.note_rows.ensures none)

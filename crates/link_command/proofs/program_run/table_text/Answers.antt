@@ -40,4 +40,4 @@ pub noted_text-requires-clause-end : goal.noted_text-requires-clause-end
 noted_text-requires-clause-end g c = rw c.recorder.ensures.told c.in_ok-engine.ensures.end
 
 pub returns-clause-quiet : goal.returns-clause-quiet
-returns-clause-quiet g c = λ none. Keeps-trans _ _ _ (c.note_stage.ensures none) (c.noted_text.ensures.quiet none)
+returns-clause-quiet g c = λ none. Keeps-trans _ _ _ (c.note_run.ensures none) (c.noted_text.ensures.quiet none)
