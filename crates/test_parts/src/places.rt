@@ -204,7 +204,7 @@ mod tests {
 
     #[test]
     fn second_halves_are_reached(rt: HostRuntime) {
-        for bits in 1..19 {
+        for bits in 1..19_u32 {
             many_places_are_reached(&rt, SHORT, 1 << bits);
             many_places_are_reached(&rt, LONG, 1 << bits);
         }
