@@ -14,7 +14,7 @@ use std::sync::ledger::{Blank, Ledger};
 /// So often the port is asked.
 const TIMES: usize = 1_000;
 
-/// How often a port isn't settled whose packets came from a seat that is missing.
+/// How often a port isn't settled that has packets of one seat, while the other seat is missing.
 pub(crate) fn unsettled<R: Wait>(
     rt: &R,
     alloc: Global,
@@ -38,11 +38,11 @@ fn asked<A: Ledger, S: Ledger, R: Wait>(
     requires sent { (sent.name ≡ S.name) × (sent.parts ≡ S.parts) × (S.parts ≡ 2) }
 {
     let params = Params::standard();
-    let (port, mut seats) = LockedPort::<A, S>::start(alloc, params, seed, 2, accepted, sent)?;
-    if let Some(mut seat) = seats.pop() {
-        send_all(rt, &port, &mut seat, steps)?;
+    let (mut port, mut seats) = LockedPort::<A, S>::start(alloc, params, seed, 2, accepted, sent)?;
+    let _missing = seats.pop();
+    if let Some(seat) = seats.first_mut() {
+        send_all(rt, &port, seat, steps)?;
     }
-    let (mut port, mut seats) = (port, seats);
     for _ in 0..TIMES {
         match port.settle(seats) {
             Ok(_) => return Err(Fault::Settled(None)),
