@@ -207,20 +207,20 @@ const char *maltcove_strerror(int answer)
 {
 	switch (answer) {
 	case MALTCOVE_OK:
-		return "the call was made";
+		return "success";
 	case MALTCOVE_IDLE:
-		return "no packet waits";
+		return "no packet is waiting";
 	case MALTCOVE_NOT_OPEN:
 		return "the scheduler is not open: maltcove_open wasn't called, or it failed, or the struct was never "
 		       "initialized by MALTCOVE_INIT";
 	case MALTCOVE_TOO_LARGE:
-		return "the moment is 2^60 microseconds or more";
+		return "the time is 2^60 microseconds or more";
 	case MALTCOVE_BACKWARDS:
-		return "the moment is before that of the last call";
+		return "the time is before that of the last call";
 	case MALTCOVE_CLOSED:
-		return "the scheduler was closed";
+		return "the scheduler is closed";
 	case MALTCOVE_EXHAUSTED:
-		return "there are no more ids";
+		return "out of packet ids";
 	case MALTCOVE_MEMORY:
 		return "out of memory";
 	case MALTCOVE_BAD_PACKET:
@@ -232,7 +232,7 @@ const char *maltcove_strerror(int answer)
 	case MALTCOVE_ALREADY_OPEN:
 		return "the scheduler is open already, or the struct was never initialized by MALTCOVE_INIT";
 	case MALTCOVE_BAD_SEED:
-		return "the seed has another length than 16 bytes";
+		return "the seed is not 16 bytes long";
 	case MALTCOVE_BAD_FLOW:
 		return "there is no flow of that number";
 	case MALTCOVE_HASHED:
@@ -241,7 +241,7 @@ const char *maltcove_strerror(int answer)
 	case MALTCOVE_NULL:
 		return "a pointer is null";
 	default:
-		return "no answer of this library";
+		return "unknown code";
 	}
 }
 
@@ -249,19 +249,19 @@ const char *maltcove_fault_text(int kind)
 {
 	switch (kind) {
 	case MALTCOVE_WORDS_FINE:
-		return "no word is wrong";
+		return "no error";
 	case MALTCOVE_UNKNOWN_WORD:
 		return "the word names no parameter, or no way to classify";
 	case MALTCOVE_MISSING_VALUE:
-		return "no value stands after the parameter";
+		return "the parameter has no value";
 	case MALTCOVE_NOT_A_NUMBER:
-		return "the value is not written as a number or a time is";
+		return "the value is not a number or a time";
 	case MALTCOVE_OUT_OF_RANGE:
-		return "the value is out of its range, which stands at maltcove_open in maltcove.h";
+		return "the value is out of range: the ranges are listed at maltcove_open in maltcove.h";
 	case MALTCOVE_NOT_UTF8:
 		return "the text is not UTF-8";
 	default:
-		return "no fault of this library";
+		return "unknown code";
 	}
 }
 

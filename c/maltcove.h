@@ -76,21 +76,21 @@ typedef struct maltcove {
 
 #define MALTCOVE_INIT { NULL, false }
 
-/* What the calls answer. */
+/* What the calls return. */
 enum {
-	MALTCOVE_OK = 0,            /* the call was made */
-	MALTCOVE_IDLE = 1,          /* the dequeue was made, and no packet waits */
+	MALTCOVE_OK = 0,            /* success */
+	MALTCOVE_IDLE = 1,          /* success, but no packet is waiting */
 	MALTCOVE_NOT_OPEN = -1,     /* there is no scheduler, or the struct was never MALTCOVE_INIT */
-	MALTCOVE_TOO_LARGE = -2,    /* the moment is 2^60 or more */
-	MALTCOVE_BACKWARDS = -3,    /* the moment is before that of the last call that was made */
-	MALTCOVE_CLOSED = -4,       /* the scheduler was closed */
-	MALTCOVE_EXHAUSTED = -5,    /* there are no more ids: see maltcove_enqueue */
+	MALTCOVE_TOO_LARGE = -2,    /* the time is 2^60 microseconds or more */
+	MALTCOVE_BACKWARDS = -3,    /* the time is before that of the last successful call */
+	MALTCOVE_CLOSED = -4,       /* the scheduler is closed */
+	MALTCOVE_EXHAUSTED = -5,    /* out of packet ids: see maltcove_enqueue */
 	MALTCOVE_MEMORY = -6,       /* out of memory */
 	MALTCOVE_BAD_PACKET = -7,   /* len, ecn or version of the packet is out of its range */
-	MALTCOVE_BAD_WORDS = -8,    /* a word is no parameter: the fault says which and why */
+	MALTCOVE_BAD_WORDS = -8,    /* a parameter is wrong: the fault says which word and why */
 	MALTCOVE_UNREAD = -9,       /* drops of earlier calls were not read: see maltcove_drops */
 	MALTCOVE_ALREADY_OPEN = -10, /* there is a scheduler, or the struct was never MALTCOVE_INIT */
-	MALTCOVE_BAD_SEED = -11,    /* the seed has another length than 16 bytes */
+	MALTCOVE_BAD_SEED = -11,    /* the seed is not 16 bytes long */
 	MALTCOVE_BAD_FLOW = -12,    /* there is no flow of that number */
 	MALTCOVE_HASHED = -13,      /* the scheduler finds the flow: to choose it, open with the words classify dport */
 	MALTCOVE_NULL = -14         /* a pointer is null */
@@ -101,8 +101,8 @@ enum {
 	MALTCOVE_WORDS_FINE = 0,
 	MALTCOVE_UNKNOWN_WORD = 1,  /* the word names no parameter, or no way to classify */
 	MALTCOVE_MISSING_VALUE = 2, /* no value stands after the parameter */
-	MALTCOVE_NOT_A_NUMBER = 3,  /* the value is not written as a number or a time is */
-	MALTCOVE_OUT_OF_RANGE = 4,  /* the value is out of its range */
+	MALTCOVE_NOT_A_NUMBER = 3,  /* the value is not a number or a time */
+	MALTCOVE_OUT_OF_RANGE = 4,  /* the value is out of range */
 	MALTCOVE_NOT_UTF8 = 5       /* the text is not UTF-8; no place is named */
 };
 

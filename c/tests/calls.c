@@ -689,23 +689,23 @@ static void texts(void)
 		int answer;
 		const char *says;
 	} of[] = {
-		{ MALTCOVE_OK, "was made" },
-		{ MALTCOVE_IDLE, "no packet waits" },
+		{ MALTCOVE_OK, "success" },
+		{ MALTCOVE_IDLE, "no packet is waiting" },
 		{ MALTCOVE_TOO_LARGE, "2^60" },
 		{ MALTCOVE_BACKWARDS, "before that of the last call" },
-		{ MALTCOVE_CLOSED, "was closed" },
-		{ MALTCOVE_EXHAUSTED, "no more ids" },
+		{ MALTCOVE_CLOSED, "is closed" },
+		{ MALTCOVE_EXHAUSTED, "out of packet ids" },
 		{ MALTCOVE_MEMORY, "out of memory" },
 		{ MALTCOVE_UNREAD, "maltcove_drops" },
-		{ MALTCOVE_BAD_SEED, "16 bytes" },
+		{ MALTCOVE_BAD_SEED, "not 16 bytes long" },
 		{ MALTCOVE_BAD_FLOW, "no flow of that number" },
 		{ MALTCOVE_NULL, "null" },
 	}, of_word[] = {
-		{ MALTCOVE_WORDS_FINE, "no word" },
+		{ MALTCOVE_WORDS_FINE, "no error" },
 		{ MALTCOVE_UNKNOWN_WORD, "names no parameter" },
-		{ MALTCOVE_MISSING_VALUE, "no value" },
-		{ MALTCOVE_NOT_A_NUMBER, "not written as a number" },
-		{ MALTCOVE_OUT_OF_RANGE, "out of its range" },
+		{ MALTCOVE_MISSING_VALUE, "has no value" },
+		{ MALTCOVE_NOT_A_NUMBER, "not a number" },
+		{ MALTCOVE_OUT_OF_RANGE, "out of range" },
 		{ MALTCOVE_NOT_UTF8, "not UTF-8" },
 	};
 

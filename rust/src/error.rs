@@ -9,30 +9,30 @@ use std::fmt::{self, Display, Formatter};
 pub enum WordFault {
     /// The word names no parameter, or no way to classify.
     UnknownWord,
-    /// No value stands after the parameter.
+    /// The parameter has no value.
     MissingValue,
-    /// The value isn't written as a number or a time is.
+    /// The value is not a number or a time.
     NotANumber,
-    /// The value is out of its range.
+    /// The value is out of range.
     OutOfRange,
 }
 
 /// Why a call is refused. Nothing has changed then.
 #[derive(Clone, Copy, Debug, PartialEq, Eq, Hash)]
 pub enum Error {
-    /// The moment is 2^60 microseconds or more.
+    /// The time is 2^60 microseconds or more.
     TooLarge,
-    /// The moment is before that of the last call.
+    /// The time is before that of the last call.
     Backwards,
-    /// The scheduler was closed.
+    /// The scheduler is closed.
     Closed,
-    /// There are no more ids: something waited all the time while 2^39 packets came.
+    /// Out of packet ids: the scheduler was never empty while 2^39 packets came.
     Exhausted,
     /// Out of memory.
     Memory,
     /// A packet has 0 bytes or more than 65,535, or addresses of two versions of IP.
     BadPacket,
-    /// A word is no parameter. In the text of the words it is `words[offset..offset + len]`.
+    /// A parameter is wrong. In the text of the words the wrong word is `words[offset..offset + len]`.
     BadWords {
         /// The place of the word, from 1.
         place: u64,
@@ -90,10 +90,10 @@ impl Error {
 impl Display for WordFault {
     fn fmt(&self, f: &mut Formatter<'_>) -> fmt::Result {
         f.write_str(match self {
-            WordFault::UnknownWord => "it names no parameter",
-            WordFault::MissingValue => "no value stands after it",
-            WordFault::NotANumber => "it is no number and no time",
-            WordFault::OutOfRange => "it is out of its range",
+            WordFault::UnknownWord => "no parameter has that name",
+            WordFault::MissingValue => "the parameter has no value",
+            WordFault::NotANumber => "the value is not a number or a time",
+            WordFault::OutOfRange => "the value is out of range",
         })
     }
 }
@@ -101,10 +101,10 @@ impl Display for WordFault {
 impl Display for Error {
     fn fmt(&self, f: &mut Formatter<'_>) -> fmt::Result {
         f.write_str(match self {
-            Error::TooLarge => "the moment is 2^60 microseconds or more",
-            Error::Backwards => "the moment is before that of the last call",
-            Error::Closed => "the scheduler was closed",
-            Error::Exhausted => "there are no more ids",
+            Error::TooLarge => "the time is 2^60 microseconds or more",
+            Error::Backwards => "the time is before that of the last call",
+            Error::Closed => "the scheduler is closed",
+            Error::Exhausted => "out of packet ids",
             Error::Memory => "out of memory",
             Error::BadPacket => {
                 "the packet has 0 bytes or more than 65535, or addresses of two versions of IP"
