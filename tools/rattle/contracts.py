@@ -1,4 +1,4 @@
-"""The contracts of the public functions: of each its first sentence and its clauses, as the sources have them."""
+"""The contracts of the public functions: the first sentence, the signature and the clauses of each."""
 import dataclasses
 import re
 import textwrap
@@ -21,11 +21,12 @@ class Clause:
 
 @dataclasses.dataclass(eq=False)
 class Contract:
-    """A public function: its name behind that of its type, trait or module, and what is said of it."""
+    """A public function: its name behind that of its type, trait or module, and what its source says of it."""
     crate: str
     name: str
     path: str
     said: str
+    signature: str
     clauses: list
 
     def names(self):
@@ -33,25 +34,30 @@ class Contract:
         return [clause.name for clause in self.clauses if clause.kind == "ensures"]
 
 
-def clauses_behind(text):
-    """The clauses of the function that a text begins with, up to its body or its end."""
+def signature_and_clauses(text):
+    """What a text that begins with a function says of it before its body: its signature, and its clauses."""
     found, depth, tokens = [], 0, [one for one in TOKEN.finditer(text) if one.lastgroup not in (None, "comment")]
-    at = next(i for i, one in enumerate(tokens) if one.group() == "fn")
-    while at < len(tokens):
-        word = tokens[at].group()
-        if depth == 0 and word in ("requires", "ensures"):
-            start = at
-            while tokens[at].group() != "{":
-                at += 1
-            name = tokens[at - 1].group() if tokens[at - 1].lastgroup == "word" and at - 1 > start else ""
-            at = end_of_group(tokens, at)
-            found.append(Clause(word, name, dedented(text, tokens[start].start(), tokens[at - 1].end())))
-            continue
-        if depth == 0 and word in ("{", ";"):
-            break
-        depth += (word in OPENING) - (word in CLOSING)
+    at, end = next(i for i, one in enumerate(tokens) if one.group() == "fn"), None
+    while depth or tokens[at].group() not in ("{", ";"):
+        if depth == 0 and tokens[at].group() in ("requires", "ensures"):
+            end = end or tokens[at].start()
+            at = read_clause(text, tokens, at, found)
+        else:
+            depth += (tokens[at].group() in OPENING) - (tokens[at].group() in CLOSING)
+            at += 1
+    return dedented(text, 0, end or tokens[at].start()).strip(), found
+
+
+def read_clause(text, tokens, start, found):
+    """Adds the clause that begins at a token, and gives the place behind it."""
+    at = start
+    while tokens[at].group() != "{":
         at += 1
-    return found
+    name = tokens[at - 1].group() if tokens[at - 1].lastgroup == "word" and at - 1 > start else ""
+    end = end_of_group(tokens, at)
+    clause = dedented(text, tokens[start].start(), tokens[end - 1].end())
+    found.append(Clause(tokens[start].group(), name, clause))
+    return end
 
 
 def end_of_group(tokens, at):
@@ -126,4 +132,5 @@ def contract_of(crate, name, function):
     """A function's contract, as its source has it."""
     lines = function.file.lines
     text = "\n".join(lines[function.line - 1:])
-    return Contract(crate, name, str(function.file.path), first_sentence(lines, function.line), clauses_behind(text))
+    said = first_sentence(lines, function.line)
+    return Contract(crate, name, str(function.file.path), said, *signature_and_clauses(text))
