@@ -145,6 +145,61 @@ fn at_unstored<J: BookName, R: Wait + Abort>(
     makes(rt, &mut opened, calls);
 }
 
+/// A lane with room for so many packets is filled and emptied, two times.
+pub(crate) fn fills_twice<R: Wait + Abort>(rt: &R, alloc: Global, capacity: u32, packet: Packet) {
+    assert!(rt; 0 < capacity && capacity <= MAX_CAPACITY);
+    at_one_lane::<Brand, _>(rt, alloc, BookBlank::new(), capacity, packet);
+}
+
+fn at_one_lane<J: BookName, R: Wait + Abort>(
+    rt: &R,
+    alloc: Global,
+    blank: BookBlank,
+    capacity: u32,
+    packet: Packet,
+)
+    requires book { blank ≡ J.book }
+    requires capacity { (0 < capacity) × (capacity ≤ MAX_CAPACITY) }
+{
+    let mut opened = open_unstored::<J, R>(rt, alloc, blank, 1, capacity);
+    for _time in 0..2 {
+        fills(rt, &mut opened, capacity, packet);
+        empties(rt, &mut opened, capacity);
+    }
+    let all = u64::from(capacity).saturating_add(1).saturating_mul(2);
+    assert_eq!(rt; opened.device.engine().totals().accepted, all);
+}
+
+/// So many packets fill the lane. Where one is taken, there is room for one.
+fn fills<J: BookName, X: Screen<Shown<J>> + Drop, K: Recorder, S: StepRecorder, R: Abort>(
+    rt: &R,
+    opened: &mut Opened<J, X, K, S>,
+    capacity: u32,
+    packet: Packet,
+) {
+    for _packet in 0..capacity {
+        submits(rt, &mut opened.senders, 0, packet, Ok(()));
+    }
+    submits(rt, &mut opened.senders, 0, packet, Err(LaneFull(packet)));
+    pumps(rt, &mut opened.device, 0, 7, 1, Ok(1));
+    submits(rt, &mut opened.senders, 0, packet, Ok(()));
+    submits(rt, &mut opened.senders, 0, packet, Err(LaneFull(packet)));
+}
+
+/// Pumps take so many packets, and the last of them finds fewer than 1,024.
+fn empties<J: BookName, X: Screen<Shown<J>> + Drop, K: Recorder, S: StepRecorder, R: Abort>(
+    rt: &R,
+    opened: &mut Opened<J, X, K, S>,
+    packets: u32,
+) {
+    let mut left = packets;
+    for _pump in 0..=packets / 1_024 {
+        let burst = left.min(1_024);
+        pumps(rt, &mut opened.device, 0, 7, 1_024, Ok(u64::from(burst)));
+        left = left.saturating_sub(burst);
+    }
+}
+
 /// The calls are made in turn.
 fn makes<J: BookName, X: Screen<Shown<J>> + Drop, K: Recorder, S: StepRecorder, R: Abort>(
     rt: &R,

@@ -2,7 +2,7 @@
 
 ghost use Rattle.std.specs.Prelude.{◌≡◌};
 
-use crate::calls::{Call, Sending, full, plays, plays_unstored, put, submits, takes};
+use crate::calls::{Call, Sending, fills_twice, full, plays, plays_unstored, put, submits, takes};
 use crate::fixtures::{accepted, open, packet, packets};
 use crate::gates::{Asked, new_gate, was_asked};
 use packet_core::{Ecn, Packet};
@@ -101,41 +101,10 @@ fn fills_each<R: Wait + Abort>(rt: &R, alloc: Global, first: u32, powers: u32) {
     let mut power = first;
     for _power in 0..powers {
         for capacity in power.saturating_sub(1).max(1)..=power.saturating_add(1) {
-            fills_twice(rt, alloc, capacity);
+            fills_twice(rt, alloc, capacity, packet(rt, 1));
         }
         power = power.saturating_mul(2);
     }
-}
-
-/// A lane with room for so many packets is filled and emptied, two times.
-fn fills_twice<R: Wait + Abort>(rt: &R, alloc: Global, capacity: u32) {
-    let packet = packet(rt, 1);
-    let mut calls = Vec::new(alloc);
-    for _time in 0..2 {
-        for _packet in 0..capacity {
-            calls.push(put(0, packet)).expect(rt, "memory");
-        }
-        calls
-            .extend_from_slice(&[
-                full(0, packet),
-                takes(0, 1, 1),
-                put(0, packet),
-                full(0, packet),
-            ])
-            .expect(rt, "memory");
-        // The last of these pumps finds fewer than 1,024 packets.
-        let mut left = capacity;
-        for _pump in 0..=capacity / 1_024 {
-            let burst = left.min(1_024);
-            calls
-                .push(takes(0, 1_024, u64::from(burst)))
-                .expect(rt, "memory");
-            left = left.saturating_sub(burst);
-        }
-    }
-    let all = u64::from(capacity).saturating_add(1).saturating_mul(2);
-    calls.push(Call::Counts(all, 0)).expect(rt, "memory");
-    plays_unstored(rt, alloc, (1, capacity), &calls);
 }
 
 /// A pump takes all that stand in its lane, where its burst lets it: the largest burst is 1,024.

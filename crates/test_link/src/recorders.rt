@@ -1,6 +1,6 @@
 //! A plain queue over a recorder whose room is fixed.
 
-ghost use Rattle.std.specs.Prelude.{[]};
+ghost use Rattle.std.specs.Prelude.{◌≡◌, []};
 
 use crate::runs::{arrival, plain};
 use codel_core::Served;

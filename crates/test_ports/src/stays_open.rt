@@ -59,28 +59,40 @@ fn makes_each<R: Threads + Wait + Abort + Sync>(rt: &R, alloc: Global, packets: 
 }
 
 /// Those packets come, the call is made, and a packet with that id is accepted: of one seat, and of the second of two.
-fn accepts_after<R: Threads + Wait + Abort + Sync>(
+fn accepts_after<'a, R: Threads + Wait + Abort + Sync>(
     rt: &R,
     alloc: Global,
-    packets: &[(u64, Form)],
-    call: Call<'_>,
+    packets: &'a [(u64, Form)],
+    call: Call<'a>,
     id: u64,
 ) {
-    let (first, comes) = (sends(packets), Call::Comes(1, PACKET, id, 0, 1));
+    let (before, comes) = (sends(packets), Call::Comes(1, PACKET, id, 0, 1));
     let next = id.saturating_add(1);
-    stays_open(rt, alloc, 1, Part::Alone(&[first, call, comes]), next);
-    stays_open(rt, alloc, 2, Part::Calls(&[&[first], &[call, comes]]), next);
+    let alone = [before, call, comes];
+    stays_open(rt, alloc, 1, Part::Alone(&alone), next);
+    let (first, last) = ([before], [call, comes]);
+    stays_open(rt, alloc, 2, Part::Calls(&[&first, &last]), next);
 }
 
 /// A packet is accepted after a refusal to settle.
 #[test]
 fn a_refused_settling_leaves_the_port_open(rt: HostRuntime) {
     for packets in WAITING {
-        let first = [sends(packets)];
-        let next = packets.len() as u64;
-        stays_open(&rt, rt.alloc(), 1, Part::Alone(&first), next);
-        stays_open(&rt, rt.alloc(), 3, Part::Calls(&[&first, &[], &[]]), next);
+        refuses_to_settle(&rt, rt.alloc(), packets);
     }
+}
+
+/// One seat sends those packets, and so does the first of three.
+fn refuses_to_settle<R: Threads + Wait + Abort + Sync>(
+    rt: &R,
+    alloc: Global,
+    packets: &[(u64, Form)],
+) {
+    let first = [sends(packets)];
+    let next = packets.len() as u64;
+    stays_open(rt, alloc, 1, Part::Alone(&first), next);
+    let (second, third) = ([Call::Counts(next, 0)], [Call::Counts(next, 0)]);
+    stays_open(rt, alloc, 3, Part::Calls(&[&first, &second, &third]), next);
 }
 
 /// So many seats do their part and aren't settled. Then a packet with that id is accepted, and the engine is open at

@@ -17,7 +17,7 @@ returns-in_err-arrivals-clause-fault g c =
 
 pub returns-clause-text : goal.returns-clause-text
 returns-clause-text g c =
-    let made = rw c.deref.ensures.value at c.table_text.ensures.text in
+    let made = rw c.deref-2.ensures.value at c.table_text.ensures.text in
     IfOk-weaker c.table_text.result _ _
     (λ report table. record {
       run = run_parts_of c.in_ok-run.run';
@@ -34,7 +34,7 @@ returns-clause-fault g c =
 
 pub returns-clause-note : goal.returns-clause-note
 returns-clause-note g c =
-    let made = rw c.deref.ensures.value at c.table_text.ensures.note in
+    let made = rw c.deref-2.ensures.value at c.table_text.ensures.note in
     IfOk-weaker c.table_text.result _ _
     (λ report note. record {
       run = run_parts_of c.in_ok-run.run';
