@@ -1,0 +1,139 @@
+"""The pages that list parameters, statistics and columns. A row is found by the name in its first cell, in the table of
+the page that has most of the names. So a page may have other columns and other words."""
+import re
+
+from described.comparing import CODES, COLUMNS, COUNTS, PARAMETERS, plain
+from described.counts import of_kind
+from described.reading import CODE, Entry, file, named, table_of
+from described.reports import TUPLE, monitor_counts, totals_names, tuple_counts
+from described.tables import number
+
+FORMATS, RULES, SIMULATING = "docs/FORMATS.md", "docs/RULES.md", "docs/SIMULATING.md"
+NS3, SHAPE = "ns3/README.md", "examples-c/shape/README.md"
+RANGE = re.compile(r"(?:from )?(\d[\d,^]*) (?:to|–|-) (\d[\d,^]*)( - 1)?(?: (packets|flows|bytes|microseconds))?")
+DEFAULT = re.compile(r"default|standard|isn't said|not said|not given|left out", re.I)
+# The words by which a page may say of which kind a value is.
+KINDS = {**{unit: unit for unit in ("packets", "flows", "bytes", "microseconds")}, "time": "microseconds"}
+
+
+def ranges(cells):
+    """The ranges that cells state, and their units where they say any."""
+    found = [match for cell in cells for match in RANGE.finditer(cell)]
+    return [(number(match[1]), number(match[2]) - bool(match[3]), match[4]) for match in found]
+
+
+def default_of(table, cells):
+    """The cell of the default: below a head that says so, or else the last one."""
+    columns = [place for place, head in enumerate(table.head) if DEFAULT.search(head)]
+    return cells[columns[0] if columns else -1]
+
+
+def parameter_row(table, cells, one):
+    """What a row says of a parameter: its range, whether its unit is another one, its default and its choices."""
+    said = ranges(cells[1:])
+    units = [unit for *_, unit in said if unit] + [KINDS[cell] for cell in cells[1:] if cell in KINDS]
+    other = next((unit for unit in units if unit != one.unit), None)
+    first = (default_of(table, cells).split() or [""])[0].strip("`*,;")
+    default = first if number(first, one.unit) is None else number(first, one.unit)
+    words = [word for cell in cells for span in CODE.findall(cell) for word in span.split()]
+    choices = None if one.is_ranged else tuple(word for word in one.choices if word in words)
+    return (said[0][:2] if said else None, other, default, choices)
+
+
+def check_parameters(checks, tables):
+    """The parameters of the scheduler on the pages that list them."""
+    known = {word: one for one in tables.scheduler() for word in one.words}
+    for page in (FORMATS, RULES):
+        part = file(page)
+        table, found = table_of(part, known), []
+        for cells, line in table.rows:
+            ones = [known[name] for name in named(cells[0]) if name in known]
+            name = ones[0].name if ones else " ".join(named(cells[0]))
+            found.append(Entry(name, parameter_row(table, cells, ones[0]) if ones else None, line))
+        wanted = [(one.name, (one.range if one.is_ranged else None, None, one.default, tuple(one.choices) or None))
+                  for one in tables.scheduler()]
+        checks.same(part, "the table of parameters", found, wanted, PARAMETERS)
+
+
+def listed(part, names, own=()):
+    """The names in the first cells of the table that has most of these names. Names of its own are left out."""
+    table = table_of(part, names)
+    return table, [Entry(name, None, line) for cells, line in table.rows for name in named(cells[0])
+                   if name not in own]
+
+
+def check_link(checks, tables):
+    """The options of the link: a page may list others, too."""
+    part = file(SIMULATING)
+    wanted = [f"--{one.name}" for one in tables.parameters if one.of == "link"]
+    _, found = listed(part, wanted)
+    checks.same(part, "the options", [one for one in found if one.name in wanted], plain(wanted), PARAMETERS, False)
+
+
+def check_attributes(checks, tables):
+    """The attributes of the queue disc for ns-3, with the standard values that its page states."""
+    part = file(NS3)
+    of_ns3 = {one.ns3: one for one in tables.scheduler() if one.ns3}
+    table, found = listed(part, of_ns3, ("Perturbation",))
+    checks.same(part, "the attributes", found, plain(of_ns3), PARAMETERS, False)
+    stated = [Entry(named(cells[0])[0], default_of(table, cells).split()[0].rstrip(":"), line)
+              for cells, line in table.rows if len(named(cells[0])) == 1 and named(cells[0])[0] in of_ns3]
+    wanted = [(entry.name, of_ns3[entry.name].ns3_default) for entry in stated]
+    checks.same(part, "the standard values", stated, wanted, PARAMETERS)
+
+
+def check_rows(checks, tables):
+    """The rows of reports as FORMATS shows them, wherever it does."""
+    part = file(FORMATS)
+    for first, gap, wanted in (("totals", ",", totals_names(tables)),
+                               ("tuple", ",", [*TUPLE, *(name.upper() for name in tuple_counts(tables))]),
+                               ("monitor I", " ", ["EVENTS", *monitor_counts(tables)])):
+        shown = list(re.finditer(rf"`{first}{gap}([A-Z_]+(?:{gap}[A-Z_]+)+)`", part.text))
+        for match in shown or [None]:
+            names = match[1].split(gap) if match else []
+            found = [Entry(name, None, part.line(match.start())) for name in names]
+            checks.same(part, f"the row {first}", found, plain(wanted), COUNTS)
+    drops = {match[1]: Entry(match[1], None, part.line(match.start()))
+             for match in re.finditer(r"`dropped,ID,(\w+)`", part.text)}
+    checks.same(part, "the rows of drops", list(drops.values()), plain(one.word for one in of_kind(tables, "cause")),
+                CODES, False)
+
+
+def check_columns(checks, tables):
+    """The columns of the tables of maltlink, with the ranges that FORMATS states."""
+    part = file(FORMATS)
+    for name in dict.fromkeys(one.table for one in tables.columns):
+        columns = {one.name: one for one in tables.columns if one.table == name}
+        table, found = listed(part, columns)
+        checks.same(part, f"the columns of {name}", found, plain(columns), COLUMNS, False)
+        stated = []
+        for cells, line in table.rows:
+            said, names = ranges(cells[1:]), named(cells[0])
+            if said and len(said) == len(names):
+                stated += [Entry(one, said[place][:2], line) for place, one in enumerate(names)]
+        wanted = [(entry.name, (columns[entry.name].least, columns[entry.name].greatest)) for entry in stated
+                  if entry.name in columns]
+        checks.same(part, f"the ranges of {name}", stated, wanted, COLUMNS)
+
+
+def check_fates(checks, tables):
+    """The words of fates and of marks in the table of packets."""
+    part = file(FORMATS)
+    table = table_of(part, [one.name for one in tables.columns if one.table == "packets"])
+    for name, wanted in (("fate", ["sent", *(one.word for one in of_kind(tables, "cause"))]),
+                         ("mark", [one.word for one in of_kind(tables, "mark") if one.word])):
+        rows = [(cells, line) for cells, line in table.rows if named(cells[0]) == [name]]
+        words = [Entry(word, None, line) for cells, line in rows for word in dict.fromkeys(
+            span for cell in cells[1:] for span in CODE.findall(cell))]
+        checks.same(part, f"the words of {name}", words, plain(wanted), CODES, False)
+
+
+def check_shape(checks, tables):
+    """The drops and marks in the statistics that the page of the router shows."""
+    part = file(SHAPE).after(r"^(?=  drop_)").until(r"\n")
+    found = [one for one in part.matches(r"(?P<name>[a-z_]+) \d+") if one.name != "refused"]
+    wanted = plain(one.tc for one in tables.counts if one.tc)
+    checks.same(part, "the line of drops and marks", found, wanted, COUNTS, False)
+
+
+CHECKS = [check_parameters, check_link, check_attributes, check_rows, check_columns, check_fates, check_shape]
