@@ -4,7 +4,7 @@ import re
 from described.comparing import CODES, COUNTS, PARAMETERS, plain
 from described.counts import RECORDS, RECORDS_SPEC, of_kind
 from described.parameters import CHOSEN
-from described.reading import Entry, as_number, fields, file, only_names, only_types
+from described.reading import Entry, as_number, fields, file, only_types
 from described.tables import Unclear, number
 
 HEADER, LAYOUT, SYS, VIEWS = "c/maltcove.h", "c/tests/layout.h", "rust/src/sys.rs", "rust/src/views.rs"
@@ -20,11 +20,6 @@ def record_of_params(tables):
     numbers = sorted((one for one in scheduler if one.is_ranged), key=lambda one: -BYTES[one.type])
     return ([(one.c, one.type) for one in numbers] + [(f"has_{one.c}", "bool") for one in scheduler if one.is_optional]
             + [(one.c, "bool") for one in scheduler if not one.is_ranged])
-
-
-def size_of(record):
-    """The bytes of a record: those of its fields, up to a whole number of the widest."""
-    return -(-sum(BYTES[kind] for _, kind in record) // 8) * 8
 
 
 def record_of_totals(tables):
@@ -77,8 +72,12 @@ def fragment(text):
 def check_header(checks, tables):
     """The structs of the header. A comment behind a count is its text."""
     part = file(HEADER)
-    wanted = [(name, C_TYPES[kind]) for name, kind in record_of_params(tables)]
-    checks.same(part, "maltcove_params_t", only_types(struct_of_c(part, "maltcove_params_t")), wanted, PARAMETERS)
+    optional = [one.c for one in tables.scheduler() if one.is_optional]
+    found = [one if one.name in optional else Entry(one.name, (one.fact[0], None), one.line)
+             for one in struct_of_c(part, "maltcove_params_t")]
+    wanted = [(name, (C_TYPES[kind], f"0 where has_{name} is false" if name in optional else None))
+              for name, kind in record_of_params(tables)]
+    checks.same(part, "maltcove_params_t", found, wanted, PARAMETERS)
     texts = {one.name: fragment(one.text) for one in tables.counts}
     found = [Entry(name, (kind, text or texts.get(name)), line)
              for name, (kind, text), line in struct_of_c(part, "maltcove_totals_t")]
@@ -113,21 +112,6 @@ def check_words(checks, tables):
     checks.same(part, "the choices of maltcove_open", found, wanted, PARAMETERS, False)
 
 
-def check_layout(checks, tables):
-    """The places of the fields in C, as its tests have them."""
-    part = file(LAYOUT)
-    for struct, record, table in (("maltcove_params_t", record_of_params(tables), PARAMETERS),
-                                  ("maltcove_totals_t", record_of_totals(tables), COUNTS)):
-        found = part.matches(rf"^STANDS\({struct}, (?P<name>\w+), (?P<is>\d+)\);$", as_number)
-        wanted, place = [], 0
-        for name, kind in record:
-            wanted.append((name, place))
-            place += BYTES[kind]
-        checks.same(part, f"the places in {struct}", found, wanted, table)
-        size = part.matches(rf"^HOLDS\(sizeof\((?P<name>{struct})\) == (?P<is>\d+)\);$", as_number)
-        checks.same(part, f"the size of {struct}", size, [(struct, size_of(record))], table)
-
-
 def rust_type(one):
     if one.is_optional:
         return f"Option<{one.type}>"
@@ -158,14 +142,8 @@ def rust_value(one):
     return f"p.{one.c}"
 
 
-def check_rust_records(checks, tables):
-    """The records of C in Rust, their sizes, and the causes and marks."""
-    part = file(SYS)
-    for struct, record, table in (("Params", record_of_params(tables), PARAMETERS),
-                                  ("Totals", record_of_totals(tables), COUNTS)):
-        checks.same(part, f"sys::{struct}", only_types(fields(part, struct)), record, table)
-        size = part.matches(rf"size_of::<(?P<name>{struct})>\(\) == (?P<is>\d+)", as_number)
-        checks.same(part, f"the size of sys::{struct}", size, [(struct, size_of(record))], table)
+def check_rust_codes(checks, tables):
+    """The causes and marks of Rust."""
     part = file(PACKET)
     for kind, enum in (("cause", "Cause"), ("mark", "Mark")):
         codes = [one for one in of_kind(tables, kind) if one.rust]
@@ -192,13 +170,8 @@ def python_fields(part, name):
 
 
 def check_python(checks, tables):
-    """The records of C in Python, what callers are shown, and the causes and marks."""
+    """The parameters of Python."""
     part = file(PYTHON)
-    inside = part.after(r"^class _Params\(ctypes\.Structure\):\n").until(r"\n\n\n")
-    found = inside.matches(r'\("(?P<name>\w+)", ctypes\.c_(?P<type>\w+)\)', "type", r'"\w+"')
-    c_types = {"u64": "uint64", "u32": "uint32", "bool": "bool"}
-    wanted = [(name, c_types[kind]) for name, kind in record_of_params(tables)]
-    checks.same(inside, "_Params", found, wanted, PARAMETERS)
     inside, found = python_fields(part, "Params")
     wanted = [(one.c, "Optional[int]" if one.is_optional else "int" if one.is_ranged else "bool")
               for one in tables.scheduler()]
@@ -211,7 +184,7 @@ def check_python(checks, tables):
 
 
 def check_python_totals(checks, tables):
-    """The statistics of C in Python, what callers are shown, the sizes, and the causes and marks."""
+    """The statistics of C in Python, what callers are shown, and the causes and marks."""
     part = file(PYTHON)
     inside = part.after(r"^class _Totals\(ctypes\.Structure\):\n").until(r"\n\n\n")
     found = inside.matches(r'"(?P<name>\w+)"')
@@ -221,17 +194,11 @@ def check_python_totals(checks, tables):
     inside, found = python_fields(part, "Totals")
     wanted = [(one.name, "bool" if one.type == "bool" else "int") for one in tables.counts]
     checks.same(inside, "Totals", found, wanted, COUNTS)
-    sizes = part.inside(r"^_SIZES = ")
-    found = sizes.entries(r"(?P<name>\w+): (?P<is>\d+)", as_number)
-    for name, record, table in (("_Params", record_of_params(tables), PARAMETERS),
-                                ("_Totals", record_of_totals(tables), COUNTS)):
-        sized = [one for one in found if one.name == name]
-        checks.same(sizes, f"the size of {name}", sized, [(name, size_of(record))], table)
     for kind, enum in (("cause", "Cause"), ("mark", "Mark")):
         inside = part.after(rf"^class {enum}\(enum\.IntEnum\):\n").until(r"\n\n\n")
         found = inside.matches(r"^    (?P<name>\w+) = (?P<is>-?\d+)$", as_number, " = ")
         checks.same(inside, enum, found, [(one.python, one.number) for one in of_kind(tables, kind)], CODES)
 
 
-CHECKS = [check_records, check_header, check_words, check_layout, check_rust, check_rust_records, check_python,
+CHECKS = [check_records, check_header, check_words, check_rust, check_rust_codes, check_python,
           check_python_totals]

@@ -59,7 +59,9 @@ def place_of(why):
 
 def said(fact):
     """A fact as a line shows it."""
-    return " ".join(said(one) for one in fact if one is not None) if isinstance(fact, tuple) else repr(fact)
+    if isinstance(fact, (tuple, set)):
+        return " ".join(said(one) for one in fact if one is not None) or "nothing"
+    return repr(fact)
 
 
 def plain(names):

@@ -77,18 +77,27 @@ def disc_text(one):
     return one.disc_text or one.text
 
 
+def summed(match, item):
+    """The statistics of which a sum is made: of earlier schedulers and of the one that goes on."""
+    return set(re.findall(r"\b(?:past|now|self) ?\.(?!saturating)(\w+)", match["is"]))
+
+
 def check_disc(checks, tables):
     """The statistics of a queue disc. The order of its fields is free: nothing is laid out by it."""
     names = plain(one.name for one in tables.counts)
     part = file(DISC)
     wanted = [(one.name, (one.type, disc_text(one))) for one in tables.counts]
     checks.same(part, "QueueDiscTotals", fields(part, "QueueDiscTotals"), wanted, COUNTS, False)
-    inside, found = literal(part.inside(r"^impl QueueDiscTotals").body("and"), "QueueDiscTotals")
-    checks.same(inside, "QueueDiscTotals::and", found, names, COUNTS, False)
+    inside = part.inside(r"^impl QueueDiscTotals").body("and").inside(r"\bQueueDiscTotals(?= \{)")
+    found = inside.entries(r"(?P<name>\w+): (?P<is>.+)", summed)
+    wanted = [(one.name, {one.name}) for one in tables.counts]
+    checks.same(inside, "QueueDiscTotals::and", found, wanted, COUNTS, False)
     part = file(DISC_SPEC)
-    for name in ("no_totals", "totals_by past now flushed_counts"):
-        inside, found = record_of(part, rf"^{name} = record")
-        checks.same(inside, name.split()[0], found, names, COUNTS, False)
+    inside = part.inside(r"^totals_by past now flushed_counts = record")
+    found = inside.entries(r"(?P<name>\w+) = (?P<is>.+)", summed, ";")
+    checks.same(inside, "totals_by", found, wanted, COUNTS, False)
+    inside, found = record_of(part, r"^no_totals = record")
+    checks.same(inside, "no_totals", found, names, COUNTS, False)
 
 
 def check_flushed(checks, tables):

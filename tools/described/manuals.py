@@ -100,6 +100,18 @@ def check_link(checks, tables):
     checks.same(part, "the ranges by name", found, [(one.variant, one.range) for one in options[:-1]], PARAMETERS)
 
 
+def check_mistakes(checks, tables):
+    """The options of the link where a word is no option."""
+    part, names = file("crates/link_command/src/mistakes.rt"), [f"--{one.name}" for one in of_link(tables)]
+    inside = part.body("takes_value")
+    found = [one for one in inside.matches(r'"(?P<name>--\w+)"') if one.name not in ("--seed", "--compare", "--write")]
+    checks.same(inside, "takes_value", found, plain(names), PARAMETERS, False)
+    inside = part.body("wanted_after")
+    found = inside.matches(r'"(?P<name>--\w+)" => wanted\(ValueName::(?P<is>\w+)\)', "is", r" => wanted\(")
+    wanted = [(name, one.variant) for name, one in zip(names, of_link(tables))]
+    checks.same(inside, "wanted_after", found, wanted, PARAMETERS)
+
+
 def check_values(checks, tables):
     """The constants by which maltlink reads its options, and their definitions."""
     rate, overhead, mpu, every = of_link(tables)
@@ -138,4 +150,4 @@ def check_threads(checks, tables):
                 PARAMETERS)
 
 
-CHECKS = [check_help, check_options, check_link, check_values, check_threads]
+CHECKS = [check_help, check_options, check_link, check_mistakes, check_values, check_threads]

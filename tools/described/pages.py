@@ -4,7 +4,7 @@ import re
 
 from described.comparing import CODES, COLUMNS, COUNTS, PARAMETERS, plain
 from described.counts import of_kind
-from described.reading import CODE, Entry, file, named, table_of
+from described.reading import CODE, Entry, file, named, page_tables, table_of
 from described.reports import TUPLE, monitor_counts, totals_names, tuple_counts
 from described.tables import number
 
@@ -35,7 +35,8 @@ def parameter_row(table, cells, one):
     other = next((unit for unit in units if unit != one.unit), None)
     first = (default_of(table, cells).split() or [""])[0].strip("`*,;")
     default = first if number(first, one.unit) is None else number(first, one.unit)
-    words = [word for cell in cells for span in CODE.findall(cell) for word in span.split()]
+    others = [cell for cell in cells if cell != default_of(table, cells)]
+    words = [word for cell in others for span in CODE.findall(cell) for word in span.split()]
     choices = None if one.is_ranged else tuple(word for word in one.choices if word in words)
     return (said[0][:2] if said else None, other, default, choices)
 
@@ -47,9 +48,11 @@ def check_parameters(checks, tables):
         part = file(page)
         table, found = table_of(part, known), []
         for cells, line in table.rows:
-            ones = [known[name] for name in named(cells[0]) if name in known]
-            name = ones[0].name if ones else " ".join(named(cells[0]))
-            found.append(Entry(name, parameter_row(table, cells, ones[0]) if ones else None, line))
+            names = dict.fromkeys(named(cells[0]))
+            one = known.get(next(iter(names), ""))
+            is_known = one and list(names) == one.words
+            found.append(Entry(one.name if is_known else ", ".join(names),
+                               parameter_row(table, cells, one) if is_known else None, line))
         wanted = [(one.name, (one.range if one.is_ranged else None, None, one.default, tuple(one.choices) or None))
                   for one in tables.scheduler()]
         checks.same(part, "the table of parameters", found, wanted, PARAMETERS)
@@ -104,16 +107,16 @@ def check_columns(checks, tables):
     part = file(FORMATS)
     for name in dict.fromkeys(one.table for one in tables.columns):
         columns = {one.name: one for one in tables.columns if one.table == name}
-        table, found = listed(part, columns)
+        _, found = listed(part, columns)
         checks.same(part, f"the columns of {name}", found, plain(columns), COLUMNS, False)
-        stated = []
-        for cells, line in table.rows:
-            said, names = ranges(cells[1:]), named(cells[0])
-            if said and len(said) == len(names):
-                stated += [Entry(one, said[place][:2], line) for place, one in enumerate(names)]
-        wanted = [(entry.name, (columns[entry.name].least, columns[entry.name].greatest)) for entry in stated
-                  if entry.name in columns]
-        checks.same(part, f"the ranges of {name}", stated, wanted, COLUMNS)
+    of_name = {one.name: (one.least, one.greatest) for one in tables.columns}
+    stated = []
+    for cells, line in (row for table in page_tables(part) for row in table.rows):
+        said, names = ranges(cells[1:]), named(cells[0])
+        if said and len(said) == len(names) and all(name in of_name for name in names):
+            stated += [Entry(one, said[place][:2], line) for place, one in enumerate(names)]
+    wanted = [(entry.name, of_name[entry.name]) for entry in stated]
+    checks.same(part, "the ranges of columns", stated, wanted, COLUMNS)
 
 
 def check_fates(checks, tables):

@@ -60,13 +60,13 @@ def check_defaults(checks, tables):
 def tested(item):
     """The name, the least and the greatest value that a test of a range has, and the variant that it answers."""
     text = item.bare()
-    name = re.search(r"fields ?\.(\w+)", text)
+    names = set(re.findall(r"fields ?\.(\w+)", text))
     least, greatest = (re.search(rf" {sign} (1 << \d+|[\d_]+)", text) for sign in "<>")
-    if not name or not greatest:
-        raise Unclear(f"{item.where()}: no test of a range: {text!r}")
+    if len(names) != 1 or not greatest:
+        raise Unclear(f"{item.where()}: no test of the range of one field: {text!r}")
     answer = re.search(r"Err\(ParamName::(\w+)\)", text)
     fact = (number(least[1]) if least else 0, number(greatest[1]), answer and answer[1])
-    return Entry(name[1], fact, item.line(item.text.index("fields")))
+    return Entry(names.pop(), fact, item.line(item.text.index("fields")))
 
 
 def check_ranges(checks, tables):
