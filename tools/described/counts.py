@@ -173,9 +173,9 @@ def check_counting(checks, tables):
     part = file(BOOKS)
     for kind, record in (("cause", "count_dropped c len cause"), ("mark", "count_sent c len mark")):
         inside = part.inside(rf"^{record} = record c")
-        found = [Entry(name, match[1], inside.line(match.start()))
-                 for match in re.finditer(rf"(\w+) = c\.\1 \+ (\w+_of) {kind};", inside.text)
-                 for name, fact, _ in equations(part, match[2]) if fact == "1"]
+        added = inside.entries(rf"(?P<name>\w+) = c\.(?P=name) \+ (?P<is>1|len|\w+_of(?= {kind}))(?: {kind})?", "is", ";")
+        found = [Entry(name, count, line) for count, of, line in added if of not in ("1", "len")
+                 for name in [name for name, fact, _ in equations(part, of) if fact == "1"] or [of]]
         wanted = [(one.name, one.count) for one in of_kind(tables, kind) if one.count]
         checks.same(inside, record.split()[0], found, wanted, CODES, False)
     part = file(STATISTICS)

@@ -44,13 +44,15 @@ def check_attributes(checks, tables):
         if value and value != one.default:
             checks.faults.append(f"{PARAMETERS}: {one.name} has another standard value as {one.ns3}: {one.ns3_default}")
     part = part.inside(r"^MaltcoveQueueDisc::Words\(\) const")
+    checks.same(part, "the words", printed(part, tables), plain(said_words(tables)), PARAMETERS, False)
+
+
+def printed(part, tables):
+    """The words of parameters in the texts there, each once, without units and choices."""
+    other = {"us", *(word for one in tables.scheduler() for word in one.choices if word not in one.words)}
     found = {word: Entry(word, None, part.line(match.start())) for match in re.finditer(r'"([^"]*)"', part.text)
-             for word in match[1].split() if word in known_words(tables)}
-    checks.same(part, "the words", list(found.values()), plain(said_words(tables)), PARAMETERS, False)
-
-
-def known_words(tables):
-    return {word for one in tables.scheduler() for word in one.words}
+             for word in match[1].split() if "%" not in word and word not in other}
+    return list(found.values())
 
 
 def said_words(tables):
@@ -108,10 +110,8 @@ def check_shape_fates(checks, tables):
 def check_shape_words(checks, tables):
     """The parameters as the router prints them, as tc does: those of Linux are those of Maltcove that Linux has."""
     part = file(OVER_MALTCOVE).body_of_c("maltcove_kind_describe")
-    found = {word: Entry(word, None, part.line(match.start())) for match in re.finditer(r'"([^"]*)"', part.text)
-             for word in match[1].split() if word in known_words(tables)}
-    checks.same(part, "the words", list(found.values()), plain(word for word in said_words(tables) if word != "noecn"),
-                PARAMETERS, False)
+    wanted = plain(word for word in said_words(tables) if word != "noecn")
+    checks.same(part, "the words", printed(part, tables), wanted, PARAMETERS, False)
     used = {name: Entry(name, None, part.line()) for name in re.findall(r"params\.(\w+)", part.text)}
     wanted = [name for one in tables.scheduler() for name in ([f"has_{one.c}"] if one.is_optional else []) + [one.c]]
     checks.same(part, "the parameters", list(used.values()), plain(wanted), PARAMETERS, False)

@@ -36,13 +36,14 @@ def parameter_row(table, cells, one):
     first = (default_of(table, cells).split() or [""])[0].strip("`*,;")
     default = first if number(first, one.unit) is None else number(first, one.unit)
     others = [cell for cell in cells if cell != default_of(table, cells)]
-    words = [word for cell in others for span in CODE.findall(cell) for word in span.split()]
+    spans = [span for cell in others for span in CODE.findall(cell)] or others
+    words = [word for span in spans for word in re.findall(r"\w+", span)]
     choices = None if one.is_ranged else tuple(word for word in one.choices if word in words)
     return (said[0][:2] if said else None, other, default, choices)
 
 
 def check_parameters(checks, tables):
-    """The parameters of the scheduler on the pages that list them."""
+    """The parameters of the scheduler on the pages that list them. RULES has them in the order of the tests."""
     known = {word: one for one in tables.scheduler() for word in one.words}
     for page in (FORMATS, RULES):
         part = file(page)
@@ -55,7 +56,7 @@ def check_parameters(checks, tables):
                                parameter_row(table, cells, one) if is_known else None, line))
         wanted = [(one.name, (one.range if one.is_ranged else None, None, one.default, tuple(one.choices) or None))
                   for one in tables.scheduler()]
-        checks.same(part, "the table of parameters", found, wanted, PARAMETERS)
+        checks.same(part, "the table of parameters", found, wanted, PARAMETERS, page == RULES)
 
 
 def listed(part, names, own=()):
@@ -91,7 +92,7 @@ def check_rows(checks, tables):
     for first, gap, wanted in (("totals", ",", totals_names(tables)),
                                ("tuple", ",", [*TUPLE, *(name.upper() for name in tuple_counts(tables))]),
                                ("monitor I", " ", ["EVENTS", *monitor_counts(tables)])):
-        shown = list(re.finditer(rf"`{first}{gap}([A-Z_]+(?:{gap}[A-Z_]+)+)`", part.text))
+        shown = list(re.finditer(rf"`{first}{gap}([^`{gap}]+(?:{gap}[^`{gap}]+)+)`", part.text))
         for match in shown or [None]:
             names = match[1].split(gap) if match else []
             found = [Entry(name, None, part.line(match.start())) for name in names]

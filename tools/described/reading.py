@@ -201,9 +201,9 @@ def page_tables(part):
 
 
 def named(cell):
-    """The names in a cell: the first word of what stands between backticks, or the first word of all."""
-    spans = CODE.findall(cell) or [cell.strip("*")]
-    return [span.split()[0].rstrip(",;:") for span in spans if span.split()]
+    """The names in a cell: the first words of what stands between backticks, or else of what commas and `or` part."""
+    spans = CODE.findall(cell) or re.split(r",| or | and ", re.sub(r"\([^)]*\)", "", cell))
+    return [span.split()[0].strip("*") for span in spans if span.split()]
 
 
 def table_of(part, names):
