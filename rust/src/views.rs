@@ -4,6 +4,8 @@ use crate::sys;
 
 /// What became of all packets so far. Lengths are in bytes. The accepted packets are those that were sent, dropped or
 /// flushed, and those that wait.
+// It is the record that C writes, field by field.
+#[repr(C)]
 #[derive(Clone, Copy, Debug, PartialEq, Eq, Hash, Default)]
 pub struct Totals {
     /// Packets accepted.
@@ -34,27 +36,6 @@ pub struct Totals {
     pub queued_bytes: u64,
     /// Whether there was a close.
     pub closed: bool,
-}
-
-impl Totals {
-    pub(crate) fn of(t: &sys::Totals) -> Totals {
-        Totals {
-            accepted: t.accepted,
-            accepted_bytes: t.accepted_bytes,
-            sent: t.sent,
-            sent_bytes: t.sent_bytes,
-            dropped_codel: t.dropped_codel,
-            dropped_overflow: t.dropped_overflow,
-            dropped_bytes: t.dropped_bytes,
-            flushed: t.flushed,
-            flushed_bytes: t.flushed_bytes,
-            marked: t.marked,
-            threshold_marked: t.threshold_marked,
-            queued: t.queued,
-            queued_bytes: t.queued_bytes,
-            closed: t.closed,
-        }
-    }
 }
 
 /// What is kept of a flow. Moments are in microseconds.

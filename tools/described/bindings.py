@@ -119,7 +119,7 @@ def rust_type(one):
 
 
 def check_rust(checks, tables):
-    """The structs of Rust, and the copies between those of C and those of Rust."""
+    """The structs of Rust, and what the parameters are of C's. That of the statistics is C's own."""
     views = file(VIEWS)
     wanted = [(one.name, (rust_type(one), one.text)) for one in tables.scheduler()]
     checks.same(views, "Params", fields(views, "Params"), wanted, PARAMETERS)
@@ -128,9 +128,7 @@ def check_rust(checks, tables):
     checks.same(inside, "Params::of", found, [(one.name, rust_value(one)) for one in tables.scheduler()], PARAMETERS)
     wanted = [(one.name, (one.type, one.text)) for one in tables.counts]
     checks.same(views, "Totals", fields(views, "Totals"), wanted, COUNTS)
-    inside = views.inside(r"^impl Totals ").body("of").inside(r"Totals(?= \{)")
-    found = inside.entries(r"(?P<name>\w+): t\.(?P<of>\w+)", "of")
-    checks.same(inside, "Totals::of", found, [(one.name, one.name) for one in tables.counts], COUNTS)
+    views.after(r"^#\[repr\(C\)\]\n#\[derive\([^)]*\)\]\n(?=pub struct Totals \{)")
 
 
 def rust_value(one):
@@ -186,11 +184,10 @@ def check_python(checks, tables):
 def check_python_totals(checks, tables):
     """The statistics of C in Python, what callers are shown, and the causes and marks."""
     part = file(PYTHON)
-    inside = part.after(r"^class _Totals\(ctypes\.Structure\):\n").until(r"\n\n\n")
-    found = inside.matches(r'"(?P<name>\w+)"')
-    checks.same(inside, "_Totals", found, plain(one.name for one in tables.counts), COUNTS)
-    if [one.name for one in tables.counts if one.type != "u64"] != ["closed"] or 'c_uint64)' not in inside.text:
-        raise Unclear(f"{inside.where()}: all numbers but closed are read there as 64 bits, which {COUNTS} doesn't say")
+    made = part.after(r"^class _Totals\(ctypes\.Structure\):\n").until(r"\n\n\n")
+    last = "(name, ctypes.c_uint64) for name in Totals._fields[:-1]] + [(Totals._fields[-1], ctypes.c_bool)]"
+    if [one.type != "u64" for one in tables.counts].index(True) != len(tables.counts) - 1 or last not in made.text:
+        raise Unclear(f"{made.where()}: all numbers but the last are read as 64 bits, which isn't so in {COUNTS}")
     inside, found = python_fields(part, "Totals")
     wanted = [(one.name, "bool" if one.type == "bool" else "int") for one in tables.counts]
     checks.same(inside, "Totals", found, wanted, COUNTS)

@@ -2,7 +2,7 @@
 and `.ci/c-declarations` compare those of the header and of crates/maltcove_c."""
 import re
 
-from described.bindings import (C_TYPES, HEADER, LAYOUT, PYTHON, SYS, record_of_params, record_of_totals,
+from described.bindings import (C_TYPES, HEADER, LAYOUT, PYTHON, SYS, VIEWS, record_of_params, record_of_totals,
                                 struct_of_c)
 from described.reading import Entry, as_number, fields, file, only_types
 
@@ -38,20 +38,20 @@ def rust_type(text):
 
 
 def check_rust(checks, tables):
-    """The records of C in Rust."""
-    part = file(SYS)
+    """The records of C in Rust. That of the statistics is what callers are shown."""
     for name, wanted in structs(tables).items():
+        part = file(VIEWS if name == "maltcove_totals_t" else SYS)
         found = [Entry(field, rust_type(kind), line) for field, kind, line in only_types(fields(part, short(name)))]
-        checks.same(part, f"sys::{short(name)}", found, wanted, HEADER)
+        checks.same(part, f"the record {short(name)}", found, wanted, HEADER)
 
 
 def check_python(checks, tables):
-    """The records of C in Python, but for the statistics, of which the numbers are listed by their names alone."""
+    """The records of C in Python. That of the statistics is made of what callers are shown (`bindings`)."""
     part = file(PYTHON)
     for name, wanted in structs(tables).items():
-        inside = part.after(rf"^class _{short(name)}\(ctypes\.Structure\):\n").until(r"\n\n\n")
-        found = inside.matches(r'\("(?P<name>\w+)", ctypes\.c_(?P<type>\w+)(?: \* (?P<many>\d+))?\)', python_type)
         if name != "maltcove_totals_t":
+            inside = part.after(rf"^class _{short(name)}\(ctypes\.Structure\):\n").until(r"\n\n\n")
+            found = inside.matches(r'\("(?P<name>\w+)", ctypes\.c_(?P<type>\w+)(?: \* (?P<many>\d+))?\)', python_type)
             checks.same(inside, f"_{short(name)}", found, wanted, HEADER)
 
 
