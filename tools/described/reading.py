@@ -187,11 +187,16 @@ class Table(typing.NamedTuple):
 
 
 def page_tables(part):
-    """The tables of a page."""
-    found, before = [], None
+    """The tables of a page. Lines of a code block are one, too: two spaces or more part their cells."""
+    found, before, is_code = [], None, False
     for place, line in enumerate(part.text.split("\n"), 1):
-        is_row = line.strip()[:1] == "|"
-        cells = [cell.strip() for cell in re.split(r"(?<!\\)\|", line.strip())[1:-1]] if is_row else None
+        is_fence, text = line.lstrip()[:3] == "```", line.strip()
+        is_code ^= is_fence
+        cells = None
+        if is_code and text and not is_fence:
+            cells = re.split(r" {2,}", text)
+        elif text[:1] == "|":
+            cells = [cell.strip() for cell in re.split(r"(?<!\\)\|", text)[1:-1]]
         if cells and before is None:
             found.append(Table(cells, []))
         elif cells and not all(re.fullmatch(r":?-+:?", cell) for cell in cells):
@@ -202,15 +207,16 @@ def page_tables(part):
 
 def named(cell):
     """The names in a cell: the first words of what stands between backticks, or else of what commas and `or` part."""
-    spans = CODE.findall(cell) or re.split(r",| or | and ", re.sub(r"\([^)]*\)", "", cell))
+    spans = CODE.findall(cell) or re.split(r",| or | and | \| ", re.sub(r"\([^)]*\)", "", cell))
     return [span.split()[0].strip("*") for span in spans if span.split()]
 
 
+def share(table, names):
+    """How many of these names a table has in its first column."""
+    return len({name for cells, _ in table.rows for name in named(cells[0])} & set(names))
+
+
 def table_of(part, names):
-    """The table of a page that has most of these names in its first column."""
-    def share(table):
-        return len({name for cells, _ in table.rows for name in named(cells[0])} & set(names))
-    best = max(page_tables(part), key=share, default=None)
-    if best is None or share(best) < 2:
-        raise Unclear(f"{part.path.relative_to(TOP)}: no table has {', '.join(names)} in its first column")
-    return best
+    """The table of a page that has most of these names in its first column, and at least half of them."""
+    best = max(page_tables(part), key=lambda table: share(table, names), default=None)
+    return best if best and 2 * share(best, names) >= len(names) else None
