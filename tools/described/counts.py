@@ -173,7 +173,8 @@ def check_counting(checks, tables):
     part = file(BOOKS)
     for kind, record in (("cause", "count_dropped c len cause"), ("mark", "count_sent c len mark")):
         inside = part.inside(rf"^{record} = record c")
-        added = inside.entries(rf"(?P<name>\w+) = c\.(?P=name) \+ (?P<is>1|len|\w+_of(?= {kind}))(?: {kind})?", "is", ";")
+        sum_of = rf"(?P<name>\w+) = c\.(?P=name) \+ (?P<is>1|len|\w+_of(?= {kind}))(?: {kind})?"
+        added = inside.entries(sum_of, "is", ";")
         found = [Entry(name, count, line) for count, of, line in added if of not in ("1", "len")
                  for name in [name for name, fact, _ in equations(part, of) if fact == "1"] or [of]]
         wanted = [(one.name, one.count) for one in of_kind(tables, kind) if one.count]
