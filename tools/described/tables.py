@@ -14,6 +14,12 @@ UNITS = {"": {}, "packets": {"p": 1, " packets": 1}, "flows": {}, "bytes": {**BY
          "microseconds": {**MICROSECONDS, " microseconds": 1}, "bits a second": BITS}
 
 
+# What stands in a column that has few words.
+WORDS = {"parameters": {"of": ("scheduler", "link", "fqsim"), "unit": tuple(UNITS)},
+         "counts": {"journal": ("counted", "derived", ""), "unit": ("packets", "bytes", ""), "type": ("u64", "bool")},
+         "codes": {"of": ("cause", "mark")}, "columns": {"table": ("flows", "packets", "series")}}
+
+
 class Unclear(Exception):
     """Something that can't be read: where, what was found, and what is wanted."""
 
@@ -144,6 +150,10 @@ def rows(name, kind, numbers):
                 if not re.fullmatch(r"\d*", values[one]):
                     raise Unclear(f"{where}: {one} is {values[one]!r}, and digits are wanted, or nothing")
                 values[one] = int(values[one]) if values[one] else None
+            for one, words in WORDS[name.removesuffix(".csv")].items():
+                if values[one] not in words:
+                    wanted = ", ".join(word or "nothing" for word in words)
+                    raise Unclear(f"{where}: {one} is {values[one]!r}, and one of these is wanted: {wanted}")
             found.append(kind(**values))
     return found
 
