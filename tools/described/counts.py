@@ -3,12 +3,15 @@ import re
 
 from described.comparing import CODES, COUNTS, plain
 from described.reading import Entry, as_number, equations, fields, file, only_names, only_types, variants
+from described.tables import TOP
 
 TOTALS, JOURNAL = "crates/journal_core/src/totals.rt", "crates/journal_core/src/journal.rt"
 STATISTICS, BOOKS = "crates/journal_core/specs/Statistics.antt", "crates/journal_core/specs/Books.antt"
 HISTORY = "crates/journal_core/specs/History.antt"
 DISC, DISC_SPEC = "crates/queue_disc_core/src/totals.rt", "crates/queue_disc_core/specs/QueueDiscTotals.antt"
 RECORDS, RECORDS_SPEC = "crates/maltcove_c/src/records.rt", "crates/maltcove_c/specs/Records.antt"
+PACKETS, PACKETS_SPEC = "crates/link_report/src/packets.rt", "crates/link_report/specs/Packets.antt"
+SOURCES = (".rt", ".antt", ".md", ".h", ".c", ".cc")
 LITERAL, SPEC_LITERAL = r"(?P<name>\w+)(?:: .+)?", r"(?P<name>\w+) = .+"
 
 
@@ -189,5 +192,30 @@ def check_counting(checks, tables):
             checks.same(part, function, found, wanted, CODES)
 
 
+def check_fates(checks, tables):
+    """By which fate of a packet a table counts it for a cause."""
+    part, spec, causes = file(PACKETS), file(PACKETS_SPEC), of_kind(tables, "cause")
+    for code in causes:
+        arms = part.body(f"is_{code.word}_drop")
+        found = arms.matches(r"cause: Cause::(?P<name>\w+),\s+\.\.\s+\} => (?P<is>\w+)", "is")
+        checks.same(arms, f"is_{code.word}_drop", found, [(code.name, "true")], CODES)
+        found = spec.matches(rf"^is_{code.word} \(Dropped at (?P<name>\w+)\) = (?P<is>\w+)$", "is")
+        wanted = [(one.name, "true" if one == code else "false") for one in causes]
+        checks.same(spec, f"is_{code.word}", found, wanted, CODES)
+
+
+def check_sums(checks, tables):
+    """The sums of drops, in clauses, code and proofs: where the first cause is added to other counts, all causes are."""
+    causes, counts = [one.count for one in of_kind(tables, "cause")], [one.name for one in tables.counts]
+    folders = ("crates/*/src", "crates/*/specs", "crates/*/proofs", "crates/maltcove", "c", "ns3", "examples-c/shape")
+    for path in sorted({path for folder in folders for path in TOP.glob(f"{folder}/**/*") if path.suffix in SOURCES}):
+        part = file(str(path.relative_to(TOP)))
+        for match in re.finditer(rf"\b{causes[0]}\s*\+[^;,}}≡×]*", part.text):
+            names = [name for name in dict.fromkeys(re.findall(r"\w+", match[0])) if name in counts]
+            found = [Entry(name, None, part.line(match.start())) for name in names if name in causes]
+            if len(names) > 1:
+                checks.same(part, "the sum of drops", found, plain(causes), CODES)
+
+
 CHECKS = [check_journal, check_journal_copies, check_definitions, check_disc, check_flushed, check_records, check_codes,
-          check_counting]
+          check_counting, check_fates, check_sums]

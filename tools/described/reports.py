@@ -10,6 +10,7 @@ from described.tables import Unclear
 REPORT, REPORT_SPEC = "crates/trace_core/src/report.rt", "crates/trace_core/specs/Report.antt"
 TUPLES = "crates/journal_core/src/tuple_rows.rt"
 SUMMARY, DIGITS_SPEC = "crates/link_report/src/summary.rt", "crates/link_report/specs/SummaryFields.antt"
+SUMMARIES_SPEC = "crates/link_report/specs/Summaries.antt"
 FLOWS, FLOWS_SPEC = "crates/link_report/src/flows.rt", "crates/link_report/specs/FlowTables.antt"
 HEADERS = [("flows", FLOWS, FLOWS_SPEC),
            ("packets", "crates/link_report/src/packet_rows.rt", "crates/link_report/specs/PacketTables.antt"),
@@ -147,6 +148,8 @@ def check_summary(checks, tables):
     checks.same(part, "Delays", only_names(fields(part, "Delays")), plain(delays), COLUMNS, False)
     inside = part.body("summarize").inside(r"Ok\(Summary(?= \{)")
     checks.same(inside, "summarize", inside.names(r"(?P<name>\w+)(?:: .+)?"), whole, COLUMNS)
+    inside = file(SUMMARIES_SPEC).inside(r"^summary_of span packets = record")
+    checks.same(inside, "summary_of", inside.names(r"(?P<name>\w+) = .+", ";"), whole, COLUMNS)
     for path, definition, letter in ((FLOWS_SPEC, "summary_fields s", "s"), (DIGITS_SPEC, "listed d", "d")):
         part = file(path).after(rf"^{definition} =").until(r"\n\n|\Z")
         checks.same(part, definition.split()[0], part.matches(rf"\b{letter}\.(?P<name>\w+)"), whole, COLUMNS)
