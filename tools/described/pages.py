@@ -1,6 +1,6 @@
 """The pages that list parameters, statistics and columns. A row is found by the name in its first cell, in the table of
 the page that has most of the names. A table may stand in a code block, and have other columns and other words. FORMATS
-and the page of the queue disc for ns-3 have to list what they are of. Whichever other page lists half of it lists all."""
+and the page of the queue disc for ns-3 have to list what they are of. Any other page that lists half of it lists all."""
 import re
 
 from described.comparing import CODES, COLUMNS, COUNTS, PARAMETERS, plain
@@ -10,6 +10,7 @@ from described.reports import TUPLE, monitor_counts, totals_names, tuple_counts
 from described.tables import TOP, Unclear, number
 
 FORMATS, NS3, SHAPE = "docs/FORMATS.md", "ns3/README.md", "examples-c/shape/README.md"
+PAGES = ("*.md", "docs/*.md", "*/README.md", "crates/*/README.md", "examples-c/*/README.md")
 RANGE = re.compile(r"(?:from )?(\d[\d,^]*) (?:to|–|-) (\d[\d,^]*)( - 1)?(?: (packets|flows|bytes|microseconds))?")
 DEFAULT = re.compile(r"default|standard|isn't said|not said|not given|left out", re.I)
 # The words by which a page may say of which kind a value is.
@@ -18,8 +19,7 @@ KINDS = {**{unit: unit for unit in ("packets", "flows", "bytes", "microseconds")
 
 def pages():
     """All pages, by their names."""
-    found = [*TOP.glob("*.md"), *TOP.glob("docs/*.md"), *TOP.glob("*/README.md"), *TOP.glob("*/*/README.md")]
-    return sorted(str(path.relative_to(TOP)) for path in found)
+    return sorted(str(path.relative_to(TOP)) for files in PAGES for path in TOP.glob(files))
 
 
 def ranges(cells):
