@@ -47,7 +47,7 @@ def rattle_value(name, of_c):
         return f"{one.name}().is_some()"
     if one.is_optional:
         return f"{one.name}().unwrap_or(0)"
-    return f"{one.name}()" if one.is_ranged else f"{one.name}() == {one.type}::{CHOSEN[one.name][one.default]}"
+    return f"{one.name}()" if one.is_ranged else f"{one.name}() == {one.type}::{CHOSEN[one.name][one.choices[0]]}"
 
 
 def struct_of_c(part, name):

@@ -13,7 +13,8 @@ RECORDS, RECORDS_SPEC = "crates/maltcove_c/src/records.rt", "crates/maltcove_c/s
 PACKETS, PACKETS_SPEC = "crates/link_report/src/packets.rt", "crates/link_report/specs/Packets.antt"
 # The files that may add up drops. Other checks of the gate write into folders for builds, so these aren't among them.
 SUMMED = ("crates/*/src/*.rt", "crates/*/specs/*.antt", "crates/*/proofs/**/*.antt", "crates/*/README.md", "c/*.h",
-          "c/*/*.c", "ns3/*.cc", "examples-c/shape/*.[ch]", "examples-c/shape/tests/*.c")
+          "c/bench/*.c", "c/examples/*.c", "c/tests/*.c", "ns3/*.cc", "examples-c/shape/*.[ch]",
+          "examples-c/shape/tests/*.c")
 LITERAL, SPEC_LITERAL = r"(?P<name>\w+)(?:: .+)?", r"(?P<name>\w+) = .+"
 
 

@@ -1,6 +1,6 @@
 """The pages that list parameters, statistics and columns. A row is found by the name in its first cell, in the table of
-the page that has most of the names. A table may stand in a code block, and have other columns and other words. FORMATS
-and the page of the queue disc for ns-3 have to list what they are of. Any other page that lists half of it lists all."""
+the page that has most of the names. A table may be in a code block, and have other columns and other words. FORMATS and
+the page of the queue disc for ns-3 have to list everything. Any other page that lists half of it has to list all."""
 import re
 
 from described.comparing import CODES, COLUMNS, COUNTS, PARAMETERS, plain

@@ -8,7 +8,6 @@ from described.tables import Unclear, number
 PARAMS, PARAMS_SPEC = "crates/packet_core/src/params.rt", "crates/packet_core/specs/Params.antt"
 WORDS, WORDS_SPEC = "crates/packet_core/src/words.rt", "crates/packet_core/specs/Words.antt"
 PLAIN, PLAIN_SPEC = "crates/link_command/src/plain.rt", "crates/link_command/specs/PlainWords.antt"
-TESTS = "crates/test_parts/src/parameters.rt"
 # What tc prints after a value: `maltlink` reads it there.
 KINDS = {"packets": "Packets", "bytes": "Bytes", "microseconds": "Time"}
 # The variants that stand for what is no number.
@@ -208,31 +207,5 @@ def check_pasted(checks, tables):
     checks.same(part, "form_of", [one for one in found if one.name], wanted, PARAMETERS)
 
 
-def check_tests(checks, tables):
-    """The tests of words and ranges: each parameter, both ends of its range, and what is just beyond them."""
-    part, ranged = file(TESTS), tables.ranged()
-    quoted = r'"(?P<name>\w+)"'
-    lists = [("RANGED", [one.name for one in ranged]),
-             ("WHOLE", [one.name for one in ranged if one.unit != "microseconds"])]
-    for name, wanted in lists:
-        inside = part.inside(rf"^const {name}: [^=]*= ", "[")
-        checks.same(inside, name, inside.entries(quoted), plain(wanted), PARAMETERS)
-    inside = part.inside(r"^pub\(crate\) const STANDARD: ParamFields = ParamFields")
-    found = inside.entries(r"(?P<name>\w+): (?P<value>.+)", lambda match, item: as_set(match["value"]))
-    checks.same(inside, "STANDARD", found, [(one.name, set_to(one)) for one in tables.scheduler()], PARAMETERS)
-    inside = part.inside(r"^const NAMES: [^=]*= ", "[")
-    found = inside.entries(r'\(ParamName::(?P<name>\w+), "(?P<word>\w+)"\)', "word")
-    checks.same(inside, "NAMES", found, [(one.variant, one.name) for one in ranged], PARAMETERS)
-    ends = [(f"{one.name} {value}", None) for one in ranged for value in one.range]
-    beyond = [(f"{one.name} {value}", None) for one in ranged
-              for value in (one.least - 1, one.greatest + 1) if value >= 0]
-    for name, wanted in (("ENDS", ends), ("BEYOND", beyond)):
-        inside = part.inside(rf"^const {name}: [^=]*= ", "[")
-        found = inside.entries(r'\["(?P<name>\w+", "\w+)"\]')
-        tried = [Entry(entry.name.replace('", "', " "), None, entry.line) for entry in found]
-        listed = [entry for entry in tried if entry.name in dict(wanted)]
-        checks.same(inside, name, listed, wanted, PARAMETERS)
-
-
 CHECKS = [check_names, check_defaults, check_ranges, check_range_clauses, check_accessors, check_setting, check_words,
-          check_values, check_pasted, check_tests]
+          check_values, check_pasted]
