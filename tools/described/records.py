@@ -1,9 +1,11 @@
-"""The records of C wherever they are declared again: in Rust, in Python and in the tests of their layout. `bindings`
-and `.ci/c-declarations` compare those of the header and of crates/maltcove_c."""
+"""The records of C wherever they are declared again: in crates/maltcove_c, in Rust, in Python and in the tests of their
+layout. `bindings` compares those of the parameters and the statistics with the tables."""
 import re
 
 from described.bindings import (C_TYPES, HEADER, LAYOUT, PYTHON, SYS, VIEWS, record_of_params, record_of_totals,
                                 struct_of_c)
+from described.comparing import plain
+from described.counts import RECORDS
 from described.reading import Entry, as_number, fields, file, only_types
 
 OF_RUST = {**C_TYPES, "u16": "uint16_t", "u8": "uint8_t", "i32": "int32_t", "i64": "int64_t", "*mut c_void": "void"}
@@ -35,6 +37,17 @@ def short(name):
 def rust_type(text):
     array = re.fullmatch(r"\[(\w+); (\d+)\]", text)
     return (OF_RUST.get(array[1], array[1]), int(array[2])) if array else (OF_RUST.get(text, text), 1)
+
+
+def check_rattle(checks, tables):
+    """The records of crates/maltcove_c, each with its struct in the header. The handle isn't one of them."""
+    part = file(RECORDS)
+    records = {f"Maltcove{short(name)}": fields_of for name, fields_of in structs(tables).items() if name != "maltcove"}
+    found = part.matches(r"^#\[repr\(C\)\]\n(?:#\[[^\n]*\n)*pub struct (?P<name>\w+)", each=r"^#\[repr\(C\)\]$")
+    checks.same(part, "the records", found, plain(records), HEADER, False)
+    for name, wanted in records.items():
+        found = [Entry(field, rust_type(kind), line) for field, kind, line in only_types(fields(part, name))]
+        checks.same(part, name, found, wanted, HEADER)
 
 
 def check_rust(checks, tables):
@@ -93,4 +106,4 @@ def check_sizes(checks, tables):
     checks.same(part, "the sizes", found, list(wanted.items()), HEADER, False)
 
 
-CHECKS = [check_rust, check_python, check_layout, check_sizes]
+CHECKS = [check_rattle, check_rust, check_python, check_layout, check_sizes]
