@@ -219,5 +219,20 @@ def check_sums(checks, tables):
                 checks.same(part, "the sum of drops", found, plain(causes), CODES)
 
 
+def check_cases(checks, tables):
+    """What has several cases by a cause or a mark has one for each. A proof may leave out marks that can't be."""
+    for kind, files in (("cause", "crates/*/specs/*.antt"), ("cause", "crates/*/proofs/**/*.antt"),
+                        ("mark", "crates/*/specs/*.antt")):
+        codes = [one.name for one in of_kind(tables, kind)]
+        case = re.compile(rf"^ *(\w+) [^=\n]*?\b({'|'.join(codes)})\b[^=\n:]*= ", re.M)
+        for path in sorted(TOP.glob(files)):
+            part, cases = file(str(path.relative_to(TOP))), {}
+            for match in case.finditer(part.text):
+                cases.setdefault(match[1], {})[match[2]] = Entry(match[2], None, part.line(match.start()))
+            for name, found in cases.items():
+                if len(found) > 1:
+                    checks.same(part, f"the cases of {name}", list(found.values()), plain(codes), CODES)
+
+
 CHECKS = [check_journal, check_journal_copies, check_definitions, check_disc, check_flushed, check_records, check_codes,
-          check_counting, check_fates, check_sums]
+          check_counting, check_fates, check_sums, check_cases]

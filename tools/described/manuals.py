@@ -6,6 +6,7 @@ from described.reading import Entry, as_number, equations, fields, file, variant
 from described.tables import TOP, Unclear, number
 
 FQSIM, MALTLINK = "crates/command_core/src/manual.rt", "crates/link_command/src/manual.rt"
+FQSIM_SHOWN, LOCKED_SHOWN = ".ci/help/trace-long.txt", ".ci/help/locked-long.txt"
 COMMAND = "crates/command_core/src/command_line.rt"
 VALUES, VALUES_SPEC = "crates/link_command/src/values.rt", "crates/link_command/specs/Values.antt"
 
@@ -38,8 +39,8 @@ def help_rows(part, tables):
 
 
 def check_help(checks, tables):
-    """The parameters in the help of both programs."""
-    for path, has_text in ((FQSIM, True), (MALTLINK, False)):
+    """The parameters in the help of both programs, and in what `.ci/cli-table` compares it with."""
+    for path, has_text in ((FQSIM, True), (FQSIM_SHOWN, True), (MALTLINK, False), (".ci/help/maltlink.txt", False)):
         part, found = help_rows(file(path), tables)
         wanted = [(one.name, (one.form, one.least, one.greatest, one.default, one.help if has_text else ""))
                   for one in tables.scheduler()]

@@ -3,7 +3,7 @@ import re
 
 from described.comparing import CODES, COLUMNS, COUNTS, plain
 from described.counts import of_journal, of_kind
-from described.manuals import FQSIM
+from described.manuals import FQSIM, FQSIM_SHOWN, LOCKED_SHOWN, MALTLINK
 from described.reading import Entry, fields, file, only_names, only_types
 from described.tables import Unclear
 
@@ -57,8 +57,9 @@ def check_totals_row(checks, tables):
     checks.same(part, "the digits of totals", found, copied, COUNTS)
     part = file(REPORT_SPEC).after(r"^totals_row t =").until(r"\n\n")
     checks.same(part, "totals_row", part.matches(r"t\.(?P<name>\w+)"), wanted, COUNTS)
-    part, found = shown_row(file(FQSIM), "totals", r"\n {10}")
-    checks.same(part, "the row totals", found, plain(totals_names(tables)), COUNTS)
+    for path in (FQSIM, FQSIM_SHOWN):
+        part, found = shown_row(file(path), "totals", r"\n {10}")
+        checks.same(part, "the row totals", found, plain(totals_names(tables)), COUNTS)
     part = file("c/tests/report.c").after(r'printf\("totals,').until(r"^\}")
     checks.same(part, "the row totals", part.matches(r"\bt\.(?P<name>\w+)"), wanted, COUNTS)
 
@@ -76,8 +77,9 @@ def check_tuple_row(checks, tables):
     part = file(REPORT_SPEC).after(r"^tuple_row row =").until(r"\n\n")
     found = part.matches(r"row\.(?:tuple\.)?(?P<name>\w+)")
     checks.same(part, "tuple_row", [Entry(name.upper(), None, line) for name, _, line in found], all_names, COUNTS)
-    part, found = shown_row(file(FQSIM), "tuple", r"\n {10}")
-    checks.same(part, "the row tuple", found, all_names, COUNTS)
+    for path in (FQSIM, FQSIM_SHOWN):
+        part, found = shown_row(file(path), "tuple", r"\n {10}")
+        checks.same(part, "the row tuple", found, all_names, COUNTS)
 
 
 def check_monitor_line(checks, tables):
@@ -111,9 +113,13 @@ def check_drop_rows(checks, tables):
         inside = part.after(rf"^pub const {what}: ").until(r'";$')
         found = inside.matches(r"^  dropped,ID,(?P<name>\w+) ")
         checks.same(inside, f"the rows of drops in {what}", found, causes, CODES, False)
-    part = file("crates/link_command/src/manual.rt").after(r"^    packets\n").until(r"^    series\n")
-    found = part.matches(r"'(?P<name>\w+)'")
-    checks.same(part, "the fates", found, plain(["sent", *dict(causes)]), CODES)
+    for path in (FQSIM_SHOWN, LOCKED_SHOWN):
+        part = file(path)
+        checks.same(part, "the rows of drops", part.matches(r"^  dropped,ID,(?P<name>\w+) "), causes, CODES, False)
+    for path in (MALTLINK, ".ci/help/maltlink.txt"):
+        part = file(path).after(r"^    packets\n").until(r"^    series\n")
+        found = part.matches(r"'(?P<name>\w+)'")
+        checks.same(part, "the fates", found, plain(["sent", *dict(causes)]), CODES)
 
 
 def check_headers(checks, tables):

@@ -5,7 +5,7 @@ from described.bindings import record_of_params
 from described.comparing import COUNTS, PARAMETERS, plain
 from described.parameters import as_set, set_to
 from described.reading import Entry, file
-from described.tables import number
+from described.tables import TOP, number
 
 CALLS = "c/tests/calls.c"
 
@@ -85,4 +85,27 @@ def ends_of(match, tables):
     return tuple(number(end, unit) for end in match["is"].split(" to ")) if match["is"] else None
 
 
-CHECKS = [check_words, check_calls, check_ends, check_help]
+# The literals of tests: where they are, how they begin, what follows a field's name, and whose fields they have.
+LITERALS = [("crates/test_*/src/*.rt", r"\bTotals \{", ":", "journal"),
+            ("crates/test_*/proofs/*.antt", r"≡ record \{(?= accepted)", " =", "journal"),
+            ("rust/tests/*.rs", r"\bTotals \{", ":", "counts"), ("python/test_*.py", r"\bTotals\(", "=", "counts"),
+            ("crates/test_*/src/*.rt", r"\bParamFields \{", ":", "parameters"),
+            ("rust/tests/*.rs", r"\bParams \{", ":", "parameters"), ("python/test_*.py", r"\bParams\(", "=", "c")]
+
+
+def check_literals(checks, tables):
+    """The literals of parameters and statistics in tests: each has all fields, unless it takes the rest of another."""
+    wanted = {"journal": [one.name for one in tables.counts if one.journal], "c": [one.c for one in tables.scheduler()],
+              "counts": [one.name for one in tables.counts], "parameters": [one.name for one in tables.scheduler()]}
+    for files, begin, behind, whose in LITERALS:
+        literal = re.compile(rf"{begin}((?:[^(){{}}]|\([^()]*\))*)[}})]")
+        for part in (file(str(path.relative_to(TOP))) for path in sorted(TOP.glob(files))):
+            for match in literal.finditer(part.text):
+                line = part.line(match.start())
+                found = [Entry(name, None, line) for name in re.findall(rf"\b(\w+){behind}(?!:)", match[1])]
+                if found and ".." not in match[1]:
+                    table = PARAMETERS if whose in ("parameters", "c") else COUNTS
+                    checks.same(part, "a literal", found, plain(wanted[whose]), table, False)
+
+
+CHECKS = [check_words, check_calls, check_ends, check_help, check_literals]
