@@ -84,6 +84,25 @@ def laid_out(listed):
     return places, -(-place // widest) * widest
 
 
+def written_layout(tables):
+    """What the tests of the layout have between two comments."""
+    structs_of_c = []
+    for name, listed in structs(tables).items():
+        places, size = laid_out(listed)
+        structs_of_c.append("\n".join([f"HOLDS(sizeof({name}) == {size});",
+                                       *(f"STANDS({name}, {field}, {place});" for field, place in places)]))
+    return "\n\n".join(structs_of_c) + "\n"
+
+
+def write_layout(tables):
+    """Puts it there."""
+    part = file(LAYOUT)
+    begin = part.after(r"^/\* written by tools/tables --write \*/\n")
+    old = begin.until(r"^/\* end of what tools/tables wrote \*/\n")
+    text = part.text[:old.start] + written_layout(tables) + part.text[old.start + len(old.text):]
+    part.path.write_text(text, encoding="utf-8")
+
+
 def check_layout(checks, tables):
     """The places of all fields in C, as its tests have them, and the sizes."""
     part = file(LAYOUT)
