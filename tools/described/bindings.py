@@ -91,7 +91,7 @@ def check_header(checks, tables):
 
 
 def check_words(checks, tables):
-    """The words of maltcove_open, with their ranges and standard values."""
+    """The words of maltcove_open, with their ranges and defaults."""
     part = file(HEADER).after(r"^ \* words are those of tc-fq_codel").until(r"^ \* A time is")
     units = {one.name: one.unit for one in tables.scheduler()}
     found = part.matches(r"(?P<name>\w+) (?P<value>[A-Z]+) +(?P<least>\S+) to (?P<greatest>\S+) \((?P<default>\S+)\)",

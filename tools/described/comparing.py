@@ -31,19 +31,19 @@ class Checks:
         for entry in found:
             where = f"{path}:{entry.line}: {what}"
             if entry.name in seen:
-                self.faults.append(f"{where}: {entry.name} stands there twice")
+                self.faults.append(f"{where}: {entry.name} is there twice")
             elif entry.name not in wanted_of:
-                self.faults.append(f"{where}: has {entry.name}, which {table} doesn't have for it")
+                self.faults.append(f"{where}: {entry.name} isn't wanted here ({table})")
             elif entry.fact != wanted_of[entry.name]:
-                self.faults.append(f"{where}: {entry.name} has {said(entry.fact)}, and {table} has "
-                                   f"{said(wanted_of[entry.name])}")
+                facts = f"found {said(entry.fact)}, wanted {said(wanted_of[entry.name])}"
+                self.faults.append(f"{where}: {entry.name}: {facts} ({table})")
             seen[entry.name] = entry.fact
         missing = [name for name, _ in wanted if name not in seen]
         for name in missing:
-            self.faults.append(f"{path}:{first}: {what}: {name} of {table} is missing")
+            self.faults.append(f"{path}:{first}: {what}: {name} is missing ({table})")
         names = [name for name, _ in wanted if name in seen]
         if ordered and not missing and [entry.name for entry in found if entry.name in wanted_of] != names:
-            self.faults.append(f"{path}:{first}: {what}: the order isn't that of {table}: {', '.join(names)}")
+            self.faults.append(f"{path}:{first}: {what}: wanted in this order ({table}): {', '.join(names)}")
         self.compared += len(wanted)
 
 

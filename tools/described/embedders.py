@@ -16,7 +16,7 @@ def of_ns3(tables):
 
 
 def attribute(item):
-    """The name and the standard value of an attribute, and the range of its checker."""
+    """The name and the default of an attribute, and the range of its checker."""
     name, _, value, _, checker = (one.bare() for one in item.items())
     standard = re.fullmatch(r'\w+Value\((?:QueueSize\()?"?(.*?)"?\)*', value)[1]
     ends = re.search(r"\((.+), (.+)\)$", checker)
@@ -42,7 +42,7 @@ def check_attributes(checks, tables):
     for one in of_ns3(tables):
         value = number(one.ns3_default, one.unit) if one.is_ranged else None
         if value and value != one.default:
-            checks.faults.append(f"{PARAMETERS}: {one.name} has another standard value as {one.ns3}: {one.ns3_default}")
+            checks.faults.append(f"{PARAMETERS}: {one.name} has another default as {one.ns3}: {one.ns3_default}")
     part = part.inside(r"^MaltcoveQueueDisc::Words\(\) const")
     checks.same(part, "the words", printed(part, tables), plain(said_words(tables)), PARAMETERS, False)
 

@@ -79,7 +79,7 @@ def check_options(checks, tables):
 
 
 def check_link(checks, tables):
-    """The names, the ranges and the standard values of the link's options in the sources and the definitions."""
+    """The names, the ranges and the defaults of the link's options in the sources and the definitions."""
     options = of_link(tables)
     named = [(one.variant, (one.name, one.short)) for one in options]
     for path, enum, wanted in (("crates/link_core/src/link.rt", "LinkName", named[:-1]),

@@ -91,7 +91,7 @@ def check_link(checks, tables):
 
 
 def check_attributes(checks, tables):
-    """The attributes of the queue disc for ns-3, with the standard values that its page states."""
+    """The attributes of the queue disc for ns-3, with the defaults that its page states."""
     part = file(NS3)
     of_ns3 = {one.ns3: one for one in tables.scheduler() if one.ns3}
     table = table_of(part, of_ns3)
@@ -101,7 +101,7 @@ def check_attributes(checks, tables):
     stated = [Entry(named(cells[0])[0], default_of(table, cells).split()[0].rstrip(":"), line)
               for cells, line in table.rows if len(named(cells[0])) == 1 and named(cells[0])[0] in of_ns3]
     wanted = [(entry.name, of_ns3[entry.name].ns3_default) for entry in stated]
-    checks.same(part, "the standard values", stated, wanted, PARAMETERS)
+    checks.same(part, "the defaults", stated, wanted, PARAMETERS)
 
 
 def check_rows(checks, tables):

@@ -10,7 +10,7 @@ WORDS, WORDS_SPEC = "crates/packet_core/src/words.rt", "crates/packet_core/specs
 PLAIN, PLAIN_SPEC = "crates/link_command/src/plain.rt", "crates/link_command/specs/PlainWords.antt"
 # What tc prints after a value: `maltlink` reads it there.
 KINDS = {"packets": "Packets", "bytes": "Bytes", "microseconds": "Time"}
-# The variants that stand for what is no number.
+# The variants of what is no number.
 CHOSEN = {"ecn": {"ecn": "Mark", "noecn": "Drop"}, "classify": {"hash": "Hash", "dport": "Dport"}}
 
 
@@ -46,14 +46,14 @@ def check_names(checks, tables):
 
 
 def check_defaults(checks, tables):
-    """The standard values."""
+    """The defaults."""
     wanted = [(one.name, set_to(one)) for one in tables.scheduler()]
     part = file(PARAMS).inside(r"^impl ParamFields ").inside(r"^        ParamFields(?= \{)")
     found = part.entries(r"(?P<name>\w+): (?P<value>.+)", lambda match, item: as_set(match["value"]))
-    checks.same(part, "the standard values", found, wanted, PARAMETERS)
+    checks.same(part, "the defaults", found, wanted, PARAMETERS)
     part = file(PARAMS_SPEC).inside(r"^standard_fields =\s+record")
     found = part.entries(r"(?P<name>\w+) = (?P<value>.+)", lambda match, item: as_set(match["value"]), ";")
-    checks.same(part, "the standard values", found, wanted, PARAMETERS)
+    checks.same(part, "the defaults", found, wanted, PARAMETERS)
 
 
 def tested(item):

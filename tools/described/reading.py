@@ -1,4 +1,4 @@
-"""The reading of places: what stands between brackets, in lists, in equations and in the tables of a page."""
+"""The reading of places: what is between brackets, in lists, in equations and in the tables of a page."""
 import re
 import typing
 
@@ -67,14 +67,14 @@ class Part:
         return self.slice(found[0].end(), len(self.text))
 
     def until(self, pattern):
-        """What stands before the first match of a pattern."""
+        """What is before the first match of a pattern."""
         found = re.search(pattern, self.text, re.M)
         if not found:
             raise Unclear(f"{self.where()}: nothing after it matches {pattern!r}")
         return self.slice(0, found.start())
 
     def inside(self, pattern, opening="{"):
-        """What stands between the brackets that open next after the one match of a pattern."""
+        """What is between the brackets that open next after the one match of a pattern."""
         rest = self.after(pattern)
         depth, start = 0, None
         for match in self.pieces.finditer(rest.text):
@@ -175,7 +175,7 @@ def variants(part, name):
 
 
 def equations(part, name):
-    """The equations of a definition by its cases: what stands for its first argument, and what it is then."""
+    """The equations of a definition by its cases: its first argument, and what it is then."""
     return part.matches(rf"^{name} (?!:)(?P<name>\([^)]*\)|\S+)(?P<rest>[^=\n]*)= (?P<is>[^\n]*)$",
                         lambda match: match["is"].strip())
 
@@ -206,7 +206,7 @@ def page_tables(part):
 
 
 def named(cell):
-    """The names in a cell: the first words of what stands between backticks, or else of what commas and `or` part."""
+    """The names in a cell: the first words between backticks, or else of what commas and `or` part."""
     spans = CODE.findall(cell) or re.split(r",| or | and | \| ", re.sub(r"\([^)]*\)", "", cell))
     return [span.split()[0].strip("*") for span in spans if span.split()]
 

@@ -15,7 +15,7 @@ FLOWS, FLOWS_SPEC = "crates/link_report/src/flows.rt", "crates/link_report/specs
 HEADERS = [("flows", FLOWS, FLOWS_SPEC),
            ("packets", "crates/link_report/src/packet_rows.rt", "crates/link_report/specs/PacketTables.antt"),
            ("series", "crates/link_report/src/series.rt", "crates/link_report/specs/SeriesTables.antt")]
-# What stands in a row of a five-tuple before its counts.
+# What a row of a five-tuple has before its counts.
 TUPLE = ["PROTO", "SRC", "DST", "SPORT", "DPORT", "FLOW"]
 
 

@@ -14,7 +14,7 @@ UNITS = {"": {}, "packets": {"p": 1, " packets": 1}, "flows": {}, "bytes": {**BY
          "microseconds": {**MICROSECONDS, " microseconds": 1}, "bits a second": BITS}
 
 
-# What stands in a column that has few words.
+# The words of the columns that have few.
 WORDS = {"parameters": {"of": ("scheduler", "link", "fqsim"), "unit": tuple(UNITS)},
          "counts": {"journal": ("counted", "derived", ""), "unit": ("packets", "bytes", ""), "type": ("u64", "bool")},
          "codes": {"of": ("cause", "mark")}, "columns": {"table": ("flows", "packets", "series")}}
@@ -176,7 +176,7 @@ def renamed(one, **other):
 
 
 class Tables:
-    """All of them. Each name stands once, and what one table says of another is there."""
+    """All of them. Each name is there once, and what one table says of another is there."""
 
     def __init__(self):
         described = rows("parameters.csv", Parameter, ["least", "greatest"])
@@ -190,7 +190,7 @@ class Tables:
                             ("columns", [(one.table, one.name) for one in self.columns])]:
             again = next((name for place, name in enumerate(names) if name in names[:place]), None)
             if again:
-                raise Unclear(f"docs/tables/{what}.csv: {again} stands there twice")
+                raise Unclear(f"docs/tables/{what}.csv: {again} is there twice")
         self.check_parameters()
         counts = [one.name for one in self.counts]
         for code in self.codes:
@@ -212,7 +212,7 @@ class Tables:
                 raise Unclear(f"{where} has the example {one.example!r}, which isn't its default")
 
     def with_one_more(self, kind):
-        """The same tables with a row more, of names that stand nowhere. A cause or a mark has a count of its own."""
+        """The same tables with a row more, of names that are nowhere. A cause or a mark has a count of its own."""
         more = copy.copy(self)
         if kind == "parameter":
             last = self.ranged()[-1]
