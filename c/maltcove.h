@@ -171,7 +171,7 @@ typedef struct maltcove_totals_t {
 	uint64_t dropped_codel, dropped_overflow, dropped_bytes;
 	uint64_t flushed, flushed_bytes;
 	uint64_t marked;            /* sent with a mark of CoDel's */
-	uint64_t threshold_marked;  /* sent with a mark of the threshold's alone */
+	uint64_t threshold_marked;  /* sent with a mark for the threshold, and none of CoDel's */
 	uint64_t queued, queued_bytes;
 	bool closed;
 } maltcove_totals_t;

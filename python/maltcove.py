@@ -113,14 +113,28 @@ class _Flushed(ctypes.Structure):
     _fields_ = [("tag", ctypes.c_uint64), ("id", ctypes.c_uint64)]
 
 
+class Totals(NamedTuple):
+    """What became of all packets so far."""
+
+    accepted: int
+    accepted_bytes: int
+    sent: int
+    sent_bytes: int
+    dropped_codel: int
+    dropped_overflow: int
+    dropped_bytes: int
+    flushed: int
+    flushed_bytes: int
+    marked: int
+    threshold_marked: int
+    queued: int
+    queued_bytes: int
+    closed: bool
+
+
 class _Totals(ctypes.Structure):
-    _fields_ = [
-        (name, ctypes.c_uint64)
-        for name in (
-            "accepted", "accepted_bytes", "sent", "sent_bytes", "dropped_codel", "dropped_overflow", "dropped_bytes",
-            "flushed", "flushed_bytes", "marked", "threshold_marked", "queued", "queued_bytes",
-        )
-    ] + [("closed", ctypes.c_bool)]
+    # C has the same fields in the same order: all are numbers of 64 bits but the last.
+    _fields_ = [(name, ctypes.c_uint64) for name in Totals._fields[:-1]] + [(Totals._fields[-1], ctypes.c_bool)]
 
 
 class _Flow(ctypes.Structure):
@@ -302,25 +316,6 @@ class Flushed(NamedTuple):
 
     tag: int
     id: int
-
-
-class Totals(NamedTuple):
-    """What became of all packets so far."""
-
-    accepted: int
-    accepted_bytes: int
-    sent: int
-    sent_bytes: int
-    dropped_codel: int
-    dropped_overflow: int
-    dropped_bytes: int
-    flushed: int
-    flushed_bytes: int
-    marked: int
-    threshold_marked: int
-    queued: int
-    queued_bytes: int
-    closed: bool
 
 
 @dataclass(frozen=True)

@@ -14,6 +14,7 @@
 HOLDS(sizeof(void *) == 8);
 HOLDS(sizeof(bool) == 1);
 
+/* written by tools/tables --write */
 HOLDS(sizeof(maltcove) == 16);
 STANDS(maltcove, inner, 0);
 STANDS(maltcove, is_open, 8);
@@ -98,5 +99,6 @@ STANDS(maltcove_params_t, has_ce_threshold, 52);
 STANDS(maltcove_params_t, has_memory_limit, 53);
 STANDS(maltcove_params_t, ecn, 54);
 STANDS(maltcove_params_t, hash, 55);
+/* end of what tools/tables wrote */
 
 #endif

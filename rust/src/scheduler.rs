@@ -191,10 +191,10 @@ impl Scheduler {
 
     /// The statistics of all packets so far.
     pub fn totals(&self) -> Totals {
-        let mut totals = sys::Totals::default();
+        let mut totals = Totals::default();
         // SAFETY: as at `is_closed`, and the record lives through the call.
         unsafe { sys::maltcove_totals(self.inner.get(), &mut totals) };
-        Totals::of(&totals)
+        totals
     }
 
     /// What is kept of a flow, from 0. It fails with [`Error::BadFlow`].

@@ -1,5 +1,6 @@
 //! The calls of `maltcove.h`, as they stand there.
 
+use crate::views::Totals;
 use std::ffi::{c_char, c_int, c_void};
 
 #[repr(C)]
@@ -62,25 +63,6 @@ pub struct Dropped {
 pub struct Flushed {
     pub tag: u64,
     pub id: u64,
-}
-
-#[repr(C)]
-#[derive(Default)]
-pub struct Totals {
-    pub accepted: u64,
-    pub accepted_bytes: u64,
-    pub sent: u64,
-    pub sent_bytes: u64,
-    pub dropped_codel: u64,
-    pub dropped_overflow: u64,
-    pub dropped_bytes: u64,
-    pub flushed: u64,
-    pub flushed_bytes: u64,
-    pub marked: u64,
-    pub threshold_marked: u64,
-    pub queued: u64,
-    pub queued_bytes: u64,
-    pub closed: bool,
 }
 
 #[repr(C)]

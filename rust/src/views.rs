@@ -4,6 +4,8 @@ use crate::sys;
 
 /// What became of all packets so far. Lengths are in bytes. The accepted packets are those that were sent, dropped or
 /// flushed, and those that wait.
+// It is the record that C writes, field by field.
+#[repr(C)]
 #[derive(Clone, Copy, Debug, PartialEq, Eq, Hash, Default)]
 pub struct Totals {
     /// Packets accepted.
@@ -16,7 +18,7 @@ pub struct Totals {
     pub sent_bytes: u64,
     /// Packets that CoDel dropped.
     pub dropped_codel: u64,
-    /// Packets dropped since more waited than the limits allow.
+    /// Packets dropped since more waited than the limits allow, of packets or of bytes.
     pub dropped_overflow: u64,
     /// The sum of the lengths of all dropped packets.
     pub dropped_bytes: u64,
@@ -26,7 +28,7 @@ pub struct Totals {
     pub flushed_bytes: u64,
     /// Packets sent with a mark of CoDel's.
     pub marked: u64,
-    /// Packets sent with a mark of the threshold's alone.
+    /// Packets sent with a mark for the threshold, and none of CoDel's.
     pub threshold_marked: u64,
     /// Packets that wait.
     pub queued: u64,
@@ -34,27 +36,6 @@ pub struct Totals {
     pub queued_bytes: u64,
     /// Whether there was a close.
     pub closed: bool,
-}
-
-impl Totals {
-    pub(crate) fn of(t: &sys::Totals) -> Totals {
-        Totals {
-            accepted: t.accepted,
-            accepted_bytes: t.accepted_bytes,
-            sent: t.sent,
-            sent_bytes: t.sent_bytes,
-            dropped_codel: t.dropped_codel,
-            dropped_overflow: t.dropped_overflow,
-            dropped_bytes: t.dropped_bytes,
-            flushed: t.flushed,
-            flushed_bytes: t.flushed_bytes,
-            marked: t.marked,
-            threshold_marked: t.threshold_marked,
-            queued: t.queued,
-            queued_bytes: t.queued_bytes,
-            closed: t.closed,
-        }
-    }
 }
 
 /// What is kept of a flow. Moments are in microseconds.
@@ -102,28 +83,29 @@ pub enum Classify {
     Dport,
 }
 
-/// The parameters, in the units of tc-fq_codel(8). Times are in microseconds.
+/// The parameters, in the units of tc-fq_codel(8).
 #[derive(Clone, Copy, Debug, PartialEq, Eq, Hash)]
 pub struct Params {
-    /// The most packets that wait.
+    /// The most packets that wait, in all flows together.
     pub limit: u32,
-    /// The number of flows.
+    /// How many flows there are.
     pub flows: u32,
-    /// The bytes of a turn.
+    /// The bytes that a flow sends before the next one has its turn.
     pub quantum: u32,
-    /// Where no more bytes than these wait after a packet, CoDel doesn't drop it.
+    /// Where no more than this many bytes wait behind a packet, the packet isn't dropped.
     pub mtu: u32,
-    /// The wait that isn't too long.
+    /// A packet that waited less than this, in microseconds, isn't dropped.
     pub target: u64,
-    /// How long packets wait too long before the first one is dropped.
+    /// How long packets wait too long before the first one is dropped, in microseconds.
     pub interval: u64,
-    /// A packet that waited longer is marked, where this is set.
+    /// A packet that waited longer than this, in microseconds, is marked when it is sent, if it is ECT(0) or ECT(1) and
+    /// CoDel doesn't mark it. None where no wait is too long for that.
     pub ce_threshold: Option<u64>,
-    /// The most bytes that wait, where they are limited.
+    /// The most bytes of packets that wait, in all flows together. None where they aren't limited.
     pub memory_limit: Option<u64>,
-    /// The most packets that the fattest flow loses at once.
+    /// The most packets that the fattest flow loses at once, where too much waits.
     pub drop_batch: u32,
-    /// Whether what can be marked is marked in place of dropped.
+    /// Whether packets are marked in place of being dropped.
     pub ecn: bool,
     /// How the flow of a packet is found.
     pub classify: Classify,
