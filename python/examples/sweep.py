@@ -3,7 +3,7 @@
     python3 sweep.py --rate 10mbit --rate 50mbit --set 'target 5ms' --set 'target 20ms noecn' --output rows.csv *.csv
 
 Each input runs at each rate with each set: here two rates and two sets make four runs of each file. A row has the input,
-the rate, the set, and what `maltlink` writes of all packets in its table `flows`.
+the rate of the link, the words of the set, and what `maltlink` writes of all packets in its table `flows`.
 
 Without --scheduler the runs share this machine's processors. On more machines, start `dask scheduler` on one and
 `dask worker ADDRESS` on each, and give --scheduler ADDRESS. Every machine needs maltlink, and the inputs under the same
@@ -19,6 +19,7 @@ It needs Debian's package python3-distributed. sweep.sh does the same by GNU par
 from __future__ import annotations
 
 import argparse
+import contextlib
 import csv
 import importlib
 import itertools
@@ -26,20 +27,21 @@ import os
 import shlex
 import subprocess
 import sys
+import tempfile
 import time
 from collections.abc import Iterator, Mapping
 from pathlib import Path
 from typing import Any, NamedTuple, Optional
 
-KEYS = ["input", "rate", "set"]
+KEYS = ["input", "link", "words"]
 
 
 class Run(NamedTuple):
     """A run of maltlink: the file of arrivals, the rate of the link, and the parameters as one text."""
 
     input: str
-    rate: str
-    set: str
+    link: str
+    words: str
 
 
 def make(arrivals: str, rate: str, words: str, maltlink: str) -> dict[str, str]:
@@ -52,7 +54,10 @@ def make(arrivals: str, rate: str, words: str, maltlink: str) -> dict[str, str]:
     rows = [row for row in csv.DictReader(ran.stdout.splitlines()) if row["tuple"] == "all"]
     if len(rows) != 1:
         raise RuntimeError(f"{len(rows)} rows of all packets, and one is wanted")
-    return {name: value for name, value in rows[0].items() if name not in ("queue", "tuple")}
+    columns = {name: value for name, value in rows[0].items() if name not in ("queue", "tuple")}
+    if not columns.keys().isdisjoint(("input", "link", "words")):
+        raise RuntimeError("a column is called input, link or words, as those of a sweep are")
+    return columns
 
 
 def read_rows(output: Path) -> list[dict[str, str]]:
@@ -89,30 +94,45 @@ def append_row(output: Path, row: dict[str, str]) -> None:
 
 def key_of(row: Mapping[str, str]) -> Run:
     """The run that a row is of."""
-    return Run(row["input"], row["rate"], row["set"])
+    return Run(row["input"], row["link"], row["words"])
 
 
-def ended(client: Any, futures: dict[Any, Run], seconds: Optional[float]) -> Iterator[Any]:
-    """The futures as they end, whatever their end. Those that haven't ended after so many seconds, or when the scheduler
-    is gone, aren't among them.
+@contextlib.contextmanager
+def cluster(asked: argparse.Namespace) -> Iterator[Any]:
+    """A client of the cluster that is asked for: the scheduler's, or one of this machine, which ends with the sweep."""
+    client_of = importlib.import_module("distributed").Client
+    if asked.scheduler:
+        with client_of(asked.scheduler) as client:
+            yield client
+        return
+    with tempfile.TemporaryDirectory() as room:
+        options = {"n_workers": asked.workers, "threads_per_worker": 1, "dashboard_address": None}
+        with client_of(**options, local_directory=room) as client:
+            yield client
+
+
+def ended(client: Any, runs: list[Run], asked: argparse.Namespace) -> Iterator[tuple[Run, Any]]:
+    """Makes runs, and gives each with its future as it ends, whatever its end. No more are handed in than there are threads,
+    since a worker that dies takes along what waits there. Runs that haven't ended in time, or when the scheduler is gone,
+    aren't given.
     """
-    deadline = time.monotonic() + seconds if seconds is not None else None
-    left = list(futures)
-    while left and client.status == "running" and (deadline is None or time.monotonic() < deadline):
-        done = {future for future in left if future.status != "pending"}
-        yield from (future for future in left if future in done)
-        left = [future for future in left if future not in done]
-        time.sleep(0 if done else 0.05)
+    deadline = time.monotonic() + asked.timeout if asked.timeout is not None else None
+    waiting, made = runs[::-1], dict[Any, Run]()
+    while (waiting or made) and client.status == "running" and (deadline is None or time.monotonic() < deadline):
+        while waiting and len(made) < max(1, sum(client.nthreads().values())):
+            run = waiting.pop()
+            made[client.submit(make, *run, asked.maltlink, pure=False)] = run
+        done = [future for future in made if future.status != "pending"]
+        yield from ((made.pop(future), future) for future in done)
+        time.sleep(0 if done else 0.02)
 
 
 def collect(client: Any, runs: list[Run], asked: argparse.Namespace) -> dict[Run, str]:
     """Makes runs on a cluster, and gives what went wrong with those that have no row. A row is in the output as soon as it
     is known, so a sweep that is stopped keeps what it has.
     """
-    futures = {client.submit(make, *run, asked.maltlink, pure=False): run for run in runs}
     wrong = dict.fromkeys(runs, "no answer came")
-    for future in ended(client, futures, asked.timeout):
-        run = futures[future]
+    for run, future in ended(client, runs, asked):
         if future.status == "finished":
             append_row(asked.output, {**run._asdict(), **future.result()})
             del wrong[run]
@@ -145,14 +165,11 @@ def main(words: Optional[list[str]] = None) -> int:
     made = {key_of(row) for row in rows}
     left = [run for run in due if run not in made]
     if left:
-        # Workers take nothing from one another on this machine: each run is a process with one thread.
         write_rows(asked.output, rows)
-        client_of = importlib.import_module("distributed").Client
-        options = {"n_workers": asked.workers, "threads_per_worker": 1, "dashboard_address": None}
-        with client_of(asked.scheduler) if asked.scheduler else client_of(**options) as client:
+        with cluster(asked) as client:
             wrong = collect(client, left, asked)
         for run, why in wrong.items():
-            print(f"sweep: no row of {run.input}, rate {run.rate}, set '{run.set}': {why}", file=sys.stderr)
+            print(f"sweep: no row of {run.input}, rate {run.link}, set '{run.words}': {why}", file=sys.stderr)
         write_rows(asked.output, read_rows(asked.output))
     missing = set(due) - {key_of(row) for row in read_rows(asked.output)}
     print(f"sweep: {len(due) - len(missing)} of {len(due)} runs have a row in {asked.output}, {len(left)} were made now",

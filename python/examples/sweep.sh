@@ -17,28 +17,30 @@ mkdir -p "$folder"
 machines=()
 [[ -z ${MACHINES:-} ]] || machines=(--sshloginfile "$MACHINES")
 
-# The order of the runs is that of the words, so a run has the same number when it is made again.
-each=(:::: "$rates" "$sets" ::: "$(realpath "$1")")
-for input in "${@:2}"; do each+=("$(realpath "$input")"); done
+# The order of the runs is that of the words, so a run has the same number when it is made again. The last varies fastest.
+mapfile -t inputs < <(realpath "$@")
 parallel --will-cite --joblog "$folder/log" --resume-failed --results "$folder/{#}" "${machines[@]}" \
-    "$maltlink --rate {1} {=2 uq() =} < {3}" "${each[@]}" >"$folder/all" 2>&1 || true
+    "$maltlink --rate {1} {=2 uq() =} < {3}" :::: "$rates" :::: "$sets" ::: "${inputs[@]}" >"$folder/all" 2>&1 || true
 
-failed=0 number=0
-while IFS=$'\t' read -r rate set input; do
+# Writes the row of a run, and the header before the first one.
+row() { # NUMBER RUN
+    awk -F, -v run="$2" -v with_head="$((rows == 0))" '
+        NR == 1 && with_head { sub(/^queue,tuple,/, ""); head = "input,link,words," $0 }
+        NR > 1 && $2 == "all" { sub(/^[^,]*,all,/, ""); row = run "," $0; count++ }
+        END { if (count != 1) exit 1; if (with_head) print head; print row }' "$folder/$1"
+}
+
+rows=0 number=0
+while IFS= read -r rate; do while IFS= read -r words; do for input in "${inputs[@]}"; do
     number=$((number + 1))
     # The last line of the log for a run is that of its last try.
     status=$(awk -F'\t' -v n="$number" '$1 == n { last = $7 " " $8 } END { print last }' "$folder/log")
-    if [[ $status != '0 0' ]]; then
-        echo "sweep: no row of $input, rate $rate, set '$set': ${status:-it was never started} (exit status and signal)" >&2
+    if [[ $status == '0 0' ]] && row "$number" "$input,$rate,$words"; then
+        rows=$((rows + 1))
+    else
+        echo "sweep: no row of $input, rate $rate, set '$words': ${status:-never started} (exit status and signal)" >&2
         cat "$folder/$number.err" >&2 2>/dev/null || true
-        failed=$((failed + 1))
-        continue
     fi
-    awk -F, -v run="$input,$rate,$set" -v with_head=$((number == failed + 1)) '
-        NR == 1 && with_head { sub(/^queue,tuple,/, ""); print "input,rate,set," $0 }
-        NR > 1 && $2 == "all" { sub(/^[^,]*,all,/, ""); print run "," $0; rows++ }
-        END { exit rows != 1 }' "$folder/$number" ||
-        { echo "sweep: no row of all packets in $folder/$number" >&2; failed=$((failed + 1)); }
-done < <(parallel --will-cite --dry-run "printf '%s\t%s\t%s\n' {1} {2} {3}" "${each[@]}" | bash)
-echo "sweep: $((number - failed)) of $number runs have a row" >&2
-((failed == 0 && number > 0))
+done; done <"$sets"; done <"$rates"
+echo "sweep: $rows of $number runs have a row" >&2
+((rows == number && number > 0))
