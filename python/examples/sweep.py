@@ -2,16 +2,16 @@
 
     python3 sweep.py --rate 10mbit --rate 50mbit --set 'target 5ms' --set 'target 20ms noecn' --output rows.csv *.csv
 
-Each input runs at each rate with each set: here two rates and two sets make four runs of each file. A row has the input,
-the rate of the link, the words of the set, and what `maltlink` writes of all packets in its table `flows`.
+Each input runs at each rate with each set: here two rates and two sets make four runs of each file. A row has the
+input, the rate of the link, the words of the set, and what `maltlink` writes of all packets in its table `flows`.
 
 Without --scheduler the runs share this machine's processors. On more machines, start `dask scheduler` on one and
 `dask worker ADDRESS` on each, and give --scheduler ADDRESS. Every machine needs maltlink, and the inputs under the same
 names, as on a shared file system.
 
 A run that fails, or that the cluster lost, is reported on standard error, and the status is 1. The same command repeats
-these alone: a run whose row is in the output isn't made again. Before it ends the script compares rows with runs, so none
-is missing without a report.
+these alone: a run whose row is in the output isn't made again. Before it ends the script compares rows with runs, so
+none is missing without a report.
 
 It needs Debian's package python3-distributed. sweep.sh does the same by GNU parallel.
 """
@@ -47,8 +47,8 @@ class Run(NamedTuple):
 def make(arrivals: str, rate: str, words: str, maltlink: str) -> dict[str, str]:
     """Makes a run, and gives what was written of all packets. Raises an error that says what went wrong."""
     with open(arrivals, "rb") as file:
-        ran = subprocess.run([maltlink, "--rate", rate, *shlex.split(words)], stdin=file, capture_output=True, text=True,
-                             check=False)
+        ran = subprocess.run([maltlink, "--rate", rate, *shlex.split(words)], stdin=file, capture_output=True,
+                             text=True, check=False)
     if ran.returncode != 0:
         raise RuntimeError(f"status {ran.returncode}: {ran.stderr.strip()}")
     rows = [row for row in csv.DictReader(ran.stdout.splitlines()) if row["tuple"] == "all"]
@@ -61,7 +61,7 @@ def make(arrivals: str, rate: str, words: str, maltlink: str) -> dict[str, str]:
 
 
 def read_rows(output: Path) -> list[dict[str, str]]:
-    """The rows of an earlier sweep. A last line without an end was cut off as it was written, and counts for nothing."""
+    """The rows of an earlier sweep. A last line without an end was cut off as it was written, and doesn't count."""
     if not output.exists():
         return []
     text = output.read_text(encoding="utf-8")
@@ -112,9 +112,9 @@ def cluster(asked: argparse.Namespace) -> Iterator[Any]:
 
 
 def ended(client: Any, runs: list[Run], asked: argparse.Namespace) -> Iterator[tuple[Run, Any]]:
-    """Makes runs, and gives each with its future as it ends, whatever its end. No more are handed in than there are threads,
-    since a worker that dies takes along what waits there. Runs that haven't ended in time, or when the scheduler is gone,
-    aren't given.
+    """Makes runs, and gives each with its future as it ends, whatever its end. No more are handed in than there are
+    threads, since a worker that dies takes along what waits there. Runs that haven't ended in time, or when the
+    scheduler is gone, aren't given.
     """
     deadline = time.monotonic() + asked.timeout if asked.timeout is not None else None
     waiting, made = runs[::-1], dict[Any, Run]()
@@ -128,8 +128,8 @@ def ended(client: Any, runs: list[Run], asked: argparse.Namespace) -> Iterator[t
 
 
 def collect(client: Any, runs: list[Run], asked: argparse.Namespace) -> dict[Run, str]:
-    """Makes runs on a cluster, and gives what went wrong with those that have no row. A row is in the output as soon as it
-    is known, so a sweep that is stopped keeps what it has.
+    """Makes runs on a cluster, and gives what went wrong with those that have no row. A row is in the output as soon
+    as it is known, so a sweep that is stopped keeps what it has.
     """
     wrong = dict.fromkeys(runs, "no answer came")
     for run, future in ended(client, runs, asked):
@@ -172,8 +172,8 @@ def main(words: Optional[list[str]] = None) -> int:
             print(f"sweep: no row of {run.input}, rate {run.link}, set '{run.words}': {why}", file=sys.stderr)
         write_rows(asked.output, read_rows(asked.output))
     missing = set(due) - {key_of(row) for row in read_rows(asked.output)}
-    print(f"sweep: {len(due) - len(missing)} of {len(due)} runs have a row in {asked.output}, {len(left)} were made now",
-          file=sys.stderr)
+    have = f"{len(due) - len(missing)} of {len(due)} runs have a row in {asked.output}"
+    print(f"sweep: {have}, {len(left)} were made now", file=sys.stderr)
     return 1 if missing else 0
 
 

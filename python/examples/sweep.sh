@@ -6,9 +6,9 @@
 #     sweep.sh FOLDER rates sets ARRIVALS.csv... > rows.csv
 #
 # FOLDER has what each run wrote. A run that failed or was lost is reported on standard error, and the status is 1. The
-# same command again makes these runs alone. Where MACHINES names a file with a machine a line, as `parallel` takes it for
-# --sshloginfile, the runs go there: each machine needs maltlink, and the inputs under the same names. MALTLINK names
-# another program. It needs Debian's package parallel.
+# same command again makes these runs alone. Where MACHINES names a file with a machine a line, as `parallel` takes it
+# for --sshloginfile, the runs go there: each machine needs maltlink, and the inputs under the same names. MALTLINK
+# names another program. It needs Debian's package parallel.
 set -euo pipefail
 folder=$1 rates=$2 sets=$3
 shift 3
@@ -17,7 +17,7 @@ mkdir -p "$folder"
 machines=()
 [[ -z ${MACHINES:-} ]] || machines=(--sshloginfile "$MACHINES")
 
-# The order of the runs is that of the words, so a run has the same number when it is made again. The last varies fastest.
+# The order of the runs is that of the words, the last of which varies fastest. So a run keeps its number.
 mapfile -t inputs < <(realpath "$@")
 parallel --will-cite --joblog "$folder/log" --resume-failed --results "$folder/{#}" "${machines[@]}" \
     "$maltlink --rate {1} {=2 uq() =} < {3}" :::: "$rates" :::: "$sets" ::: "${inputs[@]}" >"$folder/all" 2>&1 || true

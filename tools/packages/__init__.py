@@ -1,1 +1,1 @@
-"""What tools/dist and tools/man-pages are made of: the archive, the Debian packages, the list of contents, the manual."""
+"""What tools/dist and tools/man-pages are made of: archive, Debian packages, list of contents, manual, completions."""

@@ -82,7 +82,7 @@ def check_built(checkout: Checkout) -> None:
 
 
 def gate_text(checkout: Checkout, log: Path | None) -> str:
-    """What the packages say of the gate: the end of its log, or that no log was given. A log of another commit is none."""
+    """What the packages say of the gate: the end of its log, or that none was given. That of another commit is none."""
     if log is None and checkout.path(GATE_LOG).exists():
         log = checkout.path(GATE_LOG)
     if log is None:

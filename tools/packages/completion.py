@@ -56,9 +56,9 @@ def read_parameters(text: str) -> Words:
 
 def function(name: str, cases: list[str]) -> str:
     """The completion of a program, with the lines that choose what is offered."""
-    lines = [f"# Completion of {name} for bash, written by tools/dist of what the program prints for --help.", f"_{name}()", "{",
-             '    local cur=${COMP_WORDS[COMP_CWORD]} prev=${COMP_WORDS[COMP_CWORD-1]}', "    COMPREPLY=()", *cases, "}",
-             f"complete -F _{name} {name}", ""]
+    lines = [f"# Completion of {name} for bash, written by tools/dist of what the program prints for --help.",
+             f"_{name}()", "{", "    local cur=${COMP_WORDS[COMP_CWORD]} prev=${COMP_WORDS[COMP_CWORD-1]}",
+             "    COMPREPLY=()", *cases, "}", f"complete -F _{name} {name}", ""]
     return "\n".join(lines)
 
 
@@ -68,8 +68,8 @@ def offer(words: list[str]) -> str:
 
 
 def of_words(options: Words, parameters: Words) -> list[str]:
-    """The lines that offer options and parameters, and after some of them their values. A value isn't a parameter, though
-    one may be called as a parameter is.
+    """The lines that offer options and parameters, and after some of them their values. A value isn't a parameter,
+    though one may be called as a parameter is.
     """
     values = {**parameters.values, **options.values}
     texts = [word for word, choices in values.items() if not choices]
@@ -98,8 +98,8 @@ def of_maltlink(text: str) -> str:
 def of_fqsim(helps: dict[str, str]) -> str:
     """The completion of fqsim, of the help of each command. All take the parameters that stand in that of trace."""
     parameters = read_parameters(helps["trace"])
-    cases = ["    if ((COMP_CWORD == 1)); then", f"        {offer([*helps, 'help', '-h', '--help'])}", "        return", "    fi"]
-    cases.append("    case ${COMP_WORDS[1]} in")
+    cases = ["    if ((COMP_CWORD == 1)); then", f"        {offer([*helps, 'help', '-h', '--help'])}", "        return",
+             "    fi", "    case ${COMP_WORDS[1]} in"]
     for command, text in helps.items():
         lines = ["    " + line for line in of_words(read_options(text), parameters)]
         cases += [f"        {command})", *("    " + line for line in lines), "            ;;"]

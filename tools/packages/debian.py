@@ -166,7 +166,8 @@ def fields(checkout: Checkout, package: Package) -> str:
     found = {"Package": package.name, "Source": "maltcove", "Version": debian_version(checkout), "Priority": "optional",
              "Maintainer": checkout.author, "Installed-Size": str(size), **package.fields}
     text = "\n".join(f" {line}" if line else " ." for line in package.text.split("\n"))
-    return "\n".join(f"{name}: {value}" for name, value in found.items() if value) + f"\nDescription: {package.summary}\n{text}\n"
+    lines = [f"{name}: {value}" for name, value in found.items() if value]
+    return "\n".join([*lines, f"Description: {package.summary}", text, ""])
 
 
 def build(staged: Staged, package: Package, folder: Path) -> Path:
@@ -186,8 +187,8 @@ def build(staged: Staged, package: Package, folder: Path) -> Path:
     control.write(here, checkout.epoch)
     made = folder / f"{package.name}_{debian_version(checkout)}_{package.fields['Architecture']}.deb"
     command = ["dpkg-deb", "--root-owner-group", "-Zxz", "--threads-max=1", "--build", str(here), str(made)]
-    built = subprocess.run(command, env={**os.environ, "SOURCE_DATE_EPOCH": str(checkout.epoch)}, capture_output=True, text=True,
-                           check=False)
+    variables = {**os.environ, "SOURCE_DATE_EPOCH": str(checkout.epoch)}
+    built = subprocess.run(command, env=variables, capture_output=True, text=True, check=False)
     if built.returncode != 0:
         raise Missing(f"dpkg-deb makes no {made.name}: {built.stdout}{built.stderr}")
     shutil.rmtree(here)

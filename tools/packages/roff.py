@@ -9,7 +9,7 @@ GAP = re.compile(r"\S {2,}\S")
 
 
 def escaped(line: str, is_code: bool = False) -> str:
-    """A line as roff reads it back. A hyphen between letters of filled text may end a line; all others are minus signs."""
+    """A line as roff reads it back. In filled text a hyphen between letters is one, and all others are minus signs."""
     line = line.replace("\\", r"\e").replace("'", r"\(aq").replace("`", r"\(ga")
     line = line.replace("^", r"\(ha").replace("~", r"\(ti").replace('"', r"\(dq")
     line = line.replace("-", r"\-") if is_code else re.sub(r"(?<![A-Za-z0-9])-|-(?![A-Za-z0-9])", r"\\-", line)
@@ -70,7 +70,7 @@ def is_code(block: list[str]) -> bool:
 
 
 def body(lines: Iterable[str], base: int, keep: bool = False) -> list[str]:
-    """The text of a section whose paragraphs begin at a column: deeper ones are code, and so are all of them if `keep`."""
+    """The text of a section whose paragraphs begin at a column. Deeper ones are code, and with `keep` all of them."""
     made: list[str] = []
     for block in blocks(lines):
         if keep or is_code(block):
@@ -86,11 +86,12 @@ def body(lines: Iterable[str], base: int, keep: bool = False) -> list[str]:
 
 def title(name: str, section: int, date: str, version: str, manual: str) -> list[str]:
     """The first lines of a page."""
-    return [rf'.\" Written by tools/man-pages.', f'.TH {name.upper()} {section} "{date}" "Maltcove {version}" "{manual}"',
-            ".nh", ".ad l"]
+    return [r'.\" Written by tools/man-pages.',
+            f'.TH {name.upper()} {section} "{date}" "Maltcove {version}" "{manual}"', ".nh", ".ad l"]
 
 
 def page(lines: list[str]) -> str:
     """The text of a page. A paragraph that begins a section needs no macro."""
-    made = [line for before, line in zip(["", *lines], lines) if not (line == ".PP" and before.startswith((".SH ", ".SS ")))]
+    made = [line for before, line in zip(["", *lines], lines)
+            if not (line == ".PP" and before.startswith((".SH ", ".SS ")))]
     return "\n".join([*made, ""])

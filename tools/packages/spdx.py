@@ -50,8 +50,8 @@ def package_entry(kind: str, name: str, version: str, **more: Any) -> dict[str, 
 
 def ported_crates(checkout: Checkout) -> list[str]:
     """The crates of the toolchain that the programs and the library for C use, by crates.txt."""
-    uses = {left.split()[0]: right.split() for left, colon, right in
-            (line.partition(":") for line in checkout.text("crates.txt").splitlines() if not line.startswith("#")) if colon}
+    lines = [line for line in checkout.text("crates.txt").splitlines() if ":" in line and not line.startswith("#")]
+    uses = {left.split()[0]: right.split() for left, _, right in (line.partition(":") for line in lines)}
     found, open_names = set(), ["fqsim", "maltlink", "maltcove_c"]
     while open_names:
         name = open_names.pop()
@@ -80,11 +80,13 @@ def inputs(checkout: Checkout) -> list[dict[str, Any]]:
     state = "clean" if checkout.is_clean else "files of the checkout differ from the commit"
     compiler = run("gcc", "--version").splitlines()[0]
     return [
-        package_entry("Input", "maltcove-sources", checkout.commit, licenseDeclared="NONE", comment=f"git commit; {state}"),
-        package_entry("Input", "rattle-toolchain", checkout.toolchain(), comment="proved and built the programs and the library"),
-        *[package_entry("Input", f"crate-{name}", "NOASSERTION", comment="ported by the toolchain, whose version it has")
+        package_entry("Input", "maltcove-sources", checkout.commit, licenseDeclared="NONE",
+                      comment=f"git commit; {state}"),
+        package_entry("Input", "rattle-toolchain", checkout.toolchain(),
+                      comment="proved and built the programs and the library"),
+        *[package_entry("Input", f"crate-{name}", "NOASSERTION", comment="ported by the toolchain, with its version")
           for name in ported_crates(checkout)],
-        package_entry("Input", "gcc", compiler, comment="compiled c/guard.c and c/heap.c, or another one did, if CC was set"),
+        package_entry("Input", "gcc", compiler, comment="compiled c/guard.c and c/heap.c, unless CC was another"),
     ]
 
 
@@ -116,5 +118,6 @@ def document(checkout: Checkout, tree: Tree) -> str:
         "documentNamespace": f"https://maltcove.example/spdx/{checkout.version}/{checkout.commit}",
         "creationInfo": {"created": time.strftime("%Y-%m-%dT%H:%M:%SZ", time.gmtime(checkout.epoch)),
                          "creators": ["Tool: maltcove-tools-dist"]},
-        "packages": [archive_entry(checkout, tree), *packages], "files": [*contents, *sources], "relationships": relations,
+        "packages": [archive_entry(checkout, tree), *packages], "files": [*contents, *sources],
+        "relationships": relations,
     }, indent=1) + "\n"

@@ -1,4 +1,4 @@
-"""The files that are packed: the installed library for C, the programs, the manual, completions, Python and documents."""
+"""The files that are packed: library for C, programs, manual, completions, Python and documents."""
 from __future__ import annotations
 
 import re
@@ -41,7 +41,8 @@ class Staged:
         """The folder of an install of the library for C below /usr, with its libraries in that folder."""
         there = self.room / "installed" / libdir.replace("/", "_")
         if not there.exists():
-            run("make", "-s", "-C", str(self.room / "c"), "RT=false", "install", f"DESTDIR={there}", "PREFIX=/usr", f"LIBDIR={libdir}")
+            run("make", "-s", "-C", str(self.room / "c"), "RT=false", "install", f"DESTDIR={there}", "PREFIX=/usr",
+                f"LIBDIR={libdir}")
             for library in sorted((there / libdir.lstrip("/")).glob("libmaltcove.*")):
                 if not library.is_symlink():
                     strip(library, "--strip-debug" if library.suffix == ".a" else "--strip-unneeded")
@@ -131,7 +132,7 @@ def needed(*files: Path) -> str:
         told = run("objdump", "-p", str(file))
         for library in re.findall(r"^  NEEDED +(\S+)$", told, re.M):
             if library not in LIBRARIES:
-                raise Missing(f"{file.name} needs {library}, and LIBRARIES in tools/packages/stage.py has no package for it")
+                raise Missing(f"{file.name} needs {library}, which LIBRARIES in tools/packages/stage.py hasn't")
             packages.setdefault(LIBRARIES[library], (2, 2, 5))
         versions = [tuple(map(int, found.split("."))) for found in re.findall(r" GLIBC_([0-9.]+)$", told, re.M)]
         if versions:
