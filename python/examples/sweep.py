@@ -102,7 +102,11 @@ def cluster(asked: argparse.Namespace) -> Iterator[Any]:
     """A client of the cluster that is asked for: the scheduler's, or one of this machine, which ends with the sweep."""
     client_of = importlib.import_module("distributed").Client
     if asked.scheduler:
-        with client_of(asked.scheduler) as client:
+        try:
+            client = client_of(asked.scheduler, timeout=10)
+        except OSError as error:
+            raise SystemExit(f"sweep: no Dask scheduler at {asked.scheduler}: {error}") from None
+        with client:
             yield client
         return
     with tempfile.TemporaryDirectory() as room:
@@ -119,7 +123,11 @@ def ended(client: Any, runs: list[Run], asked: argparse.Namespace) -> Iterator[t
     deadline = time.monotonic() + asked.timeout if asked.timeout is not None else None
     waiting, made = runs[::-1], dict[Any, Run]()
     while (waiting or made) and client.status == "running" and (deadline is None or time.monotonic() < deadline):
-        while waiting and len(made) < max(1, sum(client.nthreads().values())):
+        try:
+            threads = sum(client.nthreads().values())
+        except OSError:
+            return
+        while waiting and len(made) < max(1, threads):
             run = waiting.pop()
             made[client.submit(make, *run, asked.maltlink, pure=False)] = run
         done = [future for future in made if future.status != "pending"]
