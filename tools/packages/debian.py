@@ -183,6 +183,7 @@ def build(staged: Staged, package: Package, folder: Path) -> Path:
     for name, text in {"control": fields(checkout, package), **package.control}.items():
         control.put(f"DEBIAN/{name}", text, name in ("postinst", "prerm"))
     here.mkdir(parents=True)
+    here.chmod(0o755)
     package.tree.write(here, checkout.epoch)
     control.write(here, checkout.epoch)
     made = folder / f"{package.name}_{debian_version(checkout)}_{package.fields['Architecture']}.deb"
