@@ -8,8 +8,8 @@ A scheduler holds no packet. Each packet has a tag, a number of the caller's own
         lost = scheduler.drops()
         sent = scheduler.dequeue(1500)
 
-The shared library is the one that the variable ``MALTCOVE_LIBRARY`` names, else ``../c/build/libmaltcove.so`` beside
-this file, else the system's.
+The shared library is the one that the variable ``MALTCOVE_LIBRARY`` names, else ``../c/build/libmaltcove.so`` or
+``../lib/libmaltcove.so`` beside this file (a checkout, or an unpacked archive), else the system's.
 """
 
 from __future__ import annotations
@@ -164,10 +164,11 @@ _SIZES = {
 
 def _load() -> ctypes.CDLL:
     """The shared library, with the types of its calls. Each has its types: without them a struct would go by value."""
-    beside = pathlib.Path(__file__).resolve().parent.parent / "c" / "build" / "libmaltcove.so"
-    named = os.environ.get("MALTCOVE_LIBRARY")
+    above = pathlib.Path(__file__).resolve().parent.parent
+    beside = [folder / "libmaltcove.so" for folder in (above / "c" / "build", above / "lib")]
+    named = os.environ.get("MALTCOVE_LIBRARY") or next((str(path) for path in beside if path.exists()), None)
     if not named:
-        named = str(beside) if beside.exists() else ctypes.util.find_library("maltcove")
+        named = ctypes.util.find_library("maltcove")
     if not named:
         raise ImportError("no libmaltcove.so: run make -C c, or name one by MALTCOVE_LIBRARY")
     for struct, size in _SIZES.items():
