@@ -17,8 +17,6 @@ mod senders;
 #[cfg(test)]
 mod settling;
 #[cfg(test)]
-mod stays_open;
-#[cfg(test)]
 mod together;
 #[cfg(test)]
 mod two_seats;
