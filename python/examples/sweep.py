@@ -176,9 +176,10 @@ def main(words: Optional[list[str]] = None) -> int:
         write_rows(asked.output, rows)
         with cluster(asked) as client:
             wrong = collect(client, left, asked)
-        for run, why in wrong.items():
-            print(f"sweep: no row of {run.input}, rate {run.link}, set '{run.words}': {why}", file=sys.stderr)
-        write_rows(asked.output, read_rows(asked.output))
+            # A cluster may take long to end, so all is told and written before.
+            for run, why in wrong.items():
+                print(f"sweep: no row of {run.input}, rate {run.link}, set '{run.words}': {why}", file=sys.stderr)
+            write_rows(asked.output, read_rows(asked.output))
     missing = set(due) - {key_of(row) for row in read_rows(asked.output)}
     have = f"{len(due) - len(missing)} of {len(due)} runs have a row in {asked.output}"
     print(f"sweep: {have}, {len(left)} were made now", file=sys.stderr)
