@@ -1,0 +1,9 @@
+pub mod ChainLemmas
+pub mod FragmentLemmas
+pub mod JumboLemmas
+pub mod MarkLemmas
+pub mod MeaningLemmas
+pub mod PaddingLaw
+pub mod PaddingLemmas
+pub mod SumLemmas
+pub mod TestLemmas

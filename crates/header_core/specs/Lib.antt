@@ -1,0 +1,11 @@
+pub mod Chains
+pub mod Checksums
+pub mod Dissections
+pub mod Fields
+pub mod Headers
+pub mod Ipv4Headers
+pub mod Ipv6Headers
+pub mod Jumbograms
+pub mod Links
+pub mod Marks
+pub mod PortFields
