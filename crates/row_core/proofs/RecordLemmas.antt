@@ -1,5 +1,5 @@
 -- Facts on the records that a reader has reached, and on the steps of records.
-use Rattle.std.proofs.Common.{◌≡◌, ◌∙◌, ℕ, zero, suc, ◌+◌, ◌≤◌, List, [], ◌∷◌, ◌++◌, Option, Some, None, Ok, Err, true, false, length, refl, ap, arith, inl, inr, ◌-◌}
+use Rattle.std.proofs.Common.{◌≡◌, ◌∙◌, ℕ, zero, suc, ◌+◌, ◌≤◌, List, [], ◌∷◌, ◌++◌, Option, Some, None, Ok, Err, true, false, length, length-append, refl, ap, arith, inl, inr, ◌-◌}
 use Rattle.std.specs.Prelude.{IfSome}
 use Rattle.std.specs.List.{fold}
 use Rattle.std.proofs.lemmas.Bool.{cases_Bool, le-ltb}
@@ -18,9 +18,11 @@ use Rattle.csv.specs.declared.parser.State.TheVariants as st
 use Rattle.journal_core.specs.declared.step.Step.{Step}
 use Rattle.row_core.specs.declared.faults.TraceFault.{TraceFault}
 use Rattle.row_core.specs.declared.faults.TraceFaultKind.TheVariants.{Memory, Read}
+use Rattle.row_core.specs.declared.reader.Next.{Next}
+use Rattle.row_core.specs.declared.reader.Next.TheVariants as next
 use Rattle.row_core.specs.declared.reader.TraceRows.{TraceRows}
-use Rattle.row_core.specs.Traces.{CsvCalls, HasRead, HasTaken, IsFaultOf, IsRowsFault, ReadFails, ReadsUpTo, RowsSoFar, TextReader}
-use Rattle.row_core.specs.Traces.{csv_fault, no_rows, rows_of_records, steps_of, steps_told, text_left, with_record}
+use Rattle.row_core.specs.Traces.{CsvCalls, HasRead, HasTaken, IsFaultOf, IsRowsFault, ReadFails, ReadsUpTo, RowsSoFar, SaysNext, TakesNext, TextReader}
+use Rattle.row_core.specs.Traces.{csv_fault, no_rows, reader_of, rows_of_records, rows_so_far, steps_of, steps_told, text_left, with_record}
 
 -- a record leaves no more than the text behind its first byte
 shorter : (cfg : Config) (s : State) (fields : List (List ℕ)) (field xs : List ℕ) (p : Cut)
@@ -153,6 +155,27 @@ fault_behind text reader before fields rows fault read e faulty =
     let rest = records_from default_config all.0 (reader_state reader) read.rest in
     ap steps_told (ap (fold with_record (Ok no_rows)) all.1 ∙ fold-append with_record (Ok no_rows) (before ++ fields ∷ []) rest
     ∙ ap (λ so_far. fold with_record so_far rest) (record_more before fields rows e ∙ faulty) ∙ fold_stays with_record (Err fault) (λ x. refl) rest)
+
+-- What was taken next, where a record more was read and says so behind the rows before it.
+pub takes_more : (old mid new : TraceRows) (fields : List (List ℕ)) (next : Next)
+    → ((steps : List Step) → rows_so_far mid steps ≡ rows_so_far old steps)
+    → ((text : List ℕ) (before : List (List (List ℕ))) → HasRead text (reader_of old) before → HasRead text (reader_of new) (before ++ fields ∷ []))
+    → SaysNext mid fields next new → TakesNext old next new
+takes_more old mid new fields (next.Row step) same more says = λ text turns steps taken. record {
+  small = taken.small;
+  before = taken.before ++ fields ∷ [];
+  read = more text taken.before taken.read;
+  many = omega (arith, taken.many, length-append taken.before (fields ∷ []));
+  asked = record_more taken.before fields (rows_so_far old steps) taken.asked ∙ rw (← same steps) (says steps);
+}
+takes_more old mid new fields next.NoStep same more says = λ text turns steps taken. record {
+  small = taken.small;
+  before = taken.before ++ fields ∷ [];
+  read = more text taken.before taken.read;
+  many = omega (arith, taken.many, length-append taken.before (fields ∷ []));
+  asked = record_more taken.before fields (rows_so_far old steps) taken.asked ∙ rw (← same steps) (says steps);
+}
+takes_more old mid new fields next.End same more says = absurd says
 
 module _ (known : Option (List ℕ)) (text : List ℕ) (Cut : CsvCalls) (reader : TextReader) (fault : TraceFault)
     (same : IfSome known (λ bytes. text ≡ bytes)) (stops : IsRowsFault Cut text reader fault) where

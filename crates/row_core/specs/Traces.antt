@@ -200,6 +200,20 @@ TakesNext old next.NoStep new = (text : List ℕ) (turns : ℕ) (steps : List St
 TakesNext old next.End new = (text : List ℕ) (turns : ℕ) (steps : List Step)
     → HasTaken text old turns steps → steps_of text ≡ Ok steps
 
+-- What a record says behind the rows before it: a row asks for one step more, a blank record or the row that tells the
+-- version for none.
+abbrev pub SaysNext : TraceRows → List (List ℕ) → Next → TraceRows → Type 0
+SaysNext old fields (next.Row step) new = (steps : List Step)
+    → with_record (Ok (rows_so_far old steps)) fields ≡ Ok (rows_so_far new (steps ++ step ∷ []))
+SaysNext old fields next.NoStep new = (steps : List Step)
+    → with_record (Ok (rows_so_far old steps)) fields ≡ Ok (rows_so_far new steps)
+SaysNext old fields next.End new = ⊥
+
+-- the fault of a record behind the rows before it: one of the grammar
+abbrev pub IsRecordFault : TraceRows → List (List ℕ) → TraceFault → Type 0
+IsRecordFault old fields fault = (fault.what ≢ Read) × (fault.what ≢ Memory)
+    × ((steps : List Step) → with_record (Ok (rows_so_far old steps)) fields ≡ Err fault)
+
 -- the reader of `csv` under the rows has failed
 abbrev pub HasFailed : TraceRows → Type 0
 HasFailed rows = has_failed (reader_of rows) ≡ true

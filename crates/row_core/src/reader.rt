@@ -169,10 +169,20 @@ impl<'a> TraceRows<'a> {
         ensures number { IfOk result (λ next. Traces.IsRowCounted self.old next self.new) }
     {
         match next_record::<C>(&mut self.records, &mut self.row) {
-            Ok(true) => {}
-            Ok(false) => return Ok(Next::End),
-            Err(what) => return Err(fault(self.row_number, what)),
+            Ok(true) => self.interpret(),
+            Ok(false) => Ok(Next::End),
+            Err(what) => Err(fault(self.row_number, what)),
         }
+    }
+
+    /// What the record says that was cut off last, behind the rows before it.
+    // It isn't generic, so it is compiled in this crate, where the reading of a row merges into it.
+    fn interpret(&mut self) -> Result<Next, TraceFault>
+        ensures same { Traces.reader_of self.new ≡ Traces.reader_of self.old }
+        ensures says { IfOk result (λ next. Traces.SaysNext self.old (fields_of self.old.row) next self.new) }
+        ensures fault { IfErr result (λ fault. Traces.IsRecordFault self.old (fields_of self.old.row) fault) }
+        ensures number { IfOk result (λ next. Traces.IsRowCounted self.old next self.new) }
+    {
         if is_blank(&self.row) {
             return Ok(Next::NoStep);
         }

@@ -76,8 +76,6 @@ pub(crate) fn read_version(row: &ByteRecord) -> Result<Version, TraceFaultKind>
 
 /// The step that a row of a trace of that version asks for. It refuses a first field that names no kind, then another
 /// number of fields than the kind has, then the first faulty field from the left.
-// Each program has its own reader of rows, by the types it is generic in, and a call for each row takes longer.
-#[inline(always)]
 #[tactic(auto, unfolding(crate::specs::Rows::step_of_row))]
 pub(crate) fn read_row(row: &ByteRecord, version: Version) -> Result<Step, TraceFaultKind>
     ensures value { result ≡ step_of_row version (fields_of row.now) }
