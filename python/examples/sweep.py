@@ -19,6 +19,7 @@ It needs Debian's package python3-distributed. sweep.sh does the same by GNU par
 from __future__ import annotations
 
 import argparse
+import asyncio
 import contextlib
 import csv
 import importlib
@@ -34,6 +35,8 @@ from pathlib import Path
 from typing import Any, NamedTuple, Optional
 
 KEYS = ["input", "link", "words"]
+# So long a cluster of this machine may take to end.
+CLOSING_SECONDS = 20
 
 
 class Run(NamedTuple):
@@ -100,19 +103,26 @@ def key_of(row: Mapping[str, str]) -> Run:
 @contextlib.contextmanager
 def cluster(asked: argparse.Namespace) -> Iterator[Any]:
     """A client of the cluster that is asked for: the scheduler's, or one of this machine, which ends with the sweep."""
-    client_of = importlib.import_module("distributed").Client
+    distributed = importlib.import_module("distributed")
     if asked.scheduler:
         try:
-            client = client_of(asked.scheduler, timeout=10)
+            client = distributed.Client(asked.scheduler, timeout=10)
         except OSError as error:
             raise SystemExit(f"sweep: no Dask scheduler at {asked.scheduler}: {error}") from None
         with client:
             yield client
         return
     with tempfile.TemporaryDirectory() as room:
-        options = {"n_workers": asked.workers, "threads_per_worker": 1, "dashboard_address": None}
-        with client_of(**options, local_directory=room) as client:
+        local = distributed.LocalCluster(n_workers=asked.workers, threads_per_worker=1, dashboard_address=None,
+                                         local_directory=room)
+        client = distributed.Client(local)
+        try:
             yield client
+        finally:
+            # Every row is written by now. A cluster that doesn't end is left to the end of this process.
+            with contextlib.suppress(asyncio.TimeoutError, OSError):
+                client.close(timeout=CLOSING_SECONDS)
+                local.close(timeout=CLOSING_SECONDS)
 
 
 def ended(client: Any, runs: list[Run], asked: argparse.Namespace) -> Iterator[tuple[Run, Any]]:
