@@ -1,6 +1,6 @@
 -- Facts on the records that a reader has reached, and on the steps of records.
-use Rattle.std.proofs.Common.{◌≡◌, ◌∙◌, ℕ, zero, suc, ◌+◌, ◌≤◌, List, [], ◌∷◌, ◌++◌, Option, Some, None, Ok, Err, true, false, length, length-append, refl, ap, arith, inl, inr, ◌-◌}
-use Rattle.std.specs.Prelude.{IfSome}
+use Rattle.std.proofs.Common.{◌≡◌, ◌∙◌, ℕ, zero, suc, ◌+◌, ◌≤◌, List, [], ◌∷◌, ◌++◌, Option, Some, None, Ok, Err, true, false, length, length-append, refl, ap, sym, arith, inl, inr, ◌-◌}
+use Rattle.std.specs.Prelude.{IfErr, IfOk, IfSome, Result}
 use Rattle.std.specs.List.{fold}
 use Rattle.std.proofs.lemmas.Bool.{cases_Bool, le-ltb}
 use Rattle.std.proofs.lemmas.List.{append-nil}
@@ -156,6 +156,15 @@ fault_behind text reader before fields rows fault read e faulty =
     ap steps_told (ap (fold with_record (Ok no_rows)) all.1 ∙ fold-append with_record (Ok no_rows) (before ++ fields ∷ []) rest
     ∙ ap (λ so_far. fold with_record so_far rest) (record_more before fields rows e ∙ faulty) ∙ fold_stays with_record (Err fault) (λ x. refl) rest)
 
+-- what holds of each value, or of each error, holds of that of a result
+pub ok_then : {A E : Type 0} {P Q : A → Type 0} (r : Result A E) → IfOk r P → ((x : A) → P x → Q x) → IfOk r Q
+ok_then (Ok x) holds f = f x holds
+ok_then (Err e) holds f = holds
+
+pub err_then : {A E : Type 0} {P Q : E → Type 0} (r : Result A E) → IfErr r P → ((e : E) → P e → Q e) → IfErr r Q
+err_then (Ok x) holds f = holds
+err_then (Err e) holds f = f e holds
+
 -- What was taken next, where a record more was read and says so behind the rows before it.
 pub takes_more : (old mid new : TraceRows) (fields : List (List ℕ)) (next : Next)
     → ((steps : List Step) → rows_so_far mid steps ≡ rows_so_far old steps)
@@ -166,14 +175,14 @@ takes_more old mid new fields (next.Row step) same more says = λ text turns ste
   before = taken.before ++ fields ∷ [];
   read = more text taken.before taken.read;
   many = omega (arith, taken.many, length-append taken.before (fields ∷ []));
-  asked = record_more taken.before fields (rows_so_far old steps) taken.asked ∙ rw (← same steps) (says steps);
+  asked = record_more taken.before fields (rows_so_far old steps) taken.asked ∙ ap (λ rows. with_record (Ok rows) fields) (sym (same steps)) ∙ says steps;
 }
 takes_more old mid new fields next.NoStep same more says = λ text turns steps taken. record {
   small = taken.small;
   before = taken.before ++ fields ∷ [];
   read = more text taken.before taken.read;
   many = omega (arith, taken.many, length-append taken.before (fields ∷ []));
-  asked = record_more taken.before fields (rows_so_far old steps) taken.asked ∙ rw (← same steps) (says steps);
+  asked = record_more taken.before fields (rows_so_far old steps) taken.asked ∙ ap (λ rows. with_record (Ok rows) fields) (sym (same steps)) ∙ says steps;
 }
 takes_more old mid new fields next.End same more says = absurd says
 

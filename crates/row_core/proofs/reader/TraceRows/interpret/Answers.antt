@@ -9,7 +9,7 @@ pub returns-then-self-gt-MAX_ROWS-clause-fault : goal.returns-then-self-gt-MAX_R
 returns-then-self-gt-MAX_ROWS-clause-fault c =
     let filled = sym c.is_blank.ensures ∙ c.if-is_blank.false in
     let many = lt-ltb 1000000 c.args.self.now.row_number (omega arith) in
-    let is = c.fault-then-self-gt-MAX_ROWS.ensures in
+    let is = c.fault.ensures in
     (rw is (λ e. cc e), rw is (λ e. cc e), λ steps. rw (filled, many, is) refl)
 
 pub returns-in-Ok-clause-says : goal.returns-in-Ok-clause-says
