@@ -1,3 +1,4 @@
+pub mod HashLemmas
 pub mod NumeralLemmas
 pub mod PackedLemmas
 pub mod PackedTupleLemmas

@@ -1,4 +1,5 @@
 pub mod FlowNumber
+pub mod HashShares
 pub mod Numerals
 pub mod PackedPackets
 pub mod PackedTuples

@@ -3,6 +3,7 @@
 #![tactic(auto)]
 
 mod flow;
+mod hash_share;
 mod numerals;
 mod packed;
 mod packet;
@@ -12,6 +13,7 @@ mod tuple_words;
 mod words;
 
 pub use flow::{Seed, flow_of};
+pub use hash_share::{flow_of_hash, hashes_are_shared, queue_of_hash, turned_hashes_differ};
 pub use numerals::read_numeral;
 pub use packet::{Ecn, FiveTuple, Ip, LengthOutOfRange, MAX_LENGTH, Packet, Waiting};
 pub use params::{Classify, EcnUse, ParamFields, ParamName, Params};
