@@ -7,6 +7,7 @@
 #![tactic(auto)]
 
 mod flows;
+mod free_places;
 mod limits;
 mod linked_queues;
 mod listed_flows;
