@@ -1,8 +1,9 @@
 pub mod LinkSteps
 pub mod LinkTimes
 pub mod SentIds
-pub mod LinkEngines
-pub mod LineLemmas
+pub mod NextSteps
+pub mod EngineSteps
+pub mod FifoSteps
 pub mod OneRun
 pub mod OneLinkRun
 pub mod IdleLinks

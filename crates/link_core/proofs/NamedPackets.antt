@@ -17,7 +17,7 @@ use Rattle.journal_core.proofs.IdLemmas.{Rises-range, id_of, named_itself}
 use Rattle.journal_core.proofs.ListLemmas.{ByRecursion-append, ByRecursion-parts, ByRecursion-weaker}
 use Rattle.journal_core.proofs.LossLemmas.{departures_accept, departures_drops, departures_send, losses_accept, losses_drops, losses_same, waited_still}
 use Rattle.link_core.specs.Fifo.{GivesHead, TakesIn}
-use Rattle.link_core.specs.Lines.{AreNamed}
+use Rattle.link_core.specs.Fifos.{AreNamed}
 
 -- A packet that is known stays so as more are accepted.
 known_still : (accepted more : List Acceptance) (w : Waiting) → waited_as accepted w.id ≡ Some w → waited_as (accepted ++ more) w.id ≡ Some w

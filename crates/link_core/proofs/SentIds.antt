@@ -17,7 +17,7 @@ use Rattle.fair_core.specs.FairQueues.{FairQueues, no_queues, queue_of}
 use Rattle.fair_core.specs.FqCodel.{fq_codel, fq_codel_policy}
 use Rattle.fair_core.proofs.FairFifo.{fair_is_fifo}
 use Rattle.fair_core.proofs.FqCodelPolicy.{policy_drops}
-use Rattle.link_core.specs.Underway.{sent_count}
+use Rattle.link_core.specs.QueueDisciplines.{sent_count}
 
 -- the id of the packet that is given, as a list
 abbrev pub given_ids : Option Given → List ℕ
@@ -44,7 +44,7 @@ sent_ids_none lane id moment flow packet why gone = sent_of_drops moment why gon
 pub sent_more : (events made : List Event) → sent_count (events ++ made) ≡ sent_count events + length (filter_map sent_of made)
 sent_more events made = ap length (filter_map-append sent_of events made) ∙ length-append (filter_map sent_of events) (filter_map sent_of made)
 
-sent_among_fates : (events : List Event) → sent_count events ≤ length (fate_ids events)
+pub sent_among_fates : (events : List Event) → sent_count events ≤ length (fate_ids events)
 sent_among_fates [] = omega arith
 sent_among_fates (Accepted lane id moment flow packet ∷ events) = sent_among_fates events
 sent_among_fates (Sent id moment ecn mark ∷ events) = let ih = sent_among_fates events in omega arith

@@ -11,18 +11,15 @@ use Rattle.journal_core.specs.declared.event.Cause.{Cause}
 use Rattle.journal_core.specs.declared.event.Cause.TheVariants as cause
 use Rattle.journal_core.specs.declared.event.Event.{Event}
 use Rattle.journal_core.specs.declared.event.Event.TheVariants.{Accepted}
-use Rattle.journal_core.specs.declared.outcome.Answer.TheVariants as answer
-use Rattle.journal_core.specs.declared.step.Step.TheVariants.{Enqueue}
-use Rattle.journal_core.specs.Disciplines.{Given}
+use Rattle.journal_core.specs.Disciplines.{Discipline, Given}
 use Rattle.journal_core.specs.Steps.{drop_event, sent_events}
-use Rattle.sched_core.specs.Engines.{Running}
-use Rattle.sched_core.specs.Schedulers.{IsAdvanced, discipline_of}
 use Rattle.link_core.specs.declared.arrival.Arrival.{Arrival}
 use Rattle.link_core.specs.declared.free_at.FreeAt.{FreeAt}
 use Rattle.link_core.specs.declared.link.LinkFields.{LinkFields}
 use Rattle.link_core.specs.Arrivals.{length_at}
 use Rattle.link_core.specs.LinkLaws.{Sending, end_of, sending_of, sendings, sent_after, work_of}
 use Rattle.link_core.specs.Links.{work}
+use Rattle.link_core.specs.QueueDisciplines.{HasArrived, Progress}
 use Rattle.link_core.specs.Underway.{AreComing, ComesAfter, HasAsked, HasSentBy, IsFreeFrom, SendsGiven, free_or, longest_wire_time, units_of}
 use Rattle.link_core.proofs.Throughput.{drops_send, given_sendings, given_sends}
 
@@ -134,28 +131,31 @@ module _ (link : LinkFields) (arrivals : List Arrival) where
       first [] = tt
       first (a ∷ rest) = omega arith
 
-  -- an engine
-  pub engine_asked : (old new : Running) (now : FreeAt) (busy : Option FreeAt) (coming : List Arrival) (done : FreeAt) → HasAsked link arrivals now old busy new → IsAskedFrom old.sched.standing.events now coming done
-      → HasSentBy link arrivals new.sched.standing.events busy coming (free_or busy done)
-  engine_asked old new now busy coming done asked from =
-      let g = asked.serves.gives in
-      let sends : sendings g.made ≡ given_sendings now.moment g.given = ap sendings g.serves.told ∙ dequeue_sends now.moment cause.Codel g.serves.dropped g.given in
-      rw g.journal (asked_sent old.sched.standing.events g.made now g.given busy coming done from sends asked.sends)
-
 -- an enqueue sends nothing
 pub enqueue_sends : (lane id moment flow : ℕ) (packet : PacketParts) (gone : List Waiting) → sendings (Accepted lane id moment flow packet ∷ map (drop_event moment cause.Overflow) gone) ≡ []
 enqueue_sends lane id moment flow packet gone = drops_send moment cause.Overflow gone
 
-module _ (link : LinkFields) (arrivals : List Arrival) (old new : Running) (a : Arrival) (made : IsAdvanced old.sched (Enqueue a.moment 0 a.packet) answer.Accepted new.sched) where
-  advanced_sends : sendings made.advances.made ≡ []
-  advanced_sends = ap sendings made.advances.makes.1.told ∙ enqueue_sends 0 old.sched.standing.state.next_id a.moment ((discipline_of old.sched).flow_of a.packet.tuple) a.packet made.advances.makes.1.lost
+-- whatever the discipline is
+module _ {Q : Type 0} (d : Discipline Q) (link : LinkFields) (arrivals : List Arrival) where
+  -- it was asked
+  pub after_asked : (old new : Progress Q) (now : FreeAt) (busy : Option FreeAt) (coming : List Arrival) (done : FreeAt) → HasAsked d link arrivals now old busy new → IsAskedFrom link arrivals old.standing.events now coming done
+      → HasSentBy link arrivals new.standing.events busy coming (free_or busy done)
+  after_asked old new now busy coming done asked from =
+      let g = asked.serves.gives in
+      let sends : sendings g.made ≡ given_sendings now.moment g.given = ap sendings g.serves.told ∙ dequeue_sends now.moment cause.Codel g.serves.dropped g.given in
+      rw g.journal (asked_sent link arrivals old.standing.events g.made now g.given busy coming done from sends asked.sends)
 
-  pub engine_taken : (f : FreeAt) (coming rest : List Arrival) (done : FreeAt) → HasSentBy link arrivals old.sched.standing.events (Some f) coming done → HasSentBy link arrivals new.sched.standing.events (Some f) rest done
-  engine_taken f coming rest done h = rw made.advances.journal (taken_sent link arrivals old.sched.standing.events made.advances.made f coming rest done h advanced_sends)
+  -- a packet came in
+  module _ (old new : Progress Q) (a : Arrival) (came : HasArrived d old a.moment a.packet new) where
+    arrival_sends : sendings came.advances.made ≡ []
+    arrival_sends = ap sendings came.advances.makes.1.told ∙ enqueue_sends 0 old.standing.state.next_id a.moment (d.flow_of a.packet.tuple) a.packet came.advances.makes.1.lost
 
-  pub engine_idle : (rest : List Arrival) (done : FreeAt) → HasSentBy link arrivals old.sched.standing.events None (a ∷ rest) done → AreComing a.moment rest → a.moment < 2 ^ 60
-      → IsAskedFrom link arrivals new.sched.standing.events (record { moment = a.moment; rest = 0 }) rest done
-  engine_idle rest done h comes early = rw made.advances.journal (asked_idle link arrivals old.sched.standing.events made.advances.made a rest done h advanced_sends comes early)
+    pub after_taken : (f : FreeAt) (coming rest : List Arrival) (done : FreeAt) → HasSentBy link arrivals old.standing.events (Some f) coming done → HasSentBy link arrivals new.standing.events (Some f) rest done
+    after_taken f coming rest done h = rw came.advances.journal (taken_sent link arrivals old.standing.events came.advances.made f coming rest done h arrival_sends)
+
+    pub after_idle : (rest : List Arrival) (done : FreeAt) → HasSentBy link arrivals old.standing.events None (a ∷ rest) done → AreComing a.moment rest → a.moment < 2 ^ 60
+        → IsAskedFrom link arrivals new.standing.events (record { moment = a.moment; rest = 0 }) rest done
+    after_idle rest done h comes early = rw came.advances.journal (asked_idle link arrivals old.standing.events came.advances.made a rest done h arrival_sends comes early)
 
 -- a time in whole microseconds, rounded up
 pub rounded : (moment rest rate : ℕ) → 0 < rate → moment + div_ceil rest rate ≡ div_ceil (moment * rate + rest) rate

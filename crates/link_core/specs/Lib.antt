@@ -1,8 +1,9 @@
 pub mod Links
 pub mod Arrivals
 pub mod LinkLaw
+pub mod QueueDisciplines
 pub mod LinkRuns
 pub mod LinkLaws
 pub mod Fifo
 pub mod Underway
-pub mod Lines
+pub mod Fifos

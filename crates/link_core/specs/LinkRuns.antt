@@ -13,6 +13,7 @@ use Rattle.link_core.specs.declared.arrival.Arrival.{Arrival}
 use Rattle.link_core.specs.declared.link.LinkFields.{LinkFields}
 use Rattle.link_core.specs.LinkLaw.{Follows, LinkLaw, LinkPoint}
 use Rattle.link_core.specs.LinkLaw.LinkState.{idle}
+use Rattle.link_core.specs.QueueDisciplines.{Progress}
 
 -- The steps are those of the link for these arrivals, and they are made by a scheduler of that discipline; none of them
 -- is refused. So each packet's id is its place among the arrivals.
@@ -29,7 +30,14 @@ pub record IsLinkRunTo {Q : Type 0} (d : Discipline Q) (link : LinkFields) (arri
   pub runs : Runs d (opening_state d.opening) steps made at
   pub none_refused : All (λ (m : Made). is_refused m.answer ≡ false) made
 
--- the same of FQ-CoDel (RFC 8290)
+-- A discipline has made the steps of the link for these arrivals, and no others.
+pub record HasRunOver {Q : Type 0} (d : Discipline Q) (link : LinkFields) (arrivals : List Arrival)
+    (at : Progress Q) : Type 0 where
+  pub made : List Made
+  pub run : IsLinkRunOf d link arrivals at.steps made at.standing.state
+  pub journal : at.standing.events ≡ journal_of made
+
+-- a run over FQ-CoDel (RFC 8290)
 abbrev pub IsLinkRun : ParamFields → Seed → LinkFields → List Arrival → List Step → List Made → State FairQueues
     → Type 0
 IsLinkRun p seed link arrivals steps made last = IsLinkRunOf (fq_codel p seed) link arrivals steps made last

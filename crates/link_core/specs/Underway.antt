@@ -1,17 +1,12 @@
 -- A link's run on the way: what has been done, and what is still to come.
-use Rattle.std.specs.Prelude.{◌≡◌, ℕ, ◌+◌, ◌*◌, ◌^◌, ◌<◌, ◌≤◌, false, List, [], ◌∷◌, ◌++◌, All, length, Option, Some, None, IfSome}
-use Rattle.std.specs.List.{filter_map}
+use Rattle.std.specs.Prelude.{◌≡◌, ℕ, ◌+◌, ◌*◌, ◌^◌, ◌<◌, ◌≤◌, false, List, [], ◌∷◌, All, length, Option, Some, None, IfSome}
 use Rattle.journal_core.specs.declared.event.Event.{Event}
 use Rattle.journal_core.specs.declared.step.Sent.{Sent}
 use Rattle.journal_core.specs.declared.step.Step.{Step}
-use Rattle.journal_core.specs.declared.step.Step.TheVariants.{Dequeue}
 use Rattle.journal_core.specs.Calls.{Standing}
 use Rattle.journal_core.specs.Disciplines.{Discipline, Given}
 use Rattle.journal_core.specs.Runs.{Made, Runs, is_refused, journal_of}
 use Rattle.journal_core.specs.State.{opening_state}
-use Rattle.journal_core.specs.Statistics.{sent_of}
-use Rattle.sched_core.specs.Engines.{Running}
-use Rattle.sched_core.specs.Schedulers.{IsServed, discipline_of}
 use Rattle.link_core.specs.declared.arrival.Arrival.{Arrival}
 use Rattle.link_core.specs.declared.arrival.TheConstants.{MAX_ARRIVAL_MOMENT}
 use Rattle.link_core.specs.declared.free_at.FreeAt.{FreeAt}
@@ -21,6 +16,7 @@ use Rattle.link_core.specs.LinkLaw.{Follows, LinkPoint, LinkState}
 use Rattle.link_core.specs.LinkLaw.LinkState.{idle, free}
 use Rattle.link_core.specs.LinkLaws.{sendings, sent_after}
 use Rattle.link_core.specs.Links.{work}
+use Rattle.link_core.specs.QueueDisciplines.{HasServed, Progress, sent_count}
 
 -- a time, in units of which a microsecond has as many as the rate has bits per second
 abbrev pub units_of : LinkFields → FreeAt → ℕ
@@ -62,22 +58,19 @@ pub record IsFreeInTime (link : LinkFields) (last sent : ℕ) (f : FreeAt) : Typ
   pub later : last ≤ f.moment
   pub soon : f.moment ≤ MAX_ARRIVAL_MOMENT + longest_wire_time * sent
 
--- how many packets were sent
-abbrev pub sent_count : List Event → ℕ
-sent_count events = length (filter_map sent_of events)
-
 -- The same, with all that the next steps want to know: that no moment is refused.
 pub record IsOnTime {Q : Type 0} (link : LinkFields) (at : Standing Q) (busy : Option FreeAt)
     (coming : List Arrival) : Type 0 where
   pub frees : IfSome busy (IsFreeInTime link at.state.last (sent_count at.events))
   pub comes : AreComing at.state.last coming
 
--- An engine has made the steps of the link so far, and goes on without a refusal.
-pub record IsOnLink (link : LinkFields) (arrivals : List Arrival) (e : Running) (busy : Option FreeAt)
-    (coming : List Arrival) : Type 0 where
-  pub underway : IsUnderway (discipline_of e.sched) link arrivals e.steps e.sched.standing
+-- A discipline has made the steps of the link so far, and goes on without a refusal. No more packets were sent than came.
+pub record IsOnLink {Q : Type 0} (d : Discipline Q) (link : LinkFields) (arrivals : List Arrival) (at : Progress Q)
+    (busy : Option FreeAt) (coming : List Arrival) : Type 0 where
+  pub underway : IsUnderway d link arrivals at.steps at.standing
       (record { state = state_of link busy; coming = coming })
-  pub on_time : IsOnTime link e.sched.standing busy coming
+  pub on_time : IsOnTime link at.standing busy coming
+  pub few : sent_count at.standing.events ≤ at.standing.state.next_id
 
 -- The link sends a packet of that length from then on: when it gets free again.
 pub record IsFreeAfter (link : LinkFields) (now : FreeAt) (len : ℕ) (f : FreeAt) : Type 0 where
@@ -93,12 +86,11 @@ SendsGiven link arrivals now None (Some f) = ⊥
 SendsGiven link arrivals now (Some g) None = ⊥
 SendsGiven link arrivals now (Some g) (Some f) = IsFreeAfter link now (length_at arrivals g.waiting.id) f
 
--- The engine was asked for a packet, and the link sends what it gave.
-pub record HasAsked (link : LinkFields) (arrivals : List Arrival) (now : FreeAt) (old : Running) (busy : Option FreeAt)
-    (new : Running) : Type 0 where
+-- A discipline was asked for a packet, and the link sends what it gave.
+pub record HasAsked {Q : Type 0} (d : Discipline Q) (link : LinkFields) (arrivals : List Arrival) (now : FreeAt)
+    (old : Progress Q) (busy : Option FreeAt) (new : Progress Q) : Type 0 where
   pub sent : Option Sent
-  pub serves : IsServed old.sched now.moment sent new.sched
-  pub steps : new.steps ≡ old.steps ++ Dequeue now.moment ∷ []
+  pub serves : HasServed d old now.moment sent new
   pub sends : SendsGiven link arrivals now serves.gives.given busy
 
 -- The next packet is to come, at that moment at the latest.
@@ -110,12 +102,6 @@ ComesBy moment (a ∷ rest) = a.moment ≤ moment
 abbrev pub ComesAfter : ℕ → List Arrival → Type 0
 ComesAfter moment [] = Unit {0}
 ComesAfter moment (a ∷ rest) = moment < a.moment
-
--- the parameters and the seed stay, and what the recorder was made for
-pub record KeepsParams (old new : Running) : Type 0 where
-  pub params : new.sched.params ≡ old.sched.params
-  pub seed : new.sched.seed ≡ old.sched.seed
-  pub made_for : new.sched.made_for ≡ old.sched.made_for
 
 -- whether the link is busy, as a number
 abbrev pub busy_count : Option FreeAt → ℕ

@@ -4,16 +4,19 @@
 #![tactic(auto)]
 
 mod arrival;
+mod discipline;
+mod driver;
 mod fifo;
 mod fifo_laws;
 mod free_at;
 pub mod laws;
-mod line;
 mod link;
 mod run;
 
 pub use arrival::{Arrival, MAX_ARRIVAL_MOMENT, MAX_ARRIVALS};
-pub use fifo::{run_fifo, run_fifo_to_end, run_fifo_with_recorder};
+pub use discipline::QueueDiscipline;
+pub use driver::run_over;
+pub use fifo::{Fifo, run_fifo, run_fifo_to_end, run_fifo_with_recorder};
 pub use fifo_laws::{
     fifo_causal, fifo_fates, fifo_few_events, fifo_one_run, fifo_throughput, fifo_works,
 };

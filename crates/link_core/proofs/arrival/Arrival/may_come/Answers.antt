@@ -2,7 +2,7 @@ use Rattle.std.proofs.Common.{◌+◌, ◌≤◌, List, ◌∷◌, drop, refl, s
 use Rattle.std.proofs.lemmas.Bool.{false≢true}
 use Rattle.link_core.specs.declared.arrival.Arrival.{Arrival}
 use Rattle.link_core.specs.Underway.{AreComing}
-use Rattle.link_core.proofs.LinkEngines.{none_left}
+use Rattle.link_core.proofs.NextSteps.{none_left}
 use Rattle.link_core.proofs.LinkTimes.{all_come, are_arrivals, drop_there}
 use Rattle.link_core.proofs.arrival.Arrival.may_come.Goals as goal
 use Rattle.link_core.proofs.arrival.Arrival.may_come.Goals.{then-arrival-last-via-then-arrival-last, then-arrival-last-via-else-arrival-last+then-arrival-ge-MAX_ARRIVAL_MOMENT}
