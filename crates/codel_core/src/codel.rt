@@ -1,13 +1,14 @@
 //! CoDel for one queue: what is kept of it, and the serve that drops, marks and gives.
 
+mod held;
+
 ghost use Rattle.std.specs.Prelude.{◌≡◌, ◌^◌, ◌<◌, ◌≤◌, ◌↔◌, [], length, IsNone, None, Some, false};
-ghost use Rattle.packet_core.specs.Params.{IsIntervalInRange};
 ghost use Rattle.codel_core.specs.Schedule.{IsStateInRange, StaysInRange};
 ghost use Rattle.codel_core.specs.Verdict.{ServesLine};
 
-use crate::heads::{judge_heads, serve_heads};
+use crate::heads::serve_heads;
 use crate::limits::MAX_WAITING;
-use crate::line::{DropSink, Held, Peek, Pull};
+use crate::line::{DropSink, Peek};
 use crate::served::Served;
 use crate::state::CodelState;
 use packet_core::Params;
@@ -62,28 +63,8 @@ impl Codel {
     }
 
     /// Takes packets from the head of the line: drops those that CoDel drops, and gives the next one, marked by CoDel,
-    /// for the threshold, or not at all. None where the line is empty.
-    pub fn serve<L: Pull, S: DropSink>(
-        &mut self,
-        line: &mut L,
-        now: u64,
-        params: &Params,
-        sink: &mut S,
-    ) -> Option<Served>
-        requires room { length (L.items line.old) ≤ S.room sink.old }
-        requires size { length (L.items line.old) ≤ MAX_WAITING }
-        requires moment { now < 2 ^ 60 }
-        requires numbers { IsStateInRange self.old }
-        ensures none { IsNone result ↔ (L.items line.old ≡ []) }
-        ensures served { ServesLine L.items L.pulled S.taken params.now now
-            self.old line.old sink.old result self.new line.new sink.new }
-        ensures range { StaysInRange params.now now
-            self.old (length (L.items line.old)) self.new (length (L.items line.new)) }
-    {
-        serve_held(&mut self.state, line, now, params, sink)
-    }
-
-    /// Serves as `serve` does. Each packet stays where it stands until it is dropped or given.
+    /// for the threshold, or not at all. None where the line is empty. Each packet stays where it stands until it is
+    /// dropped or given.
     #[inline(always)]
     pub fn serve_in_place<L: Peek, S: DropSink>(
         &mut self,
@@ -104,30 +85,4 @@ impl Codel {
     {
         serve_heads(&mut self.state, line, now, params, sink)
     }
-}
-
-/// Serves as `Codel::serve` does, over the numbers alone.
-fn serve_held<L: Pull, S: DropSink>(
-    state: &mut CodelState,
-    line: &mut L,
-    now: u64,
-    params: &Params,
-    sink: &mut S,
-) -> Option<Served>
-    requires room { length (L.items line.old) ≤ S.room sink.old }
-    requires size { length (L.items line.old) ≤ MAX_WAITING }
-    requires moment { now < 2 ^ 60 }
-    requires numbers { IsStateInRange state.old }
-    ensures none { IsNone result ↔ (L.items line.old ≡ []) }
-    ensures served { ServesLine L.items L.pulled S.taken params.now now
-        state.old line.old sink.old result state.new line.new sink.new }
-    ensures interval { IsIntervalInRange params.now.interval }
-{
-    let head = line.pull();
-    let mut held = Held { head, line };
-    let mark = judge_heads(state, &mut held, now, params, sink);
-    let Some(head) = &held.head else {
-        return None;
-    };
-    Some(Served::with_mark(head, mark))
 }

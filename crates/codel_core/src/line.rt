@@ -98,42 +98,6 @@ impl<L: Peek> Judged for L {
     }
 }
 
-/// A line whose head was pulled: it is in hand.
-#[derive(Drop)]
-pub(crate) struct Held<'a, L> {
-    /// The head. None where nothing waited.
-    pub(crate) head: Option<Waiting>,
-    /// The packets behind it.
-    pub(crate) line: &'a mut L,
-}
-
-impl<L: Pull> Judged for Held<'_, L> {
-    ghost use Rattle.codel_core.specs.Held.{held, PullsHeld, pulls_none, pulls_more};
-
-    ghost judged = { λ h. held h.head (L.items h.line.now) };
-
-    ghost advanced = { λ a n b. PullsHeld L.items L.pulled a.head a.line n b.head b.line };
-
-    ghost advanced_none = { λ a. pulls_none a.head a.line };
-
-    ghost advanced_more = { λ a b c n first then'.
-        pulls_more L.pulled_more a.head a.line b.head b.line c.head c.line n first then' };
-
-    fn look(&self) -> Option<&Waiting> {
-        self.head.as_ref()
-    }
-
-    fn behind(&self, _head: &Waiting) -> u64 {
-        self.line.bytes_left()
-    }
-
-    fn advance(&mut self) -> Option<Waiting> {
-        let head = self.head?;
-        self.head = self.line.pull();
-        Some(head)
-    }
-}
-
 /// Takes the head of a line that isn't empty.
 // Kept out of its caller: merged into it, each packet taken is copied once more on its way.
 #[inline(never)]

@@ -1,6 +1,6 @@
 use Rattle.std.proofs.Common.{rules, Some, ap, refl}
 use Rattle.codel_core.proofs.HeldLemmas.{none_held, serves_held}
-use Rattle.codel_core.proofs.codel.serve_held.Goals as goal
+use Rattle.codel_core.proofs.codel.held.serve_held.Goals as goal
 
 pub returns-in_default-clause-none : goal.returns-in_default-clause-none
 returns-in_default-clause-none g c =
