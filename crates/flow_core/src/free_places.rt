@@ -56,7 +56,6 @@ impl FreePlaces {
     }
 
     /// A place is free from then on.
-    #[inline(never)]
     pub(crate) fn give_back(&mut self, place: u32) {
         let word = place as usize / 64;
         let group = word / 64;

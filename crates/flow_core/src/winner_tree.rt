@@ -167,9 +167,18 @@ impl WinnerTree {
             );
             self.bytes[place as usize] = own;
             if own == 0 {
-                self.free.give_back(place);
+                self.emptied(place);
             }
         }
+    }
+
+    // A place got empty: it is free, and the top may sink by a level. So it is low again soon after many flows had bytes.
+    #[inline(never)]
+    fn emptied(&mut self, place: u32)
+        ensures { self.new ≡ self.old }
+    {
+        self.free.give_back(place);
+        self.top = sunk(&self.numbers, &self.bytes, &self.winners, self.top);
     }
 
     /// How many flows there are, from 1 to 65,536.
@@ -527,6 +536,29 @@ fn rise(
     );
     winners[node] = if wins { place } else { most };
     comparisons
+}
+
+// The one of the two nodes below the top that all places with bytes are below, else the top.
+fn sunk(numbers: &[u32], bytes: &[u64], winners: &[u32], top: Top) -> Top
+    requires tree { IsTree (length bytes.now) numbers.now bytes.now winners.now top.node top.height }
+    ensures tree { IsTree (length bytes.now) numbers.now bytes.now winners.now result.node result.height }
+{
+    if top.node >= bytes.len() {
+        return top;
+    }
+    let left = 2 * top.node;
+    let right = left + 1;
+    let height = top.height - 1;
+    if bytes[winners[right] as usize] == 0 {
+        return Top { node: left, height };
+    }
+    if bytes[winners[left] as usize] == 0 {
+        return Top {
+            node: right,
+            height,
+        };
+    }
+    top
 }
 
 // A place's count falls to that one, which isn't among the bytes yet: each node from its leaf to the top gets its
