@@ -1,5 +1,5 @@
 -- Nodes and the places below them.
-use Rattle.std.proofs.Common.{◌≡◌, ℕ, zero, suc, ◌+◌, ◌-◌, ◌*◌, ◌/◌, ◌%◌, ◌^◌, ◌<◌, ◌≤◌, min, inl, inr, refl, sym, ap, ◌∙◌, zero-add, arith}
+use Rattle.std.proofs.Common.{◌≡◌, ℕ, zero, suc, ◌+◌, ◌-◌, ◌*◌, ◌/◌, ◌%◌, ◌^◌, ◌<◌, ◌≤◌, inl, inr, refl, sym, ap, ◌∙◌, zero-add, arith}
 use Rattle.std.proofs.Math.Nat.{suc-add, pow-suc}
 use Rattle.std.proofs.Math.Pow.{pow_mono}
 use Rattle.std.proofs.lemmas.Bool.{cases_lt}
@@ -140,6 +140,25 @@ module _ {leaves node height : ℕ} (levels : ℕ) (doubled : leaves ≡ 2 ^ lev
       same_level height below.levels levels (leaves + above.place) (leaves + place) (omega arith) (omega (arith, above.within)) (omega arith) (omega (arith, below.within))
       (omega (arith, above.meets)) (above.meets ∙ sym below.meets) in
       shift_above height (leaves + place) ∙ ap (λ (h : ℕ). node_above h (leaves + place)) same ∙ below.meets
+
+  -- a node below it is a level less above a leaf
+  pub above_child : {place child : ℕ} → IsBelow leaves child place → child / 2 ≡ node → IsAbove leaves child (height - 1)
+  above_child {place} below is =
+      let twice = pow-suc 2 levels in
+      let next = below_next below in
+      let same =
+      same_level height (suc below.levels) levels (leaves + above.place) (leaves + place) (omega arith) (omega (arith, above.within)) (omega arith) (omega (arith, below.within))
+      (omega (arith, above.meets)) (above.meets ∙ sym is ∙ sym next.meets) in
+      let less : height - 1 ≡ below.levels = omega (arith, same) in
+      record { place = place; within = below.within; meets = ap (λ (h : ℕ). node_above h (leaves + place)) less ∙ below.meets }
+
+-- an inner node is above a leaf
+pub inner_height : {leaves node height : ℕ} → IsAbove leaves node height → node < leaves → 1 ≤ height
+inner_height {leaves} {node} {height} above inner = by_height height above.meets
+  where
+    by_height : (h : ℕ) → node_above h (leaves + above.place) ≡ node → 1 ≤ h
+    by_height zero meets = absurd (omega (arith, meets))
+    by_height (suc h) meets = omega arith
 
 -- and a place whose leaf is shifted to it is below it
 abbrev pub below_shift : {leaves node place : ℕ} (height : ℕ) → place < leaves → (leaves + place) / 2 ^ height ≡ node → IsBelow leaves node place

@@ -1,9 +1,9 @@
 -- The places of the flows, and the numbers of the flows that have them.
-use Rattle.std.proofs.Common.{◌≡◌, ◌≢◌, ℕ, ◌<◌, ◌≤◌, inl, inr, List, [], ◌∷◌, replicate, length, length-set, get_or, map, set, take, refl, sym, ap, ◌∙◌, arith, get_or-set_other, get_or-set_same}
-use Rattle.std.proofs.lemmas.Bool.{cases_eq, cases_lt}
+use Rattle.std.proofs.Common.{◌≡◌, ◌≢◌, ℕ, ◌<◌, ◌≤◌, inl, inr, List, [], ◌∷◌, replicate, length, length-set, get_or, set, take, refl, sym, ap, ◌∙◌, arith, get_or-set_other, get_or-set_same}
+use Rattle.std.proofs.lemmas.Bool.{cases_eq}
 use Rattle.std.proofs.lemmas.List.{get_or-map, get_or-take, length-map, length-take-le, same_lists}
 use Rattle.flow_core.proofs.ReadLemmas.{replicate-at}
-use Rattle.flow_core.specs.WinnerNodes.{ArePaired, counts_at, IsTree, WinsOver}
+use Rattle.flow_core.specs.WinnerNodes.{ArePaired, counts_at, IsTree}
 
 -- what is written to one of the first so many
 pub take_written : (n : ℕ) (xs : List ℕ) (i y : ℕ) → n ≤ length xs → i < n → take n (set xs i y) ≡ set (take n xs) i y

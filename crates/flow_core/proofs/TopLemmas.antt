@@ -1,9 +1,9 @@
 -- The top of a tree of winners: the place with the most bytes is read there, and it moves where a place outside of it gets
 -- bytes.
-use Rattle.std.proofs.Common.{◌≡◌, ◌≢◌, ℕ, ◌+◌, ◌*◌, ◌/◌, ◌<◌, ◌≤◌, inl, inr, List, length, get_or, set, refl, ap, ◌∙◌, arith, get_or-set_other, get_or-set_same, length-set}
+use Rattle.std.proofs.Common.{◌≡◌, ◌≢◌, ℕ, ◌+◌, ◌-◌, ◌*◌, ◌/◌, ◌<◌, ◌≤◌, inl, inr, List, length, get_or, set, refl, ap, ◌∙◌, arith, get_or-set_other, get_or-set_same, length-set}
 use Rattle.std.proofs.lemmas.Bool.{cases_eq, cases_lt}
 use Rattle.flow_core.specs.WinnerNodes.{AreBelowFrom, IsAbove, IsBelow, IsTree, WinsOver}
-use Rattle.flow_core.proofs.NodeLemmas.{below_both, below_leaf, below_next, leaf_has_one, none_between}
+use Rattle.flow_core.proofs.NodeLemmas.{above_child, below_both, below_child, below_leaf, below_next, leaf_has_one, none_between}
 use Rattle.flow_core.proofs.WinnerLemmas.{below_written, HasChanged, starts, stays}
 
 -- The winner at the top wins over each place with bytes.
@@ -70,6 +70,36 @@ module _ {leaves : ℕ} {numbers old bytes winners : List ℕ} {place top height
       let here : top ≡ leaves + place = omega (arith, tree.some, tree.within) in
       let below : IsBelow leaves top place = rw here (record { within = within; levels = 0; meets = refl }) in
       stays tree changed below tree.nodes tree.held (rw (← here) at (starts tree changed below).right)
+
+-- where no place has bytes below one of the two nodes under the top, the other one can be the top
+pub sinks : {leaves : ℕ} {numbers bytes winners : List ℕ} {top height : ℕ} → IsTree leaves numbers bytes winners top height → (child other : ℕ) → child / 2 ≡ top → other / 2 ≡ top
+    → child ≢ other → top < leaves → get_or bytes (get_or winners other 0) 0 ≡ 0 → IsTree leaves numbers bytes winners child (height - 1)
+sinks {leaves} tree child other child_is other_is ne inner none =
+    let within : child < 2 * leaves = omega (arith, child_is) in
+    let some : 1 ≤ child = omega (arith, child_is, tree.some) in
+    record {
+      levels = tree.levels;
+      doubled = tree.doubled;
+      most = tree.most;
+      numbered = tree.numbered;
+      distinct = tree.distinct;
+      counts = tree.counts;
+      nodes = tree.nodes;
+      some = some;
+      within = within;
+      above = above_child tree.levels tree.doubled tree.some tree.above (tree.held child some within) child_is;
+      held = tree.held;
+      right = λ node from under. tree.right node (omega (arith, child_is)) under;
+      busy = λ place waits.
+          let under = below_child inner (tree.busy place waits) in
+          elim (cases_eq under.0 child) [
+            | inl same ↦ rw same at under.2
+            | inr differs ↦
+                let there : under.0 ≡ other = omega (arith, under.1, child_is, other_is, ne, differs) in
+                let below = rw there at under.2 in
+                absurd (omega (arith, none, waits, (tree.right other (omega (arith, other_is)) (omega (arith, other_is))).wins place below waits))
+          ];
+    }
 
 -- Some places are below a node, and each node from there on, but one, holds a place that wins over those of them below it.
 pub record Leads (leaves : ℕ) (numbers bytes winners : List ℕ) (Group : ℕ → Type 0) (node other : ℕ) : Type 0 where

@@ -1,6 +1,6 @@
--- The nodes of a tree over places, each of which a flow has. Node 1 is the root, and a node stands over the node of twice
--- its number and the one after. In a tree of so many leaves the leaf of a place is the node of that number and the place,
--- added.
+-- The nodes of a tree over places, each of which a flow has. Node 1 is the root, and a node stands over the node of
+-- twice its number and the one after. In a tree of so many leaves the leaf of a place is the node of that number and
+-- the place, added.
 use Rattle.std.specs.Prelude.{◌≡◌, ℕ, zero, suc, ◌+◌, ◌-◌, ◌*◌, ◌/◌, ◌%◌, ◌^◌, ◌<◌, ◌≤◌, List, length, get_or, map, min}
 
 -- the node so many levels above a node
@@ -27,7 +27,8 @@ pub record IsAbove (leaves node height : ℕ) : Type 0 where
 -- At the first place there are more bytes than at the other one, or as many and no greater number of a flow: where its
 -- number is greater, it needs one byte more.
 abbrev pub WinsOver : List ℕ → List ℕ → ℕ → ℕ → Type 0
-WinsOver numbers bytes winner other = get_or bytes other 0 + min 1 (get_or numbers winner 0 - get_or numbers other 0) ≤ get_or bytes winner 0
+WinsOver numbers bytes winner other =
+    get_or bytes other 0 + min 1 (get_or numbers winner 0 - get_or numbers other 0) ≤ get_or bytes winner 0
 
 -- The place is below the node, and wins over each place there that has bytes.
 pub record IsWinner (numbers bytes : List ℕ) (leaves node winner : ℕ) : Type 0 where
@@ -44,14 +45,16 @@ abbrev pub AreWinnersFrom : ℕ → ℕ → List ℕ → List ℕ → List ℕ �
 AreWinnersFrom leaves first numbers bytes winners =
     (node : ℕ) → first ≤ node → node < 2 * leaves → IsWinner numbers bytes leaves node (get_or winners node 0)
 
--- The tree has a leaf for each place, and no number stands at two of them. The places with bytes are below the top, which is so many levels above a leaf. It
--- and the nodes below it hold their winners, and each other node holds some place below it.
+-- The tree has a leaf for each place, and no number stands at two of them. The places with bytes are below the top,
+-- which is so many levels above a leaf. It and the nodes below it hold their winners, and each other node holds some
+-- place below it.
 pub record IsTree (leaves : ℕ) (numbers bytes winners : List ℕ) (top height : ℕ) : Type 0 where
   pub levels : ℕ
   pub doubled : leaves ≡ 2 ^ levels
   pub most : levels ≤ 16
   pub numbered : length numbers ≡ leaves
-  pub distinct : (place other : ℕ) → place < leaves → other < leaves → get_or numbers place 0 ≡ get_or numbers other 0 → place ≡ other
+  pub distinct : (place other : ℕ) → place < leaves → other < leaves
+      → get_or numbers place 0 ≡ get_or numbers other 0 → place ≡ other
   pub counts : length bytes ≡ leaves
   pub nodes : length winners ≡ 2 * leaves
   pub some : 1 ≤ top
@@ -65,8 +68,10 @@ pub record IsTree (leaves : ℕ) (numbers bytes winners : List ℕ) (top height 
 pub record ArePaired (leaves : ℕ) (places numbers : List ℕ) : Type 0 where
   pub all_placed : length places ≡ leaves
   pub all_numbered : length numbers ≡ leaves
-  pub placed : (flow : ℕ) → flow < leaves → (get_or places flow 0 < leaves) × (get_or numbers (get_or places flow 0) 0 ≡ flow)
-  pub number : (place : ℕ) → place < leaves → (get_or numbers place 0 < leaves) × (get_or places (get_or numbers place 0) 0 ≡ place)
+  pub placed : (flow : ℕ) → flow < leaves
+      → (get_or places flow 0 < leaves) × (get_or numbers (get_or places flow 0) 0 ≡ flow)
+  pub number : (place : ℕ) → place < leaves
+      → (get_or numbers place 0 < leaves) × (get_or places (get_or numbers place 0) 0 ≡ place)
 
 -- the bytes of each flow, by those of each place
 abbrev pub counts_at : List ℕ → List ℕ → List ℕ

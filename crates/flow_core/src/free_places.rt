@@ -56,12 +56,16 @@ impl FreePlaces {
     }
 
     /// A place is free from then on.
-    #[inline(never)]
     pub(crate) fn give_back(&mut self, place: u32) {
         let word = place as usize / 64;
+        if word >= self.words.len() {
+            return;
+        }
+        let before = self.words[word];
+        self.words[word] = before | 1 << (place % 64);
         let group = word / 64;
-        if word < self.words.len() && group < self.groups.len() {
-            self.words[word] |= 1 << (place % 64);
+        // A word that had a bit stands in its group already.
+        if before == 0 && group < self.groups.len() {
             self.groups[group] |= 1 << (word % 64);
             self.all |= 1 << (group % 64);
         }

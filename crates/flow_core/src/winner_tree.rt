@@ -1,8 +1,8 @@
 //! The bytes that wait in each flow, and the flow that has the most, in a tree of winners. Each flow has a place in the
 //! tree, and a flow whose first packet comes moves to the least place that is free: so a few busy flows stand near each
-//! other, whatever their numbers. All places with bytes stand below one node, the top: a change of one flow's bytes is at
-//! most one walk between its leaf and the top, and the winner of all flows is read there. So a few busy flows pay only
-//! for the levels among them.
+//! other, whatever their numbers. All places with bytes stand below one node, the top: a change of one flow's bytes is
+//! at most one walk between its leaf and the top, and the winner of all flows is read there. So a few busy flows pay
+//! only for the levels among them.
 //!
 //! It is a tree, and not a scan at an overflow: a scan looks at all flows each time, under an overload, when time is
 //! shortest. Here each packet pays for one walk at most, and an overflow for none.
@@ -119,8 +119,8 @@ impl WinnerTree {
         }
     }
 
-    // The same of a flow that had none: it moves to the least free place. It is kept out of an enqueue, where most flows
-    // have bytes.
+    // The same of a flow that had none: it moves to the least free place. It is kept out of an enqueue, where most
+    // flows have bytes.
     #[inline(never)]
     fn add_first(&mut self, flow: u32, bytes: u64)
         requires flow { flow < length self.old.bytes }
@@ -167,9 +167,19 @@ impl WinnerTree {
             );
             self.bytes[place as usize] = own;
             if own == 0 {
-                self.free.give_back(place);
+                self.emptied(place);
             }
         }
+    }
+
+    // A place got empty: it is free, and the top may sink by a level. So it is low again soon after many flows had
+    // bytes. No counts are compared: whether a place has any is read.
+    #[inline(never)]
+    fn emptied(&mut self, place: u32)
+        ensures { self.new ≡ self.old }
+    {
+        self.free.give_back(place);
+        self.top = sunk(&self.numbers, &self.bytes, &self.winners, self.top);
     }
 
     /// How many flows there are, from 1 to 65,536.
@@ -277,8 +287,8 @@ fn first_places(alloc: Global, leaves: usize) -> Result<Vec<u32>, Memory>
     Ok(places)
 }
 
-// A flow without bytes moves to a place that is said to be free, and the flow there gets its place. It stays where it is
-// if none was said, or if the flow there has bytes. The result is its place.
+// A flow without bytes moves to a place that is said to be free, and the flow there gets its place. It stays where it
+// is if none was said, or if the flow there has bytes. The result is its place.
 fn settle(
     places: &mut [u32],
     numbers: &mut [u32],
@@ -292,7 +302,8 @@ fn settle(
     ensures paired { ArePaired (length bytes.now) places.new numbers.new }
     ensures place { result ≡ slice_index places.new flow }
     ensures bytes { counts_at bytes.now places.new ≡ counts_at bytes.now places.old }
-    ensures busy { (place : ℕ) → 0 < slice_index bytes.now place → slice_index numbers.new place ≡ slice_index numbers.old place }
+    ensures busy { (place : ℕ) → 0 < slice_index bytes.now place
+        → slice_index numbers.new place ≡ slice_index numbers.old place }
 {
     let from = places[flow as usize];
     let Some(to) = free else {
@@ -353,7 +364,8 @@ fn raise(numbers: &[u32], bytes: &[u64], winners: &mut [u32], top: Top, place: u
     requires tree { IsTree (length bytes.now) numbers.now bytes.now winners.old top.node top.height }
     requires waits { 0 < slice_index bytes.now place }
     requires grows { slice_index bytes.now place ≤ own }
-    ensures tree { IsTree (length bytes.now) numbers.now (slice_set bytes.now place own) winners.new top.node top.height }
+    ensures tree { IsTree (length bytes.now) numbers.now (slice_set bytes.now place own) winners.new
+        top.node top.height }
     ensures few { (levels : ℕ) → length bytes.now ≡ 2 ^ levels → result ≤ levels }
     ensures compares { 2 ≤ length bytes.now → 1 ≤ result }
 {
@@ -365,8 +377,8 @@ fn raise(numbers: &[u32], bytes: &[u64], winners: &mut [u32], top: Top, place: u
     raise_below_top(numbers, bytes, winners, top, place, own)
 }
 
-// The same of a place that had no bytes, which may stand outside of the top. Then the top moves: to its leaf if no place
-// had bytes, else up.
+// The same of a place that had no bytes, which may stand outside of the top. Then the top moves: to its leaf if no
+// place had bytes, else up.
 fn raise_from_none(
     numbers: &[u32],
     bytes: &[u64],
@@ -379,7 +391,8 @@ fn raise_from_none(
     requires small { All (λ b. b < 2 ^ 63) bytes.now }
     requires tree { IsTree (length bytes.now) numbers.now bytes.now winners.old top.old.node top.old.height }
     requires none { slice_index bytes.now place ≡ 0 }
-    ensures tree { IsTree (length bytes.now) numbers.now (slice_set bytes.now place own) winners.new top.new.node top.new.height }
+    ensures tree { IsTree (length bytes.now) numbers.now (slice_set bytes.now place own) winners.new
+        top.new.node top.new.height }
     ensures few { (levels : ℕ) → length bytes.now ≡ 2 ^ levels → result ≤ levels }
     ensures compares { 2 ≤ length bytes.now → 1 ≤ result }
 {
@@ -390,7 +403,7 @@ fn raise_from_none(
     let most = winners[top.node];
     let most_bytes = bytes[most as usize];
     if most_bytes == 0 {
-        // No place had bytes, and so no other one has. Where it doesn't win it got none either, and all stays as it was.
+        // No place had bytes, and so no other one has. Where it doesn't win it got none either: all stays as it was.
         let mut comparisons = 0;
         if wins_over(
             &mut comparisons,
@@ -425,7 +438,8 @@ fn raise_below_top(
     requires below { IsBelow (length bytes.now) top.node place }
     requires waits { 0 < slice_index bytes.now (slice_index winners.old top.node) }
     requires grows { slice_index bytes.now place ≤ own }
-    ensures tree { IsTree (length bytes.now) numbers.now (slice_set bytes.now place own) winners.new top.node top.height }
+    ensures tree { IsTree (length bytes.now) numbers.now (slice_set bytes.now place own) winners.new
+        top.node top.height }
     ensures few { (levels : ℕ) → length bytes.now ≡ 2 ^ levels → result ≤ levels }
     ensures compares { 1 ≤ result }
 {
@@ -464,7 +478,8 @@ fn climb(numbers: &[u32], bytes: &[u64], winners: &mut [u32], top: Top, place: u
     requires grows { slice_index bytes.now place ≤ own }
     requires another { slice_index winners.old top.node ≢ place }
     requires loses { WinsOver numbers.now (slice_set bytes.now place own) (slice_index winners.old top.node) place }
-    ensures tree { IsTree (length bytes.now) numbers.now (slice_set bytes.now place own) winners.new top.node top.height }
+    ensures tree { IsTree (length bytes.now) numbers.now (slice_set bytes.now place own) winners.new
+        top.node top.height }
     ensures few { (levels : ℕ) → length bytes.now ≡ 2 ^ levels → result ≤ levels }
     ensures compares { 1 ≤ result }
 {
@@ -502,7 +517,8 @@ fn rise(
     requires tree { IsTree (length bytes.now) numbers.now bytes.now winners.old top.old.node top.old.height }
     requires waits { 0 < slice_index bytes.now (slice_index winners.old top.old.node) }
     requires outside { ¬ IsBelow (length bytes.now) top.old.node place }
-    ensures tree { IsTree (length bytes.now) numbers.now (slice_set bytes.now place own) winners.new top.new.node top.new.height }
+    ensures tree { IsTree (length bytes.now) numbers.now (slice_set bytes.now place own) winners.new
+        top.new.node top.new.height }
     ensures counted { result ≡ 1 }
 {
     let most = winners[top.node];
@@ -529,6 +545,29 @@ fn rise(
     comparisons
 }
 
+// The one of the two nodes below the top that all places with bytes are below, else the top.
+fn sunk(numbers: &[u32], bytes: &[u64], winners: &[u32], top: Top) -> Top
+    requires tree { IsTree (length bytes.now) numbers.now bytes.now winners.now top.node top.height }
+    ensures tree { IsTree (length bytes.now) numbers.now bytes.now winners.now result.node result.height }
+{
+    if top.node >= bytes.len() {
+        return top;
+    }
+    let left = 2 * top.node;
+    let right = left + 1;
+    let height = top.height - 1;
+    if bytes[winners[right] as usize] == 0 {
+        return Top { node: left, height };
+    }
+    if bytes[winners[left] as usize] == 0 {
+        return Top {
+            node: right,
+            height,
+        };
+    }
+    top
+}
+
 // A place's count falls to that one, which isn't among the bytes yet: each node from its leaf to the top gets its
 // winner anew, up to the first where another place won. Two counts are compared once at each node where the place had
 // won.
@@ -547,7 +586,8 @@ fn lower(
     requires tree { IsTree (length bytes.now) numbers.now bytes.now winners.old top.node top.height }
     requires waits { 0 < slice_index bytes.now place }
     requires falls { own ≤ slice_index bytes.now place }
-    ensures tree { IsTree (length bytes.now) numbers.now (slice_set bytes.now place own) winners.new top.node top.height }
+    ensures tree { IsTree (length bytes.now) numbers.now (slice_set bytes.now place own) winners.new
+        top.node top.height }
     ensures none_lost { comparisons.old ≤ comparisons.new }
     ensures few { (levels : ℕ) → length bytes.now ≡ 2 ^ levels → comparisons.new ≤ comparisons.old + levels }
 {
@@ -559,8 +599,8 @@ fn lower(
     }
 }
 
-// The same from the place's leaf on. The result is how often two counts were compared. Its loop wants all registers, and
-// so it is kept out of a dequeue, which has a packet in hand.
+// The same from the place's leaf on. The result is how often two counts were compared. Its loop wants all registers,
+// and so it is kept out of a dequeue, which has a packet in hand.
 #[inline(never)]
 fn lower_from(
     numbers: &[u32],
@@ -577,12 +617,14 @@ fn lower_from(
     requires tree { IsTree (length bytes.now) numbers.now bytes.now winners.old top.node top.height }
     requires waits { 0 < slice_index bytes.now place }
     requires falls { own ≤ slice_index bytes.now place }
-    ensures tree { IsTree (length bytes.now) numbers.now (slice_set bytes.now place own) winners.new top.node top.height }
+    ensures tree { IsTree (length bytes.now) numbers.now (slice_set bytes.now place own) winners.new
+        top.node top.height }
     ensures few { (levels : ℕ) → length bytes.now ≡ 2 ^ levels → result ≤ levels }
 {
     let mut node = leaf;
     let mut comparisons = 0;
-    // The winner so far, its bytes and its flow's number are carried along, so that no level waits for what the one below wrote.
+    // The winner so far, its bytes and its flow's number are carried along, so that no level waits for what the one
+    // below wrote.
     let mut winner = place;
     let mut most = own;
     let mut number = numbers[place as usize];

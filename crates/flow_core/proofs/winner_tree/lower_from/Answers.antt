@@ -1,5 +1,5 @@
-use Rattle.std.proofs.Common.{◌≡◌, ◌≢◌, ℕ, ◌+◌, ◌-◌, ◌/◌, ◌%◌, ◌<◌, ◌≤◌, min, get_or, length, set, arith, subst, sym, get_or-set_other, get_or-set_same}
-use Rattle.flow_core.specs.WinnerNodes.{IsBelow, IsWinner}
+use Rattle.std.proofs.Common.{◌≡◌, ◌≢◌, ◌+◌, ◌-◌, ◌/◌, ◌<◌, ◌≤◌, min, get_or, length, set, arith, sym, get_or-set_other, get_or-set_same}
+use Rattle.flow_core.specs.WinnerNodes.{IsWinner}
 use Rattle.flow_core.proofs.NodeLemmas.{not_beside}
 use Rattle.flow_core.proofs.WinnerLemmas.{climbs_next, count_written, ends, few_by, joins, right_past, starts, stops_fallen, winner_at_leaf, written_less}
 use Rattle.flow_core.proofs.winner_tree.lower_from.Goals as goal

@@ -1,5 +1,5 @@
-use Rattle.std.proofs.Common.{◌≡◌, ◌+◌, ◌-◌, ◌<◌, ◌^◌, get_or, length, set, ap, refl, sym, ◌∙◌, arith}
-use Rattle.std.proofs.lemmas.List.{get_or_read, set-get_or, with_items_is}
+use Rattle.std.proofs.Common.{◌≡◌, ◌+◌, ◌<◌, ◌^◌, get_or, set, ap, refl, ◌∙◌, arith}
+use Rattle.std.proofs.lemmas.List.{get_or_read, with_items_is}
 use Rattle.flow_core.specs.Winners.{ByteCounts}
 use Rattle.flow_core.proofs.SeenLemmas.{count_seen, flows_seen, leaves_enough, seen_written, written_keeps}
 use Rattle.flow_core.proofs.winner_tree.WinnerTree.add.Goals.{After-index-had}

@@ -1,4 +1,4 @@
-use Rattle.std.proofs.Common.{◌≡◌, ◌+◌, ◌<◌, ◌^◌, get_or, length, set, vec_len, ap, refl, sym, ◌∙◌, arith}
+use Rattle.std.proofs.Common.{◌≡◌, ◌<◌, set, vec_len, ap, refl, ◌∙◌, arith}
 use Rattle.std.proofs.lemmas.List.{with_items_is}
 use Rattle.flow_core.specs.Winners.{ByteCounts}
 use Rattle.flow_core.specs.WinnerNodes.{ArePaired, counts_at}

@@ -1,4 +1,4 @@
-use Rattle.std.proofs.Common.{◌≡◌, ℕ, ◌+◌, ◌-◌, ◌<◌, ◌^◌, get_or, length, set, ap, refl, sym, ◌∙◌, arith}
+use Rattle.std.proofs.Common.{◌≡◌, ℕ, ◌-◌, ◌<◌, ◌^◌, get_or, length, set, ap, refl, sym, ◌∙◌, arith}
 use Rattle.std.proofs.lemmas.List.{get_or_read, set-get_or, with_items_is}
 use Rattle.std.proofs.lemmas.List.Elements.{All-get_or}
 use Rattle.flow_core.specs.Winners.{ByteCounts}
@@ -56,7 +56,7 @@ returns-then-own-eq0-clause-bytes c =
     let before = (goal.at.returns-then-own-eq0-clause-bytes c).After-index in
     let t = c.self.inside in
     let own = get_or c.args.self.now.bytes c.args.flow 0 - c.args.bytes in
-    rw (place before, had before)
+    rw (c.emptied.ensures, place before, had before)
     (seen_written t c.self.invariant c.args.flow own (within before) t.places.items t.numbers.items c.self.invariant.paired refl
     ∙ ap (λ (v : ByteCounts). set v.bytes c.args.flow own) c.self.view_is)
 
