@@ -217,18 +217,25 @@ int maltcove_find(const uint8_t *bytes, size_t captured, uint32_t link_type, mal
 	return maltcove_raw_find(bytes != NULL ? bytes : no_bytes, captured, link_type, found);
 }
 
-int maltcove_parse_as(const uint8_t *bytes, size_t captured, size_t wire, uint16_t ethertype, uint32_t flags,
-		      maltcove_packet *packet, maltcove_where *where)
+/* Of its own, so that each of the two calls below makes one call: an exported function is never merged into another. */
+static inline int parse(const uint8_t *bytes, size_t captured, size_t wire, uint16_t ethertype, uint32_t flags,
+			maltcove_packet *packet, maltcove_where *where)
 {
 	if ((bytes == NULL && captured != 0) || packet == NULL || where == NULL)
 		return MALTCOVE_NULL;
 	return maltcove_raw_parse(bytes != NULL ? bytes : no_bytes, captured, wire, ethertype, flags, packet, where);
 }
 
+int maltcove_parse_as(const uint8_t *bytes, size_t captured, size_t wire, uint16_t ethertype, uint32_t flags,
+		      maltcove_packet *packet, maltcove_where *where)
+{
+	return parse(bytes, captured, wire, ethertype, flags, packet, where);
+}
+
 int maltcove_parse(const uint8_t *bytes, size_t captured, size_t wire, uint16_t ethertype, maltcove_packet *packet,
 		   maltcove_where *where)
 {
-	return maltcove_parse_as(bytes, captured, wire, ethertype, 0, packet, where);
+	return parse(bytes, captured, wire, ethertype, 0, packet, where);
 }
 
 int maltcove_mark(uint8_t *bytes, size_t captured, maltcove_where *where)

@@ -1,8 +1,7 @@
 /*
  * Nanoseconds of maltcove_parse and maltcove_mark on a packet of TCP over IPv4, of maltcove_find on its frame of
  * Ethernet, and of a round of one enqueue and one dequeue: the workload `one` of bench.c, in which ten packets of one
- * flow wait. All are timed by turns, and the least of all turns counts. It ends with status 1 where a parse takes more
- * than a fifth of a round.
+ * flow wait. All are timed by turns, and the least of all turns counts.
  *
  *     parse [TURNS]      51 turns where no number is given
  *
@@ -143,5 +142,5 @@ int main(int argc, char **argv)
 		printf("%-20s %6.1f ns\n", names[k], best[k]);
 	printf("a parse is %.2f of a round by five-tuple, and %.2f of one by flow\n", best[1] / best[3],
 	       best[1] / best[4]);
-	return best[1] > best[3] / 5;
+	return 0;
 }
