@@ -7,6 +7,7 @@
  *
  * Build it by `cc -O2 -Ic c/bench/parse.c c/build/libmaltcove.a`.
  */
+#define _POSIX_C_SOURCE 199309L
 #include "maltcove.h"
 
 #include <stdio.h>

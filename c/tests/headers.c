@@ -15,6 +15,9 @@
 
 enum { LONGEST = 2000, LINE = 3 * LONGEST };
 
+/* A scheduler, that parsed packets are handed to. */
+static maltcove m = MALTCOVE_INIT;
+
 static void check_at(bool right, const char *what, int line)
 {
 	if (!right) {
@@ -139,6 +142,23 @@ static bool is_address(const uint8_t *bytes, const uint8_t *wanted, size_t lengt
 	return memcmp(bytes, wanted, length) == 0 && memcmp(bytes + length, zeros, 16 - length) == 0;
 }
 
+/* A scheduler accepts what was parsed and known, and gives it back, and refuses the rest. */
+static void is_ready(const maltcove_packet *p)
+{
+	static uint64_t moment = 0;
+	maltcove_admitted admitted;
+	maltcove_sent sent;
+
+	moment++;
+	if (p->version == 0) {
+		CHECK(maltcove_enqueue(&m, moment, p, &admitted) == MALTCOVE_BAD_PACKET);
+	} else {
+		CHECK(maltcove_enqueue(&m, moment, p, &admitted) == MALTCOVE_OK && admitted.drops == 0);
+		CHECK(maltcove_dequeue(&m, moment, &sent) == MALTCOVE_OK && sent.tag == p->tag && sent.len == p->len);
+		CHECK(sent.ecn == p->ecn);
+	}
+}
+
 static void written_out(void)
 {
 	for (size_t i = 0; i < sizeof rows / sizeof *rows; i++) {
@@ -169,6 +189,7 @@ static void written_out(void)
 				(unsigned)w.flow_label);
 			exit(1);
 		}
+		is_ready(&p);
 	}
 }
 
@@ -243,8 +264,11 @@ static void say_packet(char *said, const uint8_t *bytes, size_t n, size_t wire, 
 		MALTCOVE_CUT };
 	maltcove_packet p;
 	maltcove_where w;
-	int answer = maltcove_parse_as(bytes, n, wire, ethertype, flags, &p, &w), place = 0;
+	int answer, place = 0;
 
+	p.tag = n;
+	answer = maltcove_parse_as(bytes, n, wire, ethertype, flags, &p, &w);
+	is_ready(&p);
 	while (verdicts[place] != answer)
 		CHECK(++place < 10);
 	said += sprintf(said, "ip\t%d\t%u\t%u\t%u\t%u\t%u\t%u\t%u\t%u\t%u\t", place, p.version, p.proto, p.ecn,
@@ -337,12 +361,16 @@ static void compare(const char *packets, const char *wanted)
 
 int main(int argc, char **argv)
 {
+	const uint8_t seed[16] = { 0 };
+
+	CHECK(maltcove_open(&m, "limit 1", 7, seed, 16, NULL) == MALTCOVE_OK);
 	written_out();
 	null_pointers();
 	records();
 	texts();
 	if (argc == 3)
 		compare(argv[1], argv[2]);
+	maltcove_free(&m);
 	printf("headers: %d packets by the RFCs are read as wanted\n", (int)(sizeof rows / sizeof *rows));
 	return 0;
 }
