@@ -55,6 +55,10 @@ int32_t maltcove_raw_queued(maltcove *m, uint64_t *queued);
 int32_t maltcove_raw_totals(maltcove *m, maltcove_totals_t *totals);
 int32_t maltcove_raw_flow(maltcove *m, uint32_t flow, maltcove_flow_t *view);
 int32_t maltcove_raw_params(maltcove *m, maltcove_params_t *params);
+int32_t maltcove_raw_find(const uint8_t *bytes, size_t captured, uint32_t link_type, maltcove_found *found);
+int32_t maltcove_raw_parse(const uint8_t *bytes, size_t captured, size_t wire, uint16_t ethertype, uint32_t flags,
+			   maltcove_packet *packet, maltcove_where *where);
+int32_t maltcove_raw_mark(uint8_t *bytes, size_t captured, maltcove_where *where);
 
 int maltcove_open(maltcove *m, const char *words, size_t words_len, const uint8_t *seed, size_t seed_len,
 		  maltcove_fault *fault)
@@ -203,6 +207,47 @@ int maltcove_params(maltcove *m, maltcove_params_t *params)
 	return maltcove_raw_params(m, params);
 }
 
+/* A packet without bytes, which a slice still has a place for. */
+static const uint8_t no_bytes[1];
+
+int maltcove_find(const uint8_t *bytes, size_t captured, uint32_t link_type, maltcove_found *found)
+{
+	if ((bytes == NULL && captured != 0) || found == NULL)
+		return MALTCOVE_NULL;
+	return maltcove_raw_find(bytes != NULL ? bytes : no_bytes, captured, link_type, found);
+}
+
+/* Of its own, so that each of the two calls below makes one call: an exported function is never merged into another. */
+static inline int parse(const uint8_t *bytes, size_t captured, size_t wire, uint16_t ethertype, uint32_t flags,
+			maltcove_packet *packet, maltcove_where *where)
+{
+	if ((bytes == NULL && captured != 0) || packet == NULL || where == NULL)
+		return MALTCOVE_NULL;
+	return maltcove_raw_parse(bytes != NULL ? bytes : no_bytes, captured, wire, ethertype, flags, packet, where);
+}
+
+int maltcove_parse_as(const uint8_t *bytes, size_t captured, size_t wire, uint16_t ethertype, uint32_t flags,
+		      maltcove_packet *packet, maltcove_where *where)
+{
+	return parse(bytes, captured, wire, ethertype, flags, packet, where);
+}
+
+int maltcove_parse(const uint8_t *bytes, size_t captured, size_t wire, uint16_t ethertype, maltcove_packet *packet,
+		   maltcove_where *where)
+{
+	return parse(bytes, captured, wire, ethertype, 0, packet, where);
+}
+
+int maltcove_mark(uint8_t *bytes, size_t captured, maltcove_where *where)
+{
+	maltcove_where untold = { 0 };
+	uint8_t none = 0;
+
+	if (bytes == NULL && captured != 0)
+		return MALTCOVE_NULL;
+	return maltcove_raw_mark(bytes != NULL ? bytes : &none, captured, where != NULL ? where : &untold);
+}
+
 const char *maltcove_strerror(int answer)
 {
 	switch (answer) {
@@ -240,6 +285,26 @@ const char *maltcove_strerror(int answer)
 		       "to choose the flow";
 	case MALTCOVE_NULL:
 		return "a pointer is null";
+	case MALTCOVE_SHORT:
+		return "fewer bytes came than the header has: 20 of IPv4, 40 of IPv6";
+	case MALTCOVE_NOT_IP:
+		return "the packet is neither IPv4 nor IPv6, or of another version than its ethertype says";
+	case MALTCOVE_BAD_IHL:
+		return "the header length of IPv4 is below 5 words";
+	case MALTCOVE_BAD_LENGTH:
+		return "the total length of IPv4 is below the header length";
+	case MALTCOVE_OVERRUN:
+		return "the packet says that it is longer than what came";
+	case MALTCOVE_BAD_CHAIN:
+		return "an extension header of IPv6 passes the packet's end";
+	case MALTCOVE_TOO_LONG:
+		return "the packet is longer than 65535 bytes";
+	case MALTCOVE_BAD_JUMBO:
+		return "the jumbo payload option of IPv6 is missing, or says less than 65536 bytes";
+	case MALTCOVE_CUT:
+		return "the captured bytes end inside a header";
+	case MALTCOVE_UNKNOWN_LINK:
+		return "no known link type has that number: known are 0, 1, 12, 14, 101, 108, 113, 228, 229 and 276";
 	default:
 		return "unknown code";
 	}

@@ -14,13 +14,16 @@
  *     maltcove_flush(&m, flushed, 64);                    until it answers 0, then maltcove_drops
  *     maltcove_free(&m);
  *
+ * Where packets are bytes, maltcove_find and maltcove_parse fill the packet that maltcove_enqueue takes, and
+ * maltcove_mark writes the mark after maltcove_dequeue. They need no scheduler.
+ *
  * examples/loop.c is the whole loop of a router, and examples/threads.c has a scheduler per thread.
  *
  * Link with -lmaltcove. The library needs malloc, realloc, free, memcpy, memmove and memset, and nothing else.
  *
  * Answers. A call answers MALTCOVE_OK, or a count from 0 on, or a negative number of the list below. After a negative
  * one nothing has changed: neither the scheduler nor what the other pointers point to, but for the fault of
- * maltcove_open.
+ * maltcove_open, and for the records that maltcove_parse and maltcove_find fill.
  *
  * Units. Moments are whole microseconds below 2^60, of a clock that the caller chooses. Lengths are bytes. With
  * nanoseconds in place of microseconds every wait looks a thousand times as long. A flow of which some packets always
@@ -96,6 +99,34 @@ enum {
 	MALTCOVE_NULL = -14         /* a pointer is null */
 };
 
+/* What bytes are found to be: the first rule that they break. maltcove_parse and maltcove_find return these, and no
+ * other call does. */
+enum {
+	MALTCOVE_FINE = 0,          /* they break none */
+	MALTCOVE_SHORT = -20,       /* fewer on the wire than the fixed header has: 20 of IPv4, 40 of IPv6 */
+	MALTCOVE_NOT_IP = -21,      /* neither IPv4 nor IPv6, or another version than the ethertype says */
+	MALTCOVE_BAD_IHL = -22,     /* the header length of IPv4 is below 5 words (RFC 791, section 3.1) */
+	MALTCOVE_BAD_LENGTH = -23,  /* the total length of IPv4 is below the header's, as the 0 of a sender's own capture */
+	MALTCOVE_OVERRUN = -24,     /* the packet says that it is longer than what came on the wire */
+	MALTCOVE_BAD_CHAIN = -25,   /* an extension header of IPv6 passes the packet's end */
+	MALTCOVE_TOO_LONG = -26,    /* longer than 65535 bytes: a jumbogram of IPv6 (RFC 2675), too */
+	MALTCOVE_BAD_JUMBO = -27,   /* the payload length of IPv6 is left to an option that is not there or says too little */
+	MALTCOVE_CUT = -28,         /* the captured bytes end inside a header that says where the next one begins */
+	MALTCOVE_UNKNOWN_LINK = -29 /* no link type that is known here has that number */
+};
+
+/* What maltcove_mark returns. */
+enum {
+	MALTCOVE_UNMARKED = 0,      /* nothing was written */
+	MALTCOVE_MARKED = 1         /* the field is CE now */
+};
+
+/* What maltcove_parse_as puts in place of the ports: one of these, or the sum of both. */
+enum {
+	MALTCOVE_ESP_SPI = 1,       /* ESP's index of security parameters (RFC 4303), its high half as the source port */
+	MALTCOVE_FLOW_LABEL = 2     /* a flow label of IPv6 that is not 0 (RFC 6437), its high four bits as the source port */
+};
+
 /* What is wrong with a parameter word. */
 enum {
 	MALTCOVE_WORDS_FINE = 0,
@@ -123,6 +154,41 @@ typedef struct maltcove_packet {
 	uint8_t ecn;                /* the two bits of ECN, 0 to 3 (RFC 3168): 1 and 2 can be marked */
 	uint8_t version;            /* of IP, 4 or 6 */
 } maltcove_packet;
+
+/* Which part of a datagram a packet is (RFC 791, section 3.2; RFC 8200, section 4.5). */
+enum {
+	MALTCOVE_WHOLE = 0,
+	MALTCOVE_ATOMIC = 1,        /* all of it, behind a fragment header (RFC 6946) */
+	MALTCOVE_FIRST = 2,         /* the first of several */
+	MALTCOVE_LATER = 3          /* another than the first */
+};
+
+/* Where a packet's ports are. */
+enum {
+	MALTCOVE_PORTS_ABSENT = 0,  /* the protocol has none, or is not reached */
+	MALTCOVE_PORTS_FOUND = 1,
+	MALTCOVE_PORTS_BEYOND = 2,  /* the packet ends before them */
+	MALTCOVE_PORTS_CUT = 3,     /* the captured bytes end before them */
+	MALTCOVE_PORTS_FRAGMENT = 4 /* the packet is a fragment, and all fragments of a datagram have ports 0 */
+};
+
+/* What the headers of a packet say besides. */
+typedef struct maltcove_where {
+	uint64_t transport;         /* where the transport's header begins, in bytes from the first of the packet */
+	uint32_t flow_label;        /* of IPv6 (RFC 8200, section 6); 0 of IPv4 */
+	int32_t verdict;            /* MALTCOVE_FINE and so on: what maltcove_parse returned */
+	uint8_t fragment;           /* MALTCOVE_WHOLE and so on */
+	uint8_t ports;              /* MALTCOVE_PORTS_FOUND and so on */
+	uint8_t dscp;               /* the code point of differentiated services, 0 to 63 (RFC 2474) */
+	uint8_t ecn;                /* the two bits of ECN as they are in the bytes: maltcove_mark keeps it */
+} maltcove_where;
+
+/* The packet in what a link delivered. */
+typedef struct maltcove_found {
+	uint64_t offset;            /* where it begins, in bytes from the first */
+	uint64_t tags;              /* how many VLAN tags are before it */
+	uint16_t ethertype;         /* as maltcove_parse takes it: 0 where the link has none */
+} maltcove_found;
 
 /* What is said of a packet that was accepted. */
 typedef struct maltcove_admitted {
@@ -269,8 +335,8 @@ int maltcove_enqueue_flow(maltcove *m, uint64_t now_us, uint32_t flow, uint32_t 
 
 /*
  * Gives the packet that is next at the moment now_us. CoDel may have dropped packets before it: sent->drops says how
- * many. They can be read at any time before the next enqueue. Write sent->ecn into the packet's header, and where that
- * changes a header of IPv4, mend its checksum (RFC 1624).
+ * many. They can be read at any time before the next enqueue. Where sent->mark isn't MALTCOVE_NO_MARK, write the mark
+ * into the packet by maltcove_mark.
  *
  * Answers MALTCOVE_OK; MALTCOVE_IDLE where nothing waits, and then all of *sent is 0 but drops; MALTCOVE_NULL,
  * MALTCOVE_NOT_OPEN, MALTCOVE_TOO_LARGE or MALTCOVE_BACKWARDS.
@@ -318,6 +384,64 @@ int maltcove_flow(maltcove *m, uint32_t flow, maltcove_flow_t *view);
 
 /* The parameters. Answers MALTCOVE_OK, MALTCOVE_NULL or MALTCOVE_NOT_OPEN. */
 int maltcove_params(maltcove *m, maltcove_params_t *params);
+
+/*
+ * Finds the packet in what a link delivered, by the number that captures have for the link's type (LINKTYPE_):
+ *
+ *     1              Ethernet                        113, 276   Linux's cooked headers, of 16 and of 20 bytes
+ *     101, 12, 14    raw IP of either version        0, 108     BSD's loopback, whose header is an address family
+ *     228, 229       raw IPv4, raw IPv6
+ *
+ * VLAN tags are skipped, any number of them (ethertypes 8100, 88A8 and 9100). PPPoE, MPLS and frames with a length in
+ * place of an ethertype carry no IP here. *found is all 0 after MALTCOVE_CUT and MALTCOVE_UNKNOWN_LINK, and after
+ * MALTCOVE_NOT_IP it says what else is carried, with ethertype 0 where an address family is none of IP's. bytes may be
+ * NULL where captured is 0.
+ *
+ *     if (maltcove_find(frame, captured, 1, &found) == MALTCOVE_FINE)
+ *             maltcove_parse(frame + found.offset, captured - found.offset, wire - found.offset, found.ethertype,
+ *                            &packet, &where);
+ *
+ * Answers MALTCOVE_FINE, MALTCOVE_NULL, MALTCOVE_NOT_IP, MALTCOVE_CUT or MALTCOVE_UNKNOWN_LINK.
+ */
+int maltcove_find(const uint8_t *bytes, size_t captured, uint32_t link_type, maltcove_found *found);
+
+/*
+ * Reads the headers of a packet, from the header of IP on. captured is how many bytes there are, and wire how many the
+ * link delivered: the same, unless a capture cut the packet off. ethertype is the link's, 0x0800 or 0x86DD, and 0 where
+ * it has none: the version in the packet counts then.
+ *
+ * *packet is ready for maltcove_enqueue but for its tag, which stays as it was. Its length is the packet's own, so
+ * padding doesn't count. Ports are those of TCP, UDP, DCCP, SCTP and UDP-Lite, behind all extension headers of IPv6.
+ * Other protocols and all fragments have ports 0, so that a datagram is in one flow. Of a tunnel the outer header
+ * counts. Options are skipped by their lengths, and the checksum isn't verified. No byte past the captured ones or past
+ * the packet's own length is read, whatever it says of itself. bytes may be NULL where captured is 0.
+ *
+ * After MALTCOVE_BAD_CHAIN, and after MALTCOVE_CUT behind the fixed header, the addresses, the length and ECN are
+ * filled in, the protocol is the number of the header that is bad or cut, and the ports are 0: such a packet can be
+ * queued. After any other verdict but MALTCOVE_FINE all fields are 0 but the tag and where->verdict. packet->version
+ * says which it is: 4 or 6, and 0 where nothing is known.
+ *
+ * Answers MALTCOVE_FINE, MALTCOVE_NULL, or what is wrong with the packet: MALTCOVE_SHORT to MALTCOVE_CUT.
+ */
+int maltcove_parse(const uint8_t *bytes, size_t captured, size_t wire, uint16_t ethertype, maltcove_packet *packet,
+		   maltcove_where *where);
+
+/*
+ * The same with flags: MALTCOVE_ESP_SPI, MALTCOVE_FLOW_LABEL, the sum of both, or 0, as maltcove_parse has it. Other
+ * bits have no meaning. A flow label takes the place of the ports of any packet, of a fragment too.
+ */
+int maltcove_parse_as(const uint8_t *bytes, size_t captured, size_t wire, uint16_t ethertype, uint32_t flags,
+		      maltcove_packet *packet, maltcove_where *where);
+
+/*
+ * Writes CE into the packet whose header of IP begins there, where its ECN field is ECT(0) or ECT(1) (RFC 3168, section
+ * 5) and the fixed header was captured. Other packets stay as they are. The checksum of IPv4 is mended by equation 3 of
+ * RFC 1624: a right one stays right, and a wrong one wrong. where->ecn is 3 then; where may be NULL, and bytes, where
+ * captured is 0.
+ *
+ * Answers MALTCOVE_MARKED, MALTCOVE_UNMARKED or MALTCOVE_NULL.
+ */
+int maltcove_mark(uint8_t *bytes, size_t captured, maltcove_where *where);
 
 /* The text of an answer, in English, without a line end: never NULL. */
 const char *maltcove_strerror(int answer);

@@ -25,8 +25,9 @@ from dataclasses import dataclass
 from typing import NamedTuple, NoReturn, Optional, Union
 
 __all__ = [
-    "Admitted", "Cause", "Dropped", "Error", "Flow", "Flushed", "Mark", "Packet", "Params", "Scheduler", "Sent",
-    "Status", "Totals", "WordError", "WordFault", "version",
+    "Admitted", "Cause", "Dropped", "Error", "Flow", "Flushed", "Found", "Fragment", "Mark", "Packet", "Params",
+    "Parsed", "Ports", "Scheduler", "Sent", "Status", "Totals", "Verdict", "WordError", "WordFault", "find", "mark",
+    "parse", "version",
 ]
 
 
@@ -61,6 +62,41 @@ class WordFault(enum.IntEnum):
     NOT_UTF8 = 5
 
 
+class Verdict(enum.IntEnum):
+    """What bytes are found to be: the first rule that they break."""
+
+    FINE = 0
+    SHORT = -20
+    NOT_IP = -21
+    BAD_IHL = -22
+    BAD_LENGTH = -23
+    OVERRUN = -24
+    BAD_CHAIN = -25
+    TOO_LONG = -26
+    BAD_JUMBO = -27
+    CUT = -28
+    UNKNOWN_LINK = -29
+
+
+class Fragment(enum.IntEnum):
+    """Which part of a datagram a packet is."""
+
+    WHOLE = 0
+    ATOMIC = 1
+    FIRST = 2
+    LATER = 3
+
+
+class Ports(enum.IntEnum):
+    """Where a packet's ports are."""
+
+    ABSENT = 0
+    FOUND = 1
+    BEYOND = 2
+    CUT = 3
+    FRAGMENT = 4
+
+
 class Mark(enum.IntEnum):
     """What marked a packet that is sent."""
 
@@ -92,6 +128,17 @@ class _Packet(ctypes.Structure):
         ("src", ctypes.c_uint8 * 16), ("dst", ctypes.c_uint8 * 16), ("proto", ctypes.c_uint8), ("ecn", ctypes.c_uint8),
         ("version", ctypes.c_uint8),
     ]
+
+
+class _Where(ctypes.Structure):
+    _fields_ = [
+        ("transport", ctypes.c_uint64), ("flow_label", ctypes.c_uint32), ("verdict", ctypes.c_int32),
+        ("fragment", ctypes.c_uint8), ("ports", ctypes.c_uint8), ("dscp", ctypes.c_uint8), ("ecn", ctypes.c_uint8),
+    ]
+
+
+class _Found(ctypes.Structure):
+    _fields_ = [("offset", ctypes.c_uint64), ("tags", ctypes.c_uint64), ("ethertype", ctypes.c_uint16)]
 
 
 class _Admitted(ctypes.Structure):
@@ -158,7 +205,7 @@ class _Params(ctypes.Structure):
 # The sizes that the library has for them.
 _SIZES = {
     _Maltcove: 16, _Fault: 32, _Packet: 56, _Admitted: 24, _Sent: 32, _Dropped: 24, _Flushed: 16, _Totals: 112,
-    _Flow: 64, _Params: 56,
+    _Flow: 64, _Params: 56, _Where: 24, _Found: 24,
 }
 
 
@@ -175,7 +222,8 @@ def _load() -> ctypes.CDLL:
         if ctypes.sizeof(struct) != size:
             raise ImportError(f"{struct.__name__} has {ctypes.sizeof(struct)} bytes here, and {size} in the library")
     library = ctypes.CDLL(named)
-    u8, u32, u64, size_t, to = ctypes.c_uint8, ctypes.c_uint32, ctypes.c_uint64, ctypes.c_size_t, ctypes.POINTER
+    u8, u16, u32, u64 = ctypes.c_uint8, ctypes.c_uint16, ctypes.c_uint32, ctypes.c_uint64
+    size_t, to, data = ctypes.c_size_t, ctypes.POINTER, ctypes.c_char_p
     of_int, of_count, of_text = ctypes.c_int, ctypes.c_int64, ctypes.c_char_p
     m = to(_Maltcove)
     calls = {
@@ -193,6 +241,9 @@ def _load() -> ctypes.CDLL:
         "totals": (of_int, [m, to(_Totals)]),
         "flow": (of_int, [m, u32, to(_Flow)]),
         "params": (of_int, [m, to(_Params)]),
+        "find": (of_int, [data, size_t, u32, to(_Found)]),
+        "parse_as": (of_int, [data, size_t, size_t, u16, u32, to(_Packet), to(_Where)]),
+        "mark": (of_int, [to(u8), size_t, to(_Where)]),
         "strerror": (of_text, [of_int]),
         "version": (of_text, []),
     }
@@ -476,6 +527,87 @@ class Scheduler:
             p.limit, p.flows, p.quantum, p.mtu, p.target, p.interval, p.ce_threshold if p.has_ce_threshold else None,
             p.memory_limit if p.has_memory_limit else None, p.drop_batch, p.ecn, p.hash,
         )
+
+
+Bytes = Union[bytes, bytearray, memoryview]
+
+
+def _bytes(name: str, value: Bytes) -> bytes:
+    """The bytes of a buffer."""
+    if not isinstance(value, (bytes, bytearray, memoryview)):
+        raise TypeError(f"{name} is a {type(value).__name__}, and has to be bytes")
+    return bytes(value)
+
+
+class Found(NamedTuple):
+    """The packet in what a link delivered: where it begins, behind how many VLAN tags, and its ethertype, which is None
+    where the link has none. The verdict is FINE, NOT_IP, CUT or UNKNOWN_LINK."""
+
+    verdict: Verdict
+    offset: int
+    tags: int
+    ethertype: Optional[int]
+
+
+@dataclass(frozen=True)
+class Parsed:
+    """What the headers of a packet say. ``packet`` is ready for ``Scheduler.enqueue``. It is None unless the verdict is
+    FINE or BAD_CHAIN, or CUT behind the fixed header. ``transport`` is where the transport's header begins."""
+
+    verdict: Verdict
+    packet: Optional[Packet]
+    transport: int
+    flow_label: int
+    fragment: Fragment
+    ports: Ports
+    dscp: int
+
+
+def find(frame: Bytes, link_type: int) -> Found:
+    """Finds the packet in what a link delivered, by the number that captures have for the link's type: 1 for Ethernet,
+    101, 12 and 14 for raw IP, 228 and 229 for raw IPv4 and IPv6, 113 and 276 for Linux's cooked headers, 0 and 108 for
+    BSD's loopback."""
+    data, record = _bytes("frame", frame), _Found()
+    answer = _library.maltcove_find(data, len(data), _in_range("link_type", link_type, 1 << 32), record)
+    return Found(Verdict(answer), record.offset, record.tags, record.ethertype or None)
+
+
+def parse(
+    packet: Bytes, wire: Optional[int] = None, ethertype: Optional[int] = None, *, tag: int = 0, esp_spi: bool = False,
+    flow_label: bool = False,
+) -> Parsed:
+    """Reads the headers of a packet, from the header of IP on. ``wire`` is how many bytes the link delivered: as many as
+    there are, where it isn't said. ``esp_spi`` and ``flow_label`` take these in place of the ports."""
+    data, record, where = _bytes("packet", packet), _Packet(), _Where()
+    record.tag = _in_range("tag", tag, 1 << 64)
+    answer = _library.maltcove_parse_as(
+        data, len(data), _in_range("wire", len(data) if wire is None else wire, 1 << 64),
+        _in_range("ethertype", ethertype or 0, 1 << 16), bool(esp_spi) + 2 * bool(flow_label), record, where,
+    )
+    return Parsed(
+        Verdict(answer), _packet(record), where.transport, where.flow_label, Fragment(where.fragment),
+        Ports(where.ports), where.dscp,
+    )
+
+
+def _packet(record: _Packet) -> Optional[Packet]:
+    """The packet of a record, if its version is known."""
+    if record.version == 0:
+        return None
+    length = 4 if record.version == 4 else 16
+    return Packet(
+        record.tag, record.len, ipaddress.ip_address(bytes(record.src[:length])),
+        ipaddress.ip_address(bytes(record.dst[:length])), record.sport, record.dport, record.proto, record.ecn,
+    )
+
+
+def mark(packet: bytearray) -> bool:
+    """Writes CE into the packet whose header of IP begins there, where its ECN field is ECT(0) or ECT(1), and mends the
+    checksum of IPv4 (RFC 1624). Says whether it did."""
+    if not isinstance(packet, bytearray):
+        raise TypeError(f"packet is a {type(packet).__name__}, and has to be a bytearray")
+    data = (ctypes.c_uint8 * len(packet)).from_buffer(packet)
+    return bool(_library.maltcove_mark(data, len(packet), _Where()) == 1)
 
 
 def version() -> str:

@@ -14,8 +14,8 @@ from collections.abc import Callable
 from typing import Any
 
 from maltcove import (
-    Admitted, Cause, Dropped, Error, Flow, Flushed, Mark, Packet, Params, Scheduler, Sent, Status, Totals, WordError,
-    WordFault, version,
+    Admitted, Cause, Dropped, Error, Flow, Flushed, Found, Fragment, Mark, Packet, Params, Parsed, Ports, Scheduler, Sent,
+    Status, Totals, Verdict, WordError, WordFault, find, mark, parse, version,
 )
 
 # The bytes 0 to 15.
@@ -371,6 +371,77 @@ class Calls(unittest.TestCase):
 
     def test_version(self) -> None:
         self.assertEqual(version(), "0.1.0")
+
+
+class Headers(unittest.TestCase):
+    """Packets as bytes."""
+
+    UDP4 = bytes.fromhex("45ba001c1234000040110000 0a000001 0a000002 1388003500080000")
+    ESP6 = bytes.fromhex("6ababcde 0008 32 40" + "20010db8" + "00" * 11 + "01" + "20010db8" + "00" * 11 + "02"
+                         + "1234567800000001")
+
+    def test_parse(self) -> None:
+        parsed = parse(self.UDP4 + bytes(18), ethertype=0x0800, tag=7)
+        packet = Packet(7, 28, ipaddress.ip_address("10.0.0.1"), ipaddress.ip_address("10.0.0.2"), 5000, 53, 17, 2)
+        self.assertEqual(parsed, Parsed(Verdict.FINE, packet, 20, 0, Fragment.WHOLE, Ports.FOUND, 46))
+        with Scheduler(seed=SEED) as scheduler:
+            self.assertEqual(scheduler.enqueue(0, packet).flow, flow_of(packet))
+            self.assertEqual(scheduler.dequeue(0), Sent(7, 0, 28, 2, Mark.NONE, 0))
+        source, destination = ipaddress.ip_address("2001:db8::1"), ipaddress.ip_address("2001:db8::2")
+        for esp_spi, flow_label, sport, dport, ports in [
+                (False, False, 0, 0, Ports.ABSENT), (True, False, 0x1234, 0x5678, Ports.FOUND),
+                (False, True, 0xA, 0xBCDE, Ports.ABSENT), (True, True, 0xA, 0xBCDE, Ports.FOUND)]:
+            wanted = Packet(0, 48, source, destination, sport, dport, 50, 3)
+            self.assertEqual(
+                parse(self.ESP6, 48, 0x86DD, esp_spi=esp_spi, flow_label=flow_label),
+                Parsed(Verdict.FINE, wanted, 40, 0xABCDE, Fragment.WHOLE, ports, 42))
+
+    def test_verdicts(self) -> None:
+        def spoilt(place: int, *spoils: int) -> bytes:
+            return self.UDP4[:place] + bytes(spoils) + self.UDP4[place + len(spoils):]
+
+        six = self.ESP6
+        for verdict, data, wire, ethertype in [
+                (Verdict.SHORT, b"", 0, None), (Verdict.CUT, b"", 20, None), (Verdict.NOT_IP, self.UDP4, 28, 0x86DD),
+                (Verdict.BAD_IHL, spoilt(0, 0x44), 28, None), (Verdict.BAD_LENGTH, spoilt(2, 0, 0), 28, None),
+                (Verdict.OVERRUN, spoilt(2, 0, 29), 28, None), (Verdict.TOO_LONG, six[:4] + b"\xff\xd8" + six[6:], 1 << 16, None),
+                (Verdict.BAD_JUMBO, six[:4] + bytes(3) + six[7:], 48, None)]:
+            parsed = parse(data, wire, ethertype)
+            self.assertEqual(parsed, Parsed(verdict, None, 0, 0, Fragment.WHOLE, Ports.ABSENT, 0))
+        bad_chain = parse(six[:6] + b"\x3c" + six[7:41] + b"\1" + six[42:])
+        self.assertEqual((bad_chain.verdict, bad_chain.transport), (Verdict.BAD_CHAIN, 40))
+        self.assertTrue(bad_chain.packet is not None and bad_chain.packet.proto == 60 and bad_chain.packet.len == 48)
+        for field, fragment in [(0x20, Fragment.FIRST), (0x21, Fragment.LATER)]:
+            self.assertEqual(parse(spoilt(6, field, field & 1)).fragment, fragment)
+            self.assertEqual(parse(spoilt(6, field, field & 1)).ports, Ports.FRAGMENT)
+        self.assertEqual(parse(self.UDP4[:22], 28).ports, Ports.CUT)
+        self.assertEqual(parse(spoilt(3, 23), 28).ports, Ports.BEYOND)
+
+    def test_find(self) -> None:
+        frame = bytes(12) + bytes.fromhex("88a80064 81000065 0800") + self.UDP4
+        self.assertEqual(find(frame, 1), Found(Verdict.FINE, 22, 2, 0x0800))
+        self.assertEqual(find(frame[:21], 1), Found(Verdict.CUT, 0, 0, None))
+        self.assertEqual(find(bytes(12) + b"\x08\x06", 1), Found(Verdict.NOT_IP, 14, 0, 0x0806))
+        self.assertEqual(find(memoryview(self.UDP4), 101), Found(Verdict.FINE, 0, 0, None))
+        self.assertEqual(find(bytearray(self.UDP4), 147), Found(Verdict.UNKNOWN_LINK, 0, 0, None))
+
+    def test_mark(self) -> None:
+        data = bytearray(self.UDP4)
+        self.assertTrue(mark(data))
+        # equation 3 of RFC 1624: the word 45ba has become 45bb, and the checksum 0 has become fffe
+        self.assertEqual(data, self.UDP4[:1] + b"\xbb" + self.UDP4[2:10] + b"\xff\xfe" + self.UDP4[12:])
+        self.assertFalse(mark(data) or mark(bytearray()) or mark(bytearray(b"\x45\x01")))
+
+    def test_wrong_types(self) -> None:
+        for call in (
+                lambda: parse("45"), lambda: find(45, 1), lambda: mark(b"E"),  # type: ignore[arg-type]
+        ):
+            self.assertRaises(TypeError, call)
+        for number in (-1, 1 << 32):
+            self.assertRaises(ValueError, find, b"", number)
+        self.assertRaises(ValueError, parse, b"", -1)
+        self.assertRaises(ValueError, parse, b"", 0, 1 << 16)
+        self.assertRaises(ValueError, parse, b"", tag=1 << 64)
 
 
 if __name__ == "__main__":

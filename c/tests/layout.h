@@ -36,6 +36,20 @@ STANDS(maltcove_packet, proto, 48);
 STANDS(maltcove_packet, ecn, 49);
 STANDS(maltcove_packet, version, 50);
 
+HOLDS(sizeof(maltcove_where) == 24);
+STANDS(maltcove_where, transport, 0);
+STANDS(maltcove_where, flow_label, 8);
+STANDS(maltcove_where, verdict, 12);
+STANDS(maltcove_where, fragment, 16);
+STANDS(maltcove_where, ports, 17);
+STANDS(maltcove_where, dscp, 18);
+STANDS(maltcove_where, ecn, 19);
+
+HOLDS(sizeof(maltcove_found) == 24);
+STANDS(maltcove_found, offset, 0);
+STANDS(maltcove_found, tags, 8);
+STANDS(maltcove_found, ethertype, 16);
+
 HOLDS(sizeof(maltcove_admitted) == 24);
 STANDS(maltcove_admitted, id, 0);
 STANDS(maltcove_admitted, drops, 8);

@@ -8,7 +8,7 @@
 #include <stddef.h>
 #include <stdint.h>
 
-#include "packet.h"
+#include <maltcove.h>
 
 /* Bytes in a buffer. A packet that is longer is read in part, and its length field is found to lie then. */
 #define BUFFER_BYTES 2048
@@ -17,7 +17,8 @@ struct buffer {
 	struct buffer *next;     /* of the line that it stands in */
 	uint64_t came, due;      /* nanoseconds: when it came, and when it leaves */
 	uint64_t number;         /* of the caller's own */
-	struct packet_view view; /* what packet_parse read */
+	maltcove_packet packet;  /* what its headers say; the tag is the address of the buffer, where the queue is Maltcove */
+	maltcove_where where;
 	uint32_t count;          /* bytes that were read */
 	uint32_t flow;           /* where the queue has flows */
 	uint8_t ecn, mark;       /* as it was sent: see maltcove.h */

@@ -80,7 +80,7 @@ static void fifo_put(struct queue *queue, uint64_t now, struct buffer *buffer)
 		return;
 	}
 	fifo->totals.queued++;
-	fifo->totals.queued_bytes += buffer->view.len;
+	fifo->totals.queued_bytes += buffer->packet.len;
 	line_put(&fifo->line, buffer);
 }
 
@@ -91,7 +91,7 @@ static struct buffer *fifo_next(struct fifo *fifo)
 
 	if (buffer != NULL) {
 		fifo->totals.queued--;
-		fifo->totals.queued_bytes -= buffer->view.len;
+		fifo->totals.queued_bytes -= buffer->packet.len;
 	}
 	return buffer;
 }
@@ -104,10 +104,10 @@ static size_t fifo_take(struct queue *queue, uint64_t now, struct buffer **buffe
 	while (count < n && (buffers[count] = fifo_next(fifo)) != NULL) {
 		struct buffer *buffer = buffers[count++];
 
-		buffer->ecn = buffer->view.ecn;
+		buffer->ecn = buffer->packet.ecn;
 		buffer->mark = 0;
 		fifo->totals.sent++;
-		fifo->totals.sent_bytes += buffer->view.len;
+		fifo->totals.sent_bytes += buffer->packet.len;
 		queue_settle(queue, buffer, FATE_SENT, now);
 	}
 	return count;

@@ -41,7 +41,7 @@ struct queue_kind {
 	/* Makes the state by words of tc's, for buffers of queue->pool. Where a word is wrong, or memory is missing, it
 	 * writes why into fault and answers false. */
 	bool (*open)(struct queue *queue, const char *words, const uint8_t seed[16], char *fault, size_t fault_size);
-	/* Takes a buffer whose view was read, at that moment in nanoseconds. From here on it is the queue's. */
+	/* Takes a buffer whose headers were read, at that moment in nanoseconds. From here on it is the queue's. */
 	void (*put)(struct queue *queue, uint64_t now, struct buffer *buffer);
 	/* Gives up to n buffers that are sent at that moment, with their ECN field written. Answers how many. */
 	size_t (*take)(struct queue *queue, uint64_t now, struct buffer **buffers, size_t n);

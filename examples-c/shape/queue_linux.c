@@ -81,7 +81,7 @@ static bool linux_open(struct queue *queue, const char *words, const uint8_t see
 }
 
 /* A hash of the five-tuple. The kernel's is SipHash; any that spreads does for a comparison of few flows. */
-static u32 hash_of(const struct packet_view *view, uint64_t key)
+static u32 hash_of(const maltcove_packet *view, uint64_t key)
 {
 	const uint8_t rest[] = { view->proto, view->sport >> 8, view->sport & 255, view->dport >> 8, view->dport & 255 };
 	uint64_t hash = key ^ 0xcbf29ce484222325;
@@ -101,11 +101,11 @@ static void linux_put(struct queue *queue, uint64_t now, struct buffer *buffer)
 
 	memset(packet, 0, sizeof *packet);
 	packet->id = (uintptr_t)buffer;
-	packet->len = buffer->view.len;
-	packet->truesize = buffer->view.len;
-	qdisc_skb_cb(packet)->pkt_len = buffer->view.len;
-	packet->ecn = buffer->view.ecn;
-	packet->hash = hash_of(&buffer->view, state->key);
+	packet->len = buffer->packet.len;
+	packet->truesize = buffer->packet.len;
+	qdisc_skb_cb(packet)->pkt_len = buffer->packet.len;
+	packet->ecn = buffer->packet.ecn;
+	packet->hash = hash_of(&buffer->packet, state->key);
 	current = queue;
 	shim_clock_ns = now;
 	state->totals.accepted++;
@@ -131,14 +131,14 @@ static struct buffer *take_one(struct queue *queue)
 	buffer = buffer_of(packet);
 	buffer->ecn = packet->ecn;
 	buffer->mark = 0;
-	if (packet->ecn != buffer->view.ecn) {
-		packet_write_ecn(buffer->bytes, packet->ecn);
+	if (packet->ecn != buffer->packet.ecn) {
+		maltcove_mark(buffer->bytes, buffer->count, &buffer->where);
 		buffer->mark = sched->cstats.ecn_mark != marks ? 1 : 2;
 	}
 	state->totals.marked += sched->cstats.ecn_mark - marks;
 	state->totals.threshold_marked += buffer->mark == 2;
 	state->totals.sent++;
-	state->totals.sent_bytes += buffer->view.len;
+	state->totals.sent_bytes += buffer->packet.len;
 	return buffer;
 }
 

@@ -4,7 +4,6 @@
  */
 #include "queue.h"
 
-#include <maltcove.h>
 #include <stdlib.h>
 #include <string.h>
 
@@ -73,21 +72,10 @@ static void settle_drops(struct queue *queue, uint64_t now)
 static void maltcove_kind_put(struct queue *queue, uint64_t now, struct buffer *buffer)
 {
 	struct scheduler *scheduler = queue->state;
-	const struct packet_view *view = &buffer->view;
 	maltcove_admitted admitted;
-	maltcove_packet packet = {
-		.tag = tag_of(buffer),
-		.len = view->len,
-		.sport = view->sport,
-		.dport = view->dport,
-		.proto = view->proto,
-		.ecn = view->ecn,
-		.version = view->version,
-	};
 
-	memcpy(packet.src, view->src, sizeof packet.src);
-	memcpy(packet.dst, view->dst, sizeof packet.dst);
-	if (maltcove_enqueue(&scheduler->handle, moment_of(now), &packet, &admitted) != MALTCOVE_OK) {
+	buffer->packet.tag = tag_of(buffer);
+	if (maltcove_enqueue(&scheduler->handle, moment_of(now), &buffer->packet, &admitted) != MALTCOVE_OK) {
 		scheduler->refused++;
 		queue_settle(queue, buffer, FATE_REFUSED, now);
 		return;
@@ -104,8 +92,8 @@ static struct buffer *leave(struct queue *queue, uint64_t now, const maltcove_se
 
 	buffer->ecn = sent->ecn;
 	buffer->mark = sent->mark;
-	if (sent->ecn != buffer->view.ecn)
-		packet_write_ecn(buffer->bytes, sent->ecn);
+	if (sent->mark != MALTCOVE_NO_MARK)
+		maltcove_mark(buffer->bytes, buffer->count, &buffer->where);
 	queue_settle(queue, buffer, FATE_SENT, now);
 	return buffer;
 }

@@ -95,7 +95,7 @@ static void write_devices(struct program *program)
 	uint64_t now = now_ns();
 
 	while ((buffer = shaper_leave(&program->shaper, now)) != NULL)
-		write_packet(program, program->out, buffer, buffer->view.len);
+		write_packet(program, program->out, buffer, buffer->packet.len);
 	while (program->back.first != NULL && program->back.first->due <= now) {
 		buffer = line_take(&program->back);
 		write_packet(program, program->in, buffer, buffer->count);

@@ -12,12 +12,26 @@ void shaper_open(struct shaper *shaper, struct pool *pool, struct queue *queue, 
 	link_open(&shaper->link, rate);
 }
 
+/* What is wrong with a packet of which maltcove_parse answers that. */
+static enum bad bad_of(int verdict)
+{
+	switch (verdict) {
+	case MALTCOVE_SHORT:
+		return BAD_SHORT;
+	case MALTCOVE_NOT_IP:
+		return BAD_NO_IP;
+	default:
+		return BAD_LENGTHS;
+	}
+}
+
 void shaper_come(struct shaper *shaper, uint64_t now, struct buffer *buffer)
 {
-	enum packet_fault fault = packet_parse(buffer->bytes, buffer->count, &buffer->view);
+	/* a device of raw IP names no ethertype */
+	int verdict = maltcove_parse(buffer->bytes, buffer->count, buffer->count, 0, &buffer->packet, &buffer->where);
 
-	if (fault != PACKET_FINE) {
-		shaper->bad[fault]++;
+	if (verdict != MALTCOVE_FINE) {
+		shaper->bad[bad_of(verdict)]++;
 		pool_give(shaper->pool, buffer);
 		return;
 	}
@@ -37,7 +51,7 @@ static void send(struct shaper *shaper, uint64_t now, struct buffer *buffer)
 	shaper->waited += wait;
 	if (wait > shaper->most_wait)
 		shaper->most_wait = wait;
-	link_send(&shaper->link, buffer->view.len);
+	link_send(&shaper->link, buffer->packet.len);
 	buffer->due = shaper->link.free_at + shaper->delay;
 	line_put(&shaper->underway, buffer);
 }
@@ -108,8 +122,8 @@ void shaper_print(const struct shaper *shaper, const char *device, FILE *file)
 		plain(shaper->link.rate), plain(shaper->delay / 1000),
 		totals.sent > 0 ? (double)shaper->waited / 1e6 / (double)totals.sent : 0, (double)shaper->most_wait / 1e6,
 		(double)shaper->most_late / 1e6);
-	fprintf(file, " bad short %llu no_ip %llu lengths %llu\n", plain(shaper->bad[PACKET_SHORT]),
-		plain(shaper->bad[PACKET_NO_IP]), plain(shaper->bad[PACKET_LIES]));
+	fprintf(file, " bad short %llu no_ip %llu lengths %llu\n", plain(shaper->bad[BAD_SHORT]),
+		plain(shaper->bad[BAD_NO_IP]), plain(shaper->bad[BAD_LENGTHS]));
 	fprintf(file, " buffers %zu out %zu most %zu taken %llu given %llu twice %llu none_left %llu\n", pool->size, pool->out,
 		pool->most, plain(pool->taken), plain(pool->given), plain(pool->twice), plain(pool->none_left));
 }

@@ -12,13 +12,21 @@
 /* No moment: nothing is to be done until a packet comes. */
 #define NEVER UINT64_MAX
 
+/* What is wrong with a packet that is let go. */
+enum bad {
+	BAD_SHORT,   /* fewer bytes than the header of its version has */
+	BAD_NO_IP,   /* the version is neither 4 nor 6 */
+	BAD_LENGTHS, /* a length in a header says more bytes than there are, or fewer than the header has */
+	BAD_KINDS    /* how many there are */
+};
+
 struct shaper {
 	struct pool *pool;
 	struct queue *queue;
 	struct link link;
 	uint64_t delay;              /* nanoseconds from the end of a packet on the link to its leaving */
 	struct line underway;        /* packets that were sent and haven't left */
-	uint64_t bad[PACKET_FAULTS]; /* packets that were let go, by what was wrong with them */
+	uint64_t bad[BAD_KINDS];     /* packets that were let go, by what was wrong with them */
 	uint64_t waited, most_wait;  /* nanoseconds in the queue, of all packets sent and of one */
 	uint64_t most_late;          /* nanoseconds that the link was served late at most */
 };

@@ -27,16 +27,20 @@
 //! assert_eq!((sent.tag, sent.id), (42, admitted.id));
 //! # Ok::<(), maltcove::Error>(())
 //! ```
+//!
+//! Where packets are bytes, [`find`] and [`parse`] make a [`Packet`] of them, and [`mark`] writes the mark.
 
 #![warn(missing_docs)]
 
 mod error;
+mod headers;
 mod packet;
 mod scheduler;
 mod sys;
 mod views;
 
 pub use error::{Error, WordFault};
+pub use headers::{find, mark, parse, Found, Fragment, InPlaceOfPorts, Parsed, Ports, Verdict};
 pub use packet::{Admitted, Cause, Dropped, Ecn, Flushed, Mark, Packet, Sent};
 pub use scheduler::{version, Drops, Flush, Scheduler};
 pub use views::{Classify, Flow, Params, Totals};

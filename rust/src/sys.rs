@@ -19,6 +19,7 @@ pub struct Fault {
 }
 
 #[repr(C)]
+#[derive(Default)]
 pub struct Packet {
     pub tag: u64,
     pub len: u32,
@@ -29,6 +30,26 @@ pub struct Packet {
     pub proto: u8,
     pub ecn: u8,
     pub version: u8,
+}
+
+#[repr(C)]
+#[derive(Default)]
+pub struct Where {
+    pub transport: u64,
+    pub flow_label: u32,
+    pub verdict: i32,
+    pub fragment: u8,
+    pub ports: u8,
+    pub dscp: u8,
+    pub ecn: u8,
+}
+
+#[repr(C)]
+#[derive(Default)]
+pub struct Found {
+    pub offset: u64,
+    pub tags: u64,
+    pub ethertype: u16,
 }
 
 #[repr(C)]
@@ -102,6 +123,7 @@ const _: () = assert!(size_of::<Packet>() == 56 && size_of::<Admitted>() == 24);
 const _: () = assert!(size_of::<Sent>() == 32 && size_of::<Dropped>() == 24);
 const _: () = assert!(size_of::<Flushed>() == 16 && size_of::<Totals>() == 112);
 const _: () = assert!(size_of::<Flow>() == 64 && size_of::<Params>() == 56);
+const _: () = assert!(size_of::<Where>() == 24 && size_of::<Found>() == 24);
 
 pub const OK: c_int = 0;
 pub const IDLE: c_int = 1;
@@ -141,5 +163,21 @@ extern "C" {
     pub fn maltcove_totals(m: *mut Maltcove, totals: *mut Totals) -> c_int;
     pub fn maltcove_flow(m: *mut Maltcove, flow: u32, view: *mut Flow) -> c_int;
     pub fn maltcove_params(m: *mut Maltcove, params: *mut Params) -> c_int;
+    pub fn maltcove_find(
+        bytes: *const u8,
+        captured: usize,
+        link_type: u32,
+        found: *mut Found,
+    ) -> c_int;
+    pub fn maltcove_parse_as(
+        bytes: *const u8,
+        captured: usize,
+        wire: usize,
+        ethertype: u16,
+        flags: u32,
+        packet: *mut Packet,
+        place: *mut Where,
+    ) -> c_int;
+    pub fn maltcove_mark(bytes: *mut u8, captured: usize, place: *mut Where) -> c_int;
     pub fn maltcove_version() -> *const c_char;
 }

@@ -6,6 +6,7 @@ pub mod Headers
 pub mod Ipv4Headers
 pub mod Ipv6Headers
 pub mod Jumbograms
+pub mod LinkTypes
 pub mod Links
 pub mod Marks
 pub mod PortFields

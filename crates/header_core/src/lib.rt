@@ -12,6 +12,7 @@ mod ipv6;
 mod jumbo;
 mod laws;
 mod link;
+mod link_types;
 mod ports;
 
 pub use congestion::mark;
@@ -19,3 +20,4 @@ pub use dissection::dissect;
 pub use header::{Fragment, Header, InPlaceOfPorts, Ports, Verdict};
 pub use laws::{fragments_stay_together, one_meaning, padding_is_ignored};
 pub use link::{Payload, link_payload};
+pub use link_types::{Carried, find_packet};

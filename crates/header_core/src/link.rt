@@ -43,7 +43,7 @@ pub fn link_payload(bytes: &[u8]) -> Option<Payload>
 }
 
 /// Whether an ethertype is that of a VLAN tag.
-fn is_tag(ethertype: u16) -> bool
+pub(crate) fn is_tag(ethertype: u16) -> bool
     ensures { result ≡ is_tag ethertype }
 {
     matches!(ethertype, 0x8100 | 0x88A8 | 0x9100)

@@ -5,3 +5,4 @@ pub mod Places
 pub mod Records
 pub mod Texts
 pub mod Calls
+pub mod Headers

@@ -1,5 +1,5 @@
 -- What the records mean that C reads and writes.
-use Rattle.std.specs.Prelude.{◌≡◌, ℕ, ℤ, ◌-◌, ◌==◌, Bool, true, false, List, take, Option, Some, None, unwrap_or, is_some, if◌then◌else◌}
+use Rattle.std.specs.Prelude.{◌≡◌, ℕ, ℤ, ◌-◌, ◌==◌, ◌++◌, Bool, true, false, List, [], ◌∷◌, take, Option, Some, None, unwrap_or, is_some, if◌then◌else◌}
 use Rattle.packet_core.specs.Packets.{PacketParts, IsLengthInRange}
 use Rattle.packet_core.specs.declared.packet.Ecn.{Ecn}
 use Rattle.packet_core.specs.declared.packet.Ecn.TheVariants.{Ce, Ect0, Ect1, NotEct}
@@ -18,20 +18,31 @@ use Rattle.journal_core.specs.declared.event.Cause.{Cause}
 use Rattle.journal_core.specs.declared.event.Cause.TheVariants.{Codel, Overflow}
 use Rattle.journal_core.specs.declared.step.Sent.{Sent}
 use Rattle.fair_core.specs.declared.flow_view.FlowView.{FlowView}
+use Rattle.header_core.specs.declared.header.Fragment.{Fragment}
+use Rattle.header_core.specs.declared.header.Fragment.TheVariants as fragment
+use Rattle.header_core.specs.declared.header.Header.{Header}
+use Rattle.header_core.specs.declared.header.Ports.{Ports}
+use Rattle.header_core.specs.declared.header.Ports.TheVariants as ports
+use Rattle.header_core.specs.declared.link.Payload.{Payload}
+use Rattle.header_core.specs.declared.link_types.Carried.{Carried}
+use Rattle.header_core.specs.declared.link_types.Carried.TheVariants as carried
 use Rattle.queue_disc_core.specs.declared.answers.Dropped.{Dropped}
 use Rattle.queue_disc_core.specs.declared.answers.Enqueued.{Enqueued}
 use Rattle.queue_disc_core.specs.declared.answers.Handle.{Handle}
 use Rattle.queue_disc_core.specs.declared.totals.QueueDiscTotals.{QueueDiscTotals}
 use Rattle.maltcove_c.specs.Places.{word_bytes, word_start}
+use Rattle.maltcove_c.specs.Statuses.{verdict_code}
 use Rattle.maltcove_c.specs.declared.records.MaltcoveAdmitted.{MaltcoveAdmitted}
 use Rattle.maltcove_c.specs.declared.records.MaltcoveDropped.{MaltcoveDropped}
 use Rattle.maltcove_c.specs.declared.records.MaltcoveFault.{MaltcoveFault}
 use Rattle.maltcove_c.specs.declared.records.MaltcoveFlow.{MaltcoveFlow}
 use Rattle.maltcove_c.specs.declared.records.MaltcoveFlushed.{MaltcoveFlushed}
+use Rattle.maltcove_c.specs.declared.records.MaltcoveFound.{MaltcoveFound}
 use Rattle.maltcove_c.specs.declared.records.MaltcovePacket.{MaltcovePacket}
 use Rattle.maltcove_c.specs.declared.records.MaltcoveParams.{MaltcoveParams}
 use Rattle.maltcove_c.specs.declared.records.MaltcoveSent.{MaltcoveSent}
 use Rattle.maltcove_c.specs.declared.records.MaltcoveTotals.{MaltcoveTotals}
+use Rattle.maltcove_c.specs.declared.records.MaltcoveWhere.{MaltcoveWhere}
 use Rattle.maltcove_c.specs.declared.records.TheConstants.{MISSING_VALUE, NO_FAULT, NOT_A_NUMBER, NOT_TEXT, OUT_OF_RANGE, UNKNOWN_WORD}
 
 -- the ECN field that two bits are (RFC 3168, section 5)
@@ -74,6 +85,67 @@ pub record SaysInFlow (flow len bits tag : ℕ) (packet : PacketParts) : Type 0 
   pub fits : IsLengthInRange len
   pub ecn : ecn_of_bits bits ≡ Some packet.ecn
   pub tag_is : packet.tag ≡ tag
+
+-- twelve bytes that are 0
+abbrev pub twelve_zeros : List ℕ
+twelve_zeros = 0 ∷ 0 ∷ 0 ∷ 0 ∷ 0 ∷ 0 ∷ 0 ∷ 0 ∷ 0 ∷ 0 ∷ 0 ∷ 0 ∷ []
+
+-- the sixteen bytes of an address: of IPv4 the first four, and the others are 0
+abbrev pub bytes_of_address : Ip → List ℕ
+bytes_of_address (V4 octets) = octets ++ twelve_zeros
+bytes_of_address (V6 octets) = octets
+
+-- the number of a part of a datagram
+abbrev pub fragment_code : Fragment → ℕ
+fragment_code fragment.Whole = 0
+fragment_code fragment.Atomic = 1
+fragment_code fragment.First = 2
+fragment_code fragment.Later = 3
+
+-- the number of a place of ports
+abbrev pub ports_code : Ports → ℕ
+ports_code ports.Absent = 0
+ports_code ports.Found = 1
+ports_code ports.Beyond = 2
+ports_code ports.Cut = 3
+ports_code ports.Fragment = 4
+
+-- what C reads of a packet whose headers say that, with the tag that the caller gave it
+abbrev pub packet_told : Header → ℕ → MaltcovePacket
+packet_told header tag = record {
+  tag = tag;
+  len = header.len;
+  sport = header.tuple.sport;
+  dport = header.tuple.dport;
+  src = bytes_of_address header.tuple.src;
+  dst = bytes_of_address header.tuple.dst;
+  proto = header.tuple.proto;
+  ecn = ecn_bits header.ecn;
+  version = header.version;
+}
+
+-- what C reads besides
+abbrev pub where_told : Header → MaltcoveWhere
+where_told header = record {
+  transport = header.transport;
+  flow_label = header.flow_label;
+  verdict = verdict_code header.verdict;
+  fragment = fragment_code header.fragment;
+  ports = ports_code header.ports;
+  dscp = header.dscp;
+  ecn = ecn_bits header.ecn;
+}
+
+-- what C reads of what stands behind a link's header
+abbrev pub payload_told : Payload → MaltcoveFound
+payload_told payload = record { offset = payload.offset; tags = payload.tags; ethertype = payload.ethertype }
+
+-- what C reads of what a link delivered
+abbrev pub found_told : Carried → MaltcoveFound
+found_told (carried.Packet payload) = payload_told payload
+found_told (carried.Another payload) = payload_told payload
+found_told carried.Cut = record { offset = 0; tags = 0; ethertype = 0 }
+found_told carried.Unknown = record { offset = 0; tags = 0; ethertype = 0 }
 
 -- what C reads of a packet that was accepted
 abbrev pub admitted_told : Enqueued → MaltcoveAdmitted

@@ -5,6 +5,7 @@
 #![tactic(auto)]
 
 mod handle;
+mod headers;
 mod losses;
 mod opening;
 mod packets;

@@ -2,15 +2,18 @@
 
 ghost use Rattle.std.specs.Prelude.{◌≡◌, IfSome, IsNone};
 ghost use Rattle.packet_core.specs.Packets.{PacketParts};
-ghost use Rattle.maltcove_c.specs.Records.{Says, SaysInFlow, address_of_bytes, admitted_told, cause_code, dropped_told, ecn_bits, ecn_of_bits, fault_told, flow_told, flushed_told, idle_told, mark_code, not_text_told, nothing_told, params_told, sent_told, totals_told, word_told};
+ghost use Rattle.maltcove_c.specs.Records.{Says, SaysInFlow, address_of_bytes, admitted_told, bytes_of_address, cause_code, dropped_told, ecn_bits, ecn_of_bits, fault_told, flow_told, flushed_told, found_told, fragment_code, idle_told, mark_code, not_text_told, nothing_told, packet_told, params_told, payload_told, ports_code, sent_told, totals_told, where_told, word_told};
 
 use crate::places::{bytes_in_front, word_start};
+use crate::status::verdict_code;
+use header_core::{Carried, Fragment, Header, Payload, Ports};
 use packet_core::{Classify, Ecn, EcnUse, FiveTuple, Ip, Packet, ParamFault, Params};
 use queue_disc_core::{Dropped, Enqueued, Handle, QueueDiscTotals};
 use sched_core::{Cause, FlowView, Mark, Sent};
 
 /// A packet that comes.
 #[repr(C)]
+#[derive(Drop)]
 pub struct MaltcovePacket {
     /// What the caller knows it by.
     pub(crate) tag: u64,
@@ -33,6 +36,42 @@ pub struct MaltcovePacket {
 }
 
 const _: () = prove!(size_of::<MaltcovePacket>() == 56);
+
+/// What the headers of a packet say besides.
+#[repr(C)]
+#[derive(Drop)]
+pub struct MaltcoveWhere {
+    /// Where what follows the network's headers begins, in bytes from the first of the packet.
+    pub(crate) transport: u64,
+    /// The flow label of IPv6.
+    pub(crate) flow_label: u32,
+    /// What the bytes are found to be.
+    pub(crate) verdict: i32,
+    /// Which part of a datagram it is.
+    pub(crate) fragment: u8,
+    /// Where the ports are.
+    pub(crate) ports: u8,
+    /// The differentiated services code point.
+    pub(crate) dscp: u8,
+    /// The ECN field in the bytes, from 0 to 3.
+    pub(crate) ecn: u8,
+}
+
+const _: () = prove!(size_of::<MaltcoveWhere>() == 24);
+
+/// The packet in what a link delivered.
+#[repr(C)]
+#[derive(Drop)]
+pub struct MaltcoveFound {
+    /// Where it begins, in bytes from the first.
+    pub(crate) offset: u64,
+    /// How many VLAN tags stand before it.
+    pub(crate) tags: u64,
+    /// Its ethertype, and 0 where the link has none.
+    pub(crate) ethertype: u16,
+}
+
+const _: () = prove!(size_of::<MaltcoveFound>() == 24);
 
 /// What is said of a packet that was accepted.
 #[repr(C)]
@@ -218,6 +257,104 @@ fn address_of_ipv4(bytes: &[u8; 16]) -> Ip
     ensures { Some result ≡ address_of_bytes 4 bytes.now }
 {
     Ip::V4([bytes[0], bytes[1], bytes[2], bytes[3]])
+}
+
+/// The sixteen bytes of an address: of IPv4 the first four, and the others are 0.
+#[inline(always)]
+fn bytes_of_address(ip: &Ip) -> [u8; 16]
+    ensures { result ≡ bytes_of_address ip.now }
+{
+    match ip {
+        Ip::V4(o) => [o[0], o[1], o[2], o[3], 0, 0, 0, 0, 0, 0, 0, 0, 0, 0, 0, 0],
+        Ip::V6(octets) => *octets,
+    }
+}
+
+/// The number of a part of a datagram.
+#[inline(always)]
+fn fragment_code(fragment: Fragment) -> u8
+    ensures { result ≡ fragment_code fragment }
+{
+    match fragment {
+        Fragment::Whole => 0,
+        Fragment::Atomic => 1,
+        Fragment::First => 2,
+        Fragment::Later => 3,
+    }
+}
+
+/// The number of a place of ports.
+#[inline(always)]
+fn ports_code(ports: Ports) -> u8
+    ensures { result ≡ ports_code ports }
+{
+    match ports {
+        Ports::Absent => 0,
+        Ports::Found => 1,
+        Ports::Beyond => 2,
+        Ports::Cut => 3,
+        Ports::Fragment => 4,
+    }
+}
+
+/// The packet that a header says, for C: the tag stays the caller's.
+#[inline(always)]
+pub(crate) fn packet_from(header: &Header, tag: u64) -> MaltcovePacket
+    ensures { result ≡ packet_told header.now tag }
+{
+    MaltcovePacket {
+        tag,
+        len: u32::from(header.len),
+        sport: header.tuple.sport,
+        dport: header.tuple.dport,
+        src: bytes_of_address(&header.tuple.src),
+        dst: bytes_of_address(&header.tuple.dst),
+        proto: header.tuple.proto,
+        ecn: bits_of(header.ecn),
+        version: header.version,
+    }
+}
+
+/// What a header says besides, for C.
+#[inline(always)]
+pub(crate) fn where_from(header: &Header) -> MaltcoveWhere
+    ensures { result ≡ where_told header.now }
+{
+    MaltcoveWhere {
+        transport: header.transport as u64,
+        flow_label: header.flow_label,
+        verdict: verdict_code(header.verdict),
+        fragment: fragment_code(header.fragment),
+        ports: ports_code(header.ports),
+        dscp: header.dscp,
+        ecn: bits_of(header.ecn),
+    }
+}
+
+/// What stands behind a link's header, for C.
+fn found_at(payload: &Payload) -> MaltcoveFound
+    ensures { result ≡ payload_told payload.now }
+{
+    MaltcoveFound {
+        offset: payload.offset as u64,
+        tags: payload.tags as u64,
+        ethertype: payload.ethertype,
+    }
+}
+
+/// What a link delivered, for C.
+pub(crate) fn found_from(carried: &Carried) -> MaltcoveFound
+    ensures { result ≡ found_told carried.now }
+{
+    match carried {
+        Carried::Packet(payload) => found_at(payload),
+        Carried::Another(payload) => found_at(payload),
+        Carried::Cut | Carried::Unknown => MaltcoveFound {
+            offset: 0,
+            tags: 0,
+            ethertype: 0,
+        },
+    }
 }
 
 /// The packet that C describes, between two addresses, if its length and its ECN field are right.

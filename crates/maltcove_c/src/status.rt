@@ -2,9 +2,10 @@
 
 ghost use Rattle.std.specs.Prelude.{◌≡◌, ◌≢◌};
 ghost use Rattle.journal_core.specs.declared.step.Refusal.TheVariants as step_refusal;
-ghost use Rattle.maltcove_c.specs.Statuses.{close_code, enqueue_code, moment_code, refusal_code};
+ghost use Rattle.maltcove_c.specs.Statuses.{carried_code, close_code, enqueue_code, moment_code, refusal_code, verdict_code};
 ghost use Rattle.queue_disc_core.specs.declared.answers.EnqueueFault.TheVariants as enqueue_fault;
 
+use header_core::{Carried, Verdict};
 use queue_disc_core::EnqueueFault;
 use sched_core::{CloseFault, MomentFault, Refusal};
 
@@ -52,6 +53,75 @@ pub(crate) const BAD_FLOW: i32 = -12;
 
 /// The scheduler chooses the flow by a hash.
 pub(crate) const HASHED: i32 = -13;
+
+/// The bytes are a packet that breaks no rule.
+pub(crate) const FINE: i32 = 0;
+
+/// The link delivered less than a header of fixed length.
+pub(crate) const SHORT: i32 = -20;
+
+/// No packet of IP, or not of the version that the link says.
+pub(crate) const NOT_IP: i32 = -21;
+
+/// The header length of IPv4 is below its least.
+pub(crate) const BAD_IHL: i32 = -22;
+
+/// The total length of IPv4 is below the header's.
+pub(crate) const BAD_LENGTH: i32 = -23;
+
+/// The packet is longer than what the link delivered.
+pub(crate) const OVERRUN: i32 = -24;
+
+/// An extension header passes the packet's end.
+pub(crate) const BAD_CHAIN: i32 = -25;
+
+/// The packet is longer than 65,535 bytes.
+pub(crate) const TOO_LONG: i32 = -26;
+
+/// The length of IPv6 is left to an option that isn't there, or says too little.
+pub(crate) const BAD_JUMBO: i32 = -27;
+
+/// The captured bytes end inside a header.
+pub(crate) const CUT: i32 = -28;
+
+/// No link type has that number.
+pub(crate) const UNKNOWN_LINK: i32 = -29;
+
+/// The packet was marked.
+pub(crate) const MARKED: i32 = 1;
+
+/// The packet was not marked.
+pub(crate) const UNMARKED: i32 = 0;
+
+/// The number of a verdict.
+pub(crate) fn verdict_code(verdict: Verdict) -> i32
+    ensures { result ≡ verdict_code verdict }
+{
+    match verdict {
+        Verdict::Fine => FINE,
+        Verdict::Short => SHORT,
+        Verdict::NotIp => NOT_IP,
+        Verdict::BadIhl => BAD_IHL,
+        Verdict::BadLength => BAD_LENGTH,
+        Verdict::Overrun => OVERRUN,
+        Verdict::BadChain => BAD_CHAIN,
+        Verdict::TooLong => TOO_LONG,
+        Verdict::BadJumbo => BAD_JUMBO,
+        Verdict::Cut => CUT,
+    }
+}
+
+/// The number of what a link delivered.
+pub(crate) fn carried_code(carried: &Carried) -> i32
+    ensures { result ≡ carried_code carried.now }
+{
+    match carried {
+        Carried::Packet(_) => FINE,
+        Carried::Another(_) => NOT_IP,
+        Carried::Cut => CUT,
+        Carried::Unknown => UNKNOWN_LINK,
+    }
+}
 
 /// Why a moment was refused.
 pub(crate) fn moment_code(fault: MomentFault) -> i32

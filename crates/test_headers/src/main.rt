@@ -9,7 +9,9 @@ mod rows;
 
 use crate::rows::{Asked, address, fragment_number, ports_number, verdict_number};
 use anyhow::{Context, Result, bail};
-use header_core::{Header, InPlaceOfPorts, dissect, link_payload, mark};
+use header_core::{
+    Carried, Header, InPlaceOfPorts, Payload, dissect, find_packet, link_payload, mark,
+};
 use std::io::{BufRead, BufReader};
 
 fn main(rt: HostRuntime) -> Result<()> {
@@ -27,6 +29,7 @@ fn answer<R: Print + AllocGlobal>(rt: &R, line: &str) -> Result<()> {
     let mut bytes = hex::decode(rt.alloc(), digits).context("the third word has no bytes")?;
     match Asked::try_new(kind) {
         Some(Asked::Frame) => answer_frame(rt, &bytes, wire),
+        Some(Asked::Link(link_type)) => answer_link(rt, &bytes, wire, link_type),
         Some(Asked::Packet(instead)) => {
             answer_packet(rt, &dissect(&bytes, wire, None, instead), 0, 0)
         }
@@ -41,15 +44,51 @@ fn answer_frame<R: Print + AllocGlobal>(rt: &R, bytes: &[u8], wire: usize) -> Re
         println!(rt; "link\t-2\t0")?;
         return Ok(());
     };
-    let ethertype = payload.ethertype;
-    if ethertype != 0x0800 && ethertype != 0x86DD {
-        println!(rt; "link\t-1\t{ethertype}")?;
-        return Ok(());
+    if payload.ethertype == 0x0800 || payload.ethertype == 0x86DD {
+        answer_payload(rt, bytes, wire, payload)
+    } else {
+        answer_another(rt, payload)
     }
+}
+
+/// Writes what a link of some type delivered.
+fn answer_link<R: Print + AllocGlobal>(
+    rt: &R,
+    bytes: &[u8],
+    wire: usize,
+    link_type: u32,
+) -> Result<()> {
+    match find_packet(bytes, link_type) {
+        Carried::Packet(payload) => answer_payload(rt, bytes, wire, payload),
+        Carried::Another(payload) => answer_another(rt, payload),
+        Carried::Cut => {
+            println!(rt; "link\t-2\t0")?;
+            Ok(())
+        }
+        Carried::Unknown => {
+            println!(rt; "link\t-3\t0")?;
+            Ok(())
+        }
+    }
+}
+
+/// Writes what carries no packet of IP.
+fn answer_another<R: Print + AllocGlobal>(rt: &R, payload: Payload) -> Result<()> {
+    println!(rt; "link\t-1\t{}", payload.ethertype)?;
+    Ok(())
+}
+
+/// Writes what the packet says that a link carries.
+fn answer_payload<R: Print + AllocGlobal>(
+    rt: &R,
+    bytes: &[u8],
+    wire: usize,
+    payload: Payload,
+) -> Result<()> {
     let header = dissect(
         &bytes[payload.offset..],
         wire.saturating_sub(payload.offset),
-        Some(ethertype),
+        (payload.ethertype != 0).then_some(payload.ethertype),
         InPlaceOfPorts {
             esp_spi: false,
             flow_label: false,

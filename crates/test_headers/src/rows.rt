@@ -9,6 +9,8 @@ use std::alloc::{AllocError, Global};
 pub(crate) enum Asked {
     /// What a frame of Ethernet carries.
     Frame,
+    /// What a link of the type of that number delivered.
+    Link(u32),
     /// What a packet says.
     Packet(InPlaceOfPorts),
     /// The mark in a packet.
@@ -24,7 +26,7 @@ impl Asked {
             b"spi" => Some(packet(true, false)),
             b"label" => Some(packet(false, true)),
             b"mark" => Some(Asked::Mark),
-            _ => None,
+            _ => word.parse().ok().map(Asked::Link),
         }
     }
 }

@@ -1,5 +1,5 @@
 /*
- * build.c: writes packets for the tests, by the RFCs and apart from packet.c.
+ * build.c: writes packets for the tests, by the RFCs and apart from the library.
  */
 #include "check.h"
 
@@ -23,12 +23,12 @@ uint16_t header_sum(const uint8_t *bytes)
 }
 
 /* How many bytes of the transport's header have to be there for the ports. */
-static size_t ports_bytes(const struct packet_view *view)
+static size_t ports_bytes(const maltcove_packet *view)
 {
-	return view->proto == 6 || view->proto == 17 ? 4 : 0;
+	return view->proto == 6 || view->proto == 17 || view->proto == 132 ? 4 : 0;
 }
 
-static int build_v4(uint8_t *bytes, const struct packet_view *view, unsigned extras)
+static int build_v4(uint8_t *bytes, const maltcove_packet *view, unsigned extras)
 {
 	size_t header = 20;
 
@@ -62,7 +62,7 @@ struct extension {
 	uint8_t length_field;
 };
 
-static int build_v6(uint8_t *bytes, const struct packet_view *view, unsigned extras)
+static int build_v6(uint8_t *bytes, const maltcove_packet *view, unsigned extras)
 {
 	static const struct extension extensions[] = {
 		{ WITH_HOP_BY_HOP, 0, 8, 0 },       { WITH_ROUTING, 43, 24, 2 },      { WITH_FRAGMENT, 44, 8, 0 },
@@ -97,7 +97,7 @@ static int build_v6(uint8_t *bytes, const struct packet_view *view, unsigned ext
 	return 1;
 }
 
-int build_packet(uint8_t *bytes, const struct packet_view *view, unsigned extras)
+int build_packet(uint8_t *bytes, const maltcove_packet *view, unsigned extras)
 {
 	memset(bytes, 0, view->len);
 	return view->version == 4 ? build_v4(bytes, view, extras) : build_v6(bytes, view, extras);

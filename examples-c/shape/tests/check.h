@@ -8,7 +8,9 @@
 #include <stdio.h>
 #include <stdlib.h>
 
-#include "../packet.h"
+#include <maltcove.h>
+#include <stdbool.h>
+#include <string.h>
 
 /* Prints where a condition doesn't hold, and ends the test. */
 #define CHECK(condition) \
@@ -35,6 +37,23 @@ static inline uint32_t random_below(uint64_t *state, uint32_t bound)
 	return (uint32_t)(next_random(state) >> 32) % bound;
 }
 
+/* Reads a packet as the program does. Answers the verdict. */
+static inline int parse(const uint8_t *bytes, size_t count, maltcove_packet *packet)
+{
+	maltcove_where where;
+
+	packet->tag = 0;
+	return maltcove_parse(bytes, count, count, 0, packet, &where);
+}
+
+/* Whether two packets say the same. Bytes between their fields may differ. */
+static inline bool is_same(const maltcove_packet *a, const maltcove_packet *b)
+{
+	return a->tag == b->tag && a->len == b->len && a->sport == b->sport && a->dport == b->dport &&
+	       a->proto == b->proto && a->ecn == b->ecn && a->version == b->version &&
+	       memcmp(a->src, b->src, sizeof a->src) == 0 && memcmp(a->dst, b->dst, sizeof a->dst) == 0;
+}
+
 /* Extension headers and options that a packet can have besides. */
 enum extras {
 	WITH_OPTIONS = 1,     /* of IPv4, 8 bytes */
@@ -48,7 +67,7 @@ enum extras {
 
 /* Writes a packet of view->len bytes whose headers say what the view says, with those extras that it has room for.
  * Answers false where not even the header and the ports have room. */
-int build_packet(uint8_t *bytes, const struct packet_view *view, unsigned extras);
+int build_packet(uint8_t *bytes, const maltcove_packet *view, unsigned extras);
 
 /* The sum of an IPv4 header with its checksum, which is 0xffff where the checksum is right (RFC 1071). */
 uint16_t header_sum(const uint8_t *bytes);

@@ -10,10 +10,10 @@
 
 enum { LONGEST = 1600 };
 
-static struct packet_view random_view(uint64_t *state)
+static maltcove_packet random_view(uint64_t *state)
 {
 	static const uint8_t protos[] = { 6, 17, 1, 58, 50, 132 };
-	struct packet_view view = { 0 };
+	maltcove_packet view = { 0 };
 
 	view.version = random_below(state, 2) ? 4 : 6;
 	view.proto = protos[random_below(state, sizeof protos)];
@@ -25,21 +25,23 @@ static struct packet_view random_view(uint64_t *state)
 		view.src[i] = (uint8_t)random_below(state, 256);
 		view.dst[i] = (uint8_t)random_below(state, 256);
 	}
-	if (view.proto != 6 && view.proto != 17)
+	if (view.proto != 6 && view.proto != 17 && view.proto != 132)
 		view.sport = view.dport = 0;
 	return view;
 }
 
-/* Writes the ECN field of a packet, and compares what is read before and after. */
-static void write_and_compare(uint8_t *bytes, size_t count, const struct packet_view *before, uint8_t ecn)
+/* Marks a packet, and compares what is read before and after. */
+static void mark_and_compare(uint8_t *bytes, size_t count, const maltcove_packet *before)
 {
-	struct packet_view after, wanted = *before;
+	maltcove_packet after, wanted = *before;
 	uint16_t sum = before->version == 4 ? header_sum(bytes) : 0;
+	bool is_ect = before->ecn == 1 || before->ecn == 2;
 
-	packet_write_ecn(bytes, ecn);
-	CHECK(packet_parse(bytes, count, &after) == PACKET_FINE);
-	wanted.ecn = ecn;
-	CHECK(memcmp(&after, &wanted, sizeof after) == 0);
+	CHECK(maltcove_mark(bytes, count, NULL) == (is_ect ? MALTCOVE_MARKED : MALTCOVE_UNMARKED));
+	CHECK(parse(bytes, count, &after) == MALTCOVE_FINE);
+	if (is_ect)
+		wanted.ecn = 3;
+	CHECK(is_same(&after, &wanted));
 	/* a right sum stays right, and so does a wrong one, but for the two forms of 0 */
 	if (before->version == 4)
 		CHECK(header_sum(bytes) % 0xffff == sum % 0xffff);
@@ -56,18 +58,18 @@ static void spoil(uint64_t *state, uint8_t *bytes, uint32_t count)
 }
 
 /* Reads a packet in a block of just its size. Answers whether it was found fine. */
-static int read_alone(uint64_t *state, const uint8_t *bytes, uint32_t count)
+static int read_alone(const uint8_t *bytes, uint32_t count)
 {
 	uint8_t *block = malloc(count > 0 ? count : 1);
-	struct packet_view view;
+	maltcove_packet view;
 	int is_fine;
 
 	CHECK(block != NULL);
 	memcpy(block, bytes, count);
-	is_fine = packet_parse(block, count, &view) == PACKET_FINE;
+	is_fine = parse(block, count, &view) == MALTCOVE_FINE;
 	if (is_fine) {
 		CHECK(view.len <= count && (view.version == 4 || view.version == 6) && view.ecn <= 3);
-		write_and_compare(block, count, &view, (uint8_t)random_below(state, 4));
+		mark_and_compare(block, count, &view);
 	}
 	free(block);
 	return is_fine;
@@ -81,12 +83,12 @@ int main(int argc, char **argv)
 	uint8_t bytes[LONGEST];
 
 	for (uint64_t i = 0; i < count; i++) {
-		struct packet_view view = random_view(&state), read;
+		maltcove_packet view = random_view(&state), read;
 		uint32_t length = view.len;
 
 		CHECK(build_packet(bytes, &view, random_below(&state, ALL_EXTRAS + 1)));
-		CHECK(packet_parse(bytes, length, &read) == PACKET_FINE);
-		CHECK(memcmp(&read, &view, sizeof view) == 0);
+		CHECK(parse(bytes, length, &read) == MALTCOVE_FINE);
+		CHECK(is_same(&read, &view));
 		switch (random_below(&state, 4)) {
 		case 0: /* random bytes after the version */
 			length = random_below(&state, 200);
@@ -103,7 +105,7 @@ int main(int argc, char **argv)
 			spoil(&state, bytes, length);
 			length = random_below(&state, length);
 		}
-		fine += (uint64_t)read_alone(&state, bytes, length);
+		fine += (uint64_t)read_alone(bytes, length);
 	}
 	CHECK(fine > count / 20 && fine < count - count / 20);
 	printf("fuzz: %llu packets, %llu of them fine\n", (unsigned long long)count, (unsigned long long)fine);

@@ -29,12 +29,12 @@ static void count_fate(void *context, const struct buffer *buffer, enum fate fat
 	CHECK(buffer->is_out);
 	counts->fates[fate]++;
 	if (fate == FATE_SENT) {
-		struct packet_view view;
+		maltcove_packet view;
 
 		/* what leaves says what the queue answered */
-		CHECK(packet_parse(buffer->bytes, buffer->count, &view) == PACKET_FINE && view.ecn == buffer->ecn);
+		CHECK(parse(buffer->bytes, buffer->count, &view) == MALTCOVE_FINE && view.ecn == buffer->ecn);
 		CHECK(view.version == 6 || header_sum(buffer->bytes) == 0xffff);
-		CHECK(buffer->mark == 0 || (buffer->view.ecn != 0 && view.ecn == 3));
+		CHECK(buffer->mark == 0 || (buffer->packet.ecn != 0 && view.ecn == 3));
 		counts->marks += buffer->mark != 0;
 	}
 }
@@ -43,7 +43,7 @@ static void count_fate(void *context, const struct buffer *buffer, enum fate fat
 static uint32_t random_packet(uint64_t *state, uint8_t *bytes)
 {
 	uint32_t flow = random_below(state, 3) ? random_below(state, 4) : random_below(state, 40);
-	struct packet_view view = { .version = flow % 2 ? 6 : 4, .proto = flow % 5 ? 6 : 17, .ecn = flow % 3 ? 0 : 2 };
+	maltcove_packet view = { .version = flow % 2 ? 6 : 4, .proto = flow % 5 ? 6 : 17, .ecn = flow % 3 ? 0 : 2 };
 	uint32_t lengths[] = { 64, 300, 1500, 1500 };
 
 	view.len = lengths[random_below(state, 4)];
@@ -130,7 +130,7 @@ static void run_load(const struct load *load, uint64_t seconds)
 	CHECK(load->kind->open(&queue, load->words, (const uint8_t[16]){ 5 }, fault, sizeof fault));
 	shaper_open(&shaper, &pool, &queue, 10000000, load->delay);
 	send_packets(&shaper, seconds, &counts);
-	counts.bad = shaper.bad[PACKET_SHORT] + shaper.bad[PACKET_NO_IP] + shaper.bad[PACKET_LIES];
+	counts.bad = shaper.bad[BAD_SHORT] + shaper.bad[BAD_NO_IP] + shaper.bad[BAD_LENGTHS];
 	check_counts(&shaper, &counts, load->kind != &fifo_kind);
 	printf("load: %s: %llu packets, %llu without a buffer; dropped %llu by CoDel, %llu at a limit; all %zu buffers back\n",
 	       load->name, (unsigned long long)counts.came, (unsigned long long)pool.none_left,

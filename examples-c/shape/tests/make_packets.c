@@ -31,14 +31,14 @@ static uint8_t read_address(const char *text, uint8_t address[16])
 }
 
 /* Reads the row of a packet. Answers whether it is one. */
-static int read_row(const char *line, unsigned long long *moment, struct packet_view *view)
+static int read_row(const char *line, unsigned long long *moment, maltcove_packet *view)
 {
 	char src[40], dst[40];
 	unsigned proto, sport, dport, len, ecn;
 
 	if (sscanf(line, "enq,%llu,%u,%39[^,],%39[^,],%u,%u,%u,%u", moment, &proto, src, dst, &sport, &dport, &len, &ecn) != 8)
 		return 0;
-	*view = (struct packet_view){ .len = len, .proto = (uint8_t)proto, .ecn = (uint8_t)ecn,
+	*view = (maltcove_packet){ .len = len, .proto = (uint8_t)proto, .ecn = (uint8_t)ecn,
 				      .sport = (uint16_t)sport, .dport = (uint16_t)dport };
 	view->version = read_address(src, view->src);
 	return view->version != 0 && read_address(dst, view->dst) == view->version;
@@ -52,7 +52,7 @@ int main(void)
 	pcap_write_head(stdout);
 	while (fgets(line, sizeof line, stdin) != NULL) {
 		static uint8_t bytes[PCAP_MOST_BYTES];
-		struct packet_view view;
+		maltcove_packet view;
 		unsigned long long moment;
 
 		row++;

@@ -16,7 +16,7 @@
 #include "pcap.h"
 
 struct row {
-	struct packet_view view;
+	maltcove_packet view;
 	uint64_t arrived, at, tuple, place;
 	uint32_t flow;
 	enum fate fate;
@@ -34,7 +34,7 @@ static void note_fate(void *context, const struct buffer *buffer, enum fate fate
 {
 	struct table *table = context;
 	struct row *row = &table->rows[buffer->number];
-	struct packet_view view;
+	maltcove_packet view;
 
 	row->fate = fate;
 	row->at = now / 1000;
@@ -44,18 +44,18 @@ static void note_fate(void *context, const struct buffer *buffer, enum fate fate
 	row->ecn = buffer->ecn;
 	row->mark = buffer->mark;
 	row->place = table->sent++;
-	CHECK(packet_parse(buffer->bytes, buffer->count, &view) == PACKET_FINE && view.ecn == buffer->ecn);
+	CHECK(parse(buffer->bytes, buffer->count, &view) == MALTCOVE_FINE && view.ecn == buffer->ecn);
 	CHECK(view.version == 6 || header_sum(buffer->bytes) == 0xffff);
 }
 
-static int is_same_tuple(const struct packet_view *a, const struct packet_view *b)
+static int is_same_tuple(const maltcove_packet *a, const maltcove_packet *b)
 {
 	return a->version == b->version && a->proto == b->proto && a->sport == b->sport && a->dport == b->dport &&
 	       memcmp(a->src, b->src, 16) == 0 && memcmp(a->dst, b->dst, 16) == 0;
 }
 
 /* The number of the packet's five-tuple, in the order of first arrival. */
-static uint64_t tuple_of(struct table *table, const struct packet_view *view)
+static uint64_t tuple_of(struct table *table, const maltcove_packet *view)
 {
 	for (size_t i = 0; i < table->count; i++)
 		if (is_same_tuple(&table->rows[i].view, view))
@@ -68,7 +68,7 @@ static void note_arrival(struct table *table, uint64_t moment, struct buffer *bu
 {
 	struct row row = { .arrived = moment };
 
-	if (packet_parse(buffer->bytes, buffer->count, &row.view) != PACKET_FINE)
+	if (parse(buffer->bytes, buffer->count, &row.view) != MALTCOVE_FINE)
 		return;
 	row.tuple = tuple_of(table, &row.view);
 	if (table->count == table->room) {
@@ -159,8 +159,8 @@ int main(int argc, char **argv)
 	shaper_open(&shaper, &pool, &queue, options.rate, options.delay);
 	read_packets(&shaper, &table);
 	print_table(&table, options.kind == &fifo_kind ? "fifo" : "fq_codel");
-	fprintf(stderr, "replay: bad packets: %llu\n", (unsigned long long)(shaper.bad[PACKET_SHORT] +
-		shaper.bad[PACKET_NO_IP] + shaper.bad[PACKET_LIES]));
+	fprintf(stderr, "replay: bad packets: %llu\n", (unsigned long long)(shaper.bad[BAD_SHORT] +
+		shaper.bad[BAD_NO_IP] + shaper.bad[BAD_LENGTHS]));
 	CHECK(pool_is_whole(&pool));
 	queue.kind->close(&queue);
 	pool_close(&pool);

@@ -14,60 +14,61 @@ static const uint8_t udp_v4[32] = {
 	0x12, 0x34, 0x00, 0x35, 0x00, 0x0c, 0x00, 0x00, 1, 2, 3, 4,
 };
 
-static enum packet_fault parse_changed(size_t place, uint8_t value, size_t count, struct packet_view *view)
+static int parse_changed(size_t place, uint8_t value, size_t count, maltcove_packet *view)
 {
 	uint8_t bytes[sizeof udp_v4];
 
 	memcpy(bytes, udp_v4, sizeof bytes);
 	bytes[place] = value;
-	return packet_parse(bytes, count, view);
+	return parse(bytes, count, view);
 }
 
 static void test_v4(void)
 {
-	struct packet_view view;
+	maltcove_packet view;
 
 	CHECK(header_sum(udp_v4) == 0xffff);
-	CHECK(packet_parse(udp_v4, 32, &view) == PACKET_FINE);
+	CHECK(parse(udp_v4, 32, &view) == MALTCOVE_FINE);
 	CHECK(view.version == 4 && view.len == 32 && view.proto == 17 && view.ecn == 2);
 	CHECK(view.sport == 0x1234 && view.dport == 53);
 	CHECK(memcmp(view.src, "\12\1\2\3\0\0\0\0\0\0\0\0\0\0\0\0", 16) == 0);
 	CHECK(memcmp(view.dst, "\12\4\5\6\0\0\0\0\0\0\0\0\0\0\0\0", 16) == 0);
 	/* padding isn't the packet's */
-	CHECK(parse_changed(3, 30, 32, &view) == PACKET_FINE && view.len == 30);
+	CHECK(parse_changed(3, 30, 32, &view) == MALTCOVE_FINE && view.len == 30);
 	/* the first fragment, and the last one: all of a datagram are one flow */
-	CHECK(parse_changed(6, 0x20, 32, &view) == PACKET_FINE && view.sport == 0 && view.dport == 0 && view.proto == 17);
-	CHECK(parse_changed(7, 0x01, 32, &view) == PACKET_FINE && view.sport == 0 && view.dport == 0 && view.proto == 17);
-	/* the rest by protocol alone, and a header of UDP that is cut short */
-	CHECK(parse_changed(9, 132, 32, &view) == PACKET_FINE && view.sport == 0 && view.proto == 132);
-	CHECK(parse_changed(3, 23, 32, &view) == PACKET_FINE && view.sport == 0 && view.len == 23);
+	CHECK(parse_changed(6, 0x20, 32, &view) == MALTCOVE_FINE && view.sport == 0 && view.dport == 0 && view.proto == 17);
+	CHECK(parse_changed(7, 0x01, 32, &view) == MALTCOVE_FINE && view.sport == 0 && view.dport == 0 && view.proto == 17);
+	/* SCTP has ports, the rest go by protocol alone, and a header of UDP that is cut short has none */
+	CHECK(parse_changed(9, 132, 32, &view) == MALTCOVE_FINE && view.sport == 0x1234 && view.proto == 132);
+	CHECK(parse_changed(9, 47, 32, &view) == MALTCOVE_FINE && view.sport == 0 && view.proto == 47);
+	CHECK(parse_changed(3, 23, 32, &view) == MALTCOVE_FINE && view.sport == 0 && view.len == 23);
 	/* options of 8 bytes stand before the ports, which are then those of bytes 28 to 31 */
-	CHECK(parse_changed(0, 0x47, 32, &view) == PACKET_FINE && view.sport == 0x0102 && view.dport == 0x0304);
+	CHECK(parse_changed(0, 0x47, 32, &view) == MALTCOVE_FINE && view.sport == 0x0102 && view.dport == 0x0304);
 }
 
 static void test_bad_v4(void)
 {
-	struct packet_view view, nothing;
+	maltcove_packet view, nothing;
 
 	memset(&nothing, 0, sizeof nothing);
-	CHECK(packet_parse(udp_v4, 0, &view) == PACKET_SHORT);
-	CHECK(packet_parse(udp_v4, 19, &view) == PACKET_SHORT);
-	CHECK(memcmp(&view, &nothing, sizeof view) == 0);
-	CHECK(parse_changed(0, 0x50, 32, &view) == PACKET_NO_IP);
-	CHECK(parse_changed(0, 0x05, 32, &view) == PACKET_NO_IP);
-	CHECK(parse_changed(0, 0x44, 32, &view) == PACKET_LIES); /* a header of 16 bytes */
-	CHECK(parse_changed(0, 0x49, 32, &view) == PACKET_LIES); /* a header of 36 bytes in 32 */
-	CHECK(parse_changed(3, 33, 32, &view) == PACKET_LIES);
-	CHECK(memcmp(&view, &nothing, sizeof view) == 0);
-	CHECK(parse_changed(3, 19, 32, &view) == PACKET_LIES);
-	CHECK(packet_parse(udp_v4, 31, &view) == PACKET_LIES);
+	CHECK(parse(udp_v4, 0, &view) == MALTCOVE_SHORT);
+	CHECK(parse(udp_v4, 19, &view) == MALTCOVE_SHORT);
+	CHECK(is_same(&view, &nothing));
+	CHECK(parse_changed(0, 0x50, 32, &view) == MALTCOVE_NOT_IP);
+	CHECK(parse_changed(0, 0x05, 32, &view) == MALTCOVE_NOT_IP);
+	CHECK(parse_changed(0, 0x44, 32, &view) == MALTCOVE_BAD_IHL); /* a header of 16 bytes */
+	CHECK(parse_changed(0, 0x49, 32, &view) == MALTCOVE_BAD_LENGTH); /* a header of 36 bytes in 32 */
+	CHECK(parse_changed(3, 33, 32, &view) == MALTCOVE_OVERRUN);
+	CHECK(is_same(&view, &nothing));
+	CHECK(parse_changed(3, 19, 32, &view) == MALTCOVE_BAD_LENGTH);
+	CHECK(parse(udp_v4, 31, &view) == MALTCOVE_OVERRUN);
 }
 
 /* An IPv6 packet with all extension headers: hop by hop at 40, routing at 48, fragment at 72, authentication at 80,
  * destination at 96, and TCP at 104. */
 static void build_long_v6(uint8_t bytes[140])
 {
-	struct packet_view view = { .len = 140, .version = 6, .proto = 6, .ecn = 1, .sport = 443, .dport = 50000 };
+	maltcove_packet view = { .len = 140, .version = 6, .proto = 6, .ecn = 1, .sport = 443, .dport = 50000 };
 
 	memcpy(view.src, "\x20\x01\x0d\xb8\0\0\0\0\0\0\0\0\0\0\0\1", 16);
 	memcpy(view.dst, "\x20\x01\x0d\xb8\0\0\0\0\0\0\0\0\0\0\0\2", 16);
@@ -78,54 +79,55 @@ static void build_long_v6(uint8_t bytes[140])
 static void test_v6(void)
 {
 	uint8_t bytes[140];
-	struct packet_view view;
+	maltcove_packet view;
 
 	build_long_v6(bytes);
-	CHECK(packet_parse(bytes, 140, &view) == PACKET_FINE);
+	CHECK(parse(bytes, 140, &view) == MALTCOVE_FINE);
 	CHECK(view.version == 6 && view.len == 140 && view.proto == 6 && view.ecn == 1);
 	CHECK(view.sport == 443 && view.dport == 50000 && view.src[15] == 1 && view.dst[15] == 2 && view.dst[0] == 0x20);
 	bytes[75] = 1; /* more fragments follow */
-	CHECK(packet_parse(bytes, 140, &view) == PACKET_FINE && view.proto == 51 && view.sport == 0 && view.dport == 0);
+	CHECK(parse(bytes, 140, &view) == MALTCOVE_FINE && view.proto == 51 && view.sport == 0 && view.dport == 0);
 	bytes[75] = 8; /* the second piece */
-	CHECK(packet_parse(bytes, 140, &view) == PACKET_FINE && view.proto == 51 && view.sport == 0);
+	CHECK(parse(bytes, 140, &view) == MALTCOVE_FINE && view.proto == 51 && view.sport == 0);
 	bytes[75] = 6; /* bits that are reserved */
-	CHECK(packet_parse(bytes, 140, &view) == PACKET_FINE && view.proto == 6 && view.sport == 443);
+	CHECK(parse(bytes, 140, &view) == MALTCOVE_FINE && view.proto == 6 && view.sport == 443);
 	bytes[96] = 59; /* no next header */
-	CHECK(packet_parse(bytes, 140, &view) == PACKET_FINE && view.proto == 59 && view.sport == 0);
+	CHECK(parse(bytes, 140, &view) == MALTCOVE_FINE && view.proto == 59 && view.sport == 0);
 	bytes[6] = 50; /* what is encrypted isn't looked into */
-	CHECK(packet_parse(bytes, 140, &view) == PACKET_FINE && view.proto == 50 && view.sport == 0);
+	CHECK(parse(bytes, 140, &view) == MALTCOVE_FINE && view.proto == 50 && view.sport == 0);
 }
 
 static void test_bad_v6(void)
 {
 	uint8_t bytes[140];
-	struct packet_view view;
+	maltcove_packet view, nothing;
 
+	memset(&nothing, 0, sizeof nothing);
 	build_long_v6(bytes);
-	CHECK(packet_parse(bytes, 39, &view) == PACKET_SHORT);
-	CHECK(packet_parse(bytes, 139, &view) == PACKET_LIES);
+	CHECK(parse(bytes, 39, &view) == MALTCOVE_SHORT);
+	CHECK(parse(bytes, 139, &view) == MALTCOVE_OVERRUN);
 	bytes[5] = 63; /* the packet ends within the destination options */
-	CHECK(packet_parse(bytes, 140, &view) == PACKET_LIES);
+	CHECK(parse(bytes, 140, &view) == MALTCOVE_BAD_CHAIN);
 	bytes[5] = 64;
-	CHECK(packet_parse(bytes, 140, &view) == PACKET_FINE && view.len == 104 && view.proto == 6 && view.sport == 0);
+	CHECK(parse(bytes, 140, &view) == MALTCOVE_FINE && view.len == 104 && view.proto == 6 && view.sport == 0);
 	bytes[5] = 100;
 	bytes[49] = 255; /* a routing header of 2,048 bytes */
-	CHECK(packet_parse(bytes, 140, &view) == PACKET_LIES);
+	CHECK(parse(bytes, 140, &view) == MALTCOVE_BAD_CHAIN);
 	bytes[49] = 2;
 	bytes[97] = 255; /* the last extension header, of 2,048 bytes */
-	CHECK(packet_parse(bytes, 140, &view) == PACKET_LIES);
-	CHECK(view.len == 0 && view.version == 0 && view.ecn == 0 && view.src[15] == 0);
+	CHECK(parse(bytes, 140, &view) == MALTCOVE_BAD_CHAIN);
 	bytes[97] = 0;
 	bytes[4] = 255; /* 65,380 bytes after the header */
-	CHECK(packet_parse(bytes, 140, &view) == PACKET_LIES);
+	CHECK(parse(bytes, 140, &view) == MALTCOVE_OVERRUN);
+	CHECK(is_same(&view, &nothing));
 }
 
 /* A mended checksum is the one that is computed anew; a wrong one stays wrong by as much. */
 static void test_checksum(void)
 {
 	for (uint32_t i = 0; i < 65536; i++) {
-		uint8_t bytes[32], ecn = i & 3, wanted = i >> 2 & 3;
-		struct packet_view view;
+		uint8_t bytes[32], ecn = i & 3, wanted = ecn == 1 || ecn == 2 ? 3 : ecn;
+		maltcove_packet view;
 		uint16_t sum;
 
 		memcpy(bytes, udp_v4, sizeof bytes);
@@ -136,25 +138,31 @@ static void test_checksum(void)
 		sum = (uint16_t)~header_sum(bytes);
 		bytes[10] = (uint8_t)(sum >> 8);
 		bytes[11] = (uint8_t)sum;
-		packet_write_ecn(bytes, wanted);
+		CHECK(maltcove_mark(bytes, 32, NULL) == (wanted != ecn));
 		CHECK(header_sum(bytes) == 0xffff);
-		CHECK(packet_parse(bytes, 32, &view) == PACKET_FINE && view.ecn == wanted);
+		CHECK(parse(bytes, 32, &view) == MALTCOVE_FINE && view.ecn == wanted);
 		CHECK(bytes[1] >> 2 == udp_v4[1] >> 2);
+		if (wanted == ecn)
+			continue;
+		/* a wrong one */
+		bytes[1] = (uint8_t)((bytes[1] & ~3) | ecn);
 		bytes[11] ^= 1;
-		packet_write_ecn(bytes, 3);
-		CHECK(header_sum(bytes) != 0xffff);
+		sum = header_sum(bytes);
+		if (sum == 0xffff)
+			continue;
+		CHECK(maltcove_mark(bytes, 32, NULL) == MALTCOVE_MARKED && header_sum(bytes) != 0xffff);
 	}
 }
 
 static void test_ecn_of_v6(void)
 {
 	uint8_t bytes[140], before[140];
-	struct packet_view view;
+	maltcove_packet view;
 
 	build_long_v6(bytes);
 	memcpy(before, bytes, sizeof bytes);
-	packet_write_ecn(bytes, 3);
-	CHECK(packet_parse(bytes, 140, &view) == PACKET_FINE && view.ecn == 3);
+	CHECK(maltcove_mark(bytes, 140, NULL) == MALTCOVE_MARKED);
+	CHECK(parse(bytes, 140, &view) == MALTCOVE_FINE && view.ecn == 3);
 	CHECK((bytes[1] & ~0x30) == (before[1] & ~0x30));
 	bytes[1] = before[1];
 	CHECK(memcmp(bytes, before, sizeof bytes) == 0);
@@ -203,7 +211,7 @@ static void test_fifo(void)
 	CHECK(fifo_kind.open(&queue, "limit 2", (const uint8_t[16]){ 0 }, fault, sizeof fault));
 	for (int i = 0; i < 3; i++) {
 		CHECK((buffers[i] = pool_take(&pool)) != NULL);
-		buffers[i]->view.len = 100;
+		buffers[i]->packet.len = 100;
 		fifo_kind.put(&queue, 5, buffers[i]);
 	}
 	CHECK(pool.out == 2);
