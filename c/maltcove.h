@@ -322,16 +322,34 @@ int maltcove_enqueue(maltcove *m, uint64_t now_us, const maltcove_packet *packet
  * have to say classify dport, else the answer is MALTCOVE_HASHED; it comes after MALTCOVE_NOT_OPEN in the order of
  * answers.
  *
- * From a hash of 32 bits that a network card made, as for receive-side scaling, take the flow by its high bits:
- *
- *     flow = (uint32_t)((uint64_t)hash * flows >> 32);    with flows as maltcove_params tells it
- *
- * Don't pass the hash itself. The card has chosen the queue by the low bits, so all packets of a queue have the same
- * ones, and the hash modulo flows leaves most flows empty. Behind 16 queues, 22 per cent of 100 five-tuples would have
- * one of 1024 flows to themselves, and behind 64 queues none. By the high bits some 90 per cent have, always.
+ * From a hash of 32 bits that a network card made, take maltcove_flow_of_hash, below. By the hash itself most flows
+ * would stay empty: the card has chosen the queue by the low bits, so all packets of a queue have the same ones. Behind
+ * 16 queues, 22 per cent of 100 five-tuples would have one of 1024 flows to themselves, and behind 64 queues none. By
+ * maltcove_flow_of_hash about 90 per cent have, always.
  */
 int maltcove_enqueue_flow(maltcove *m, uint64_t now_us, uint32_t flow, uint32_t len, uint8_t ecn, uint64_t tag,
 			  maltcove_admitted *admitted);
+
+/*
+ * The flow of a packet with this hash, below flows (maltcove_params tells how many there are), and 0 where that is 0. It
+ * depends on the hash's high bits. Each flow gets as many of the 2^32 hashes as any other, or one more or less.
+ *
+ * A hash is no secret where a card makes it with the key that its driver has by default, which is public: then a sender
+ * can choose five-tuples that share a flow.
+ */
+static inline uint32_t maltcove_flow_of_hash(uint32_t hash, uint32_t flows)
+{
+	return (uint32_t)((uint64_t)hash * flows >> 32);
+}
+
+/*
+ * The queue of a packet with this hash, below queues, for a program with a scheduler for each. It depends on the hash's
+ * low half, so the packets of a queue are spread over flows as those of all queues are.
+ */
+static inline uint32_t maltcove_queue_of_hash(uint32_t hash, uint32_t queues)
+{
+	return maltcove_flow_of_hash(hash << 16 | hash >> 16, queues);
+}
 
 /*
  * Gives the packet that is next at the moment now_us. CoDel may have dropped packets before it: sent->drops says how

@@ -580,7 +580,7 @@ static uint32_t alone(uint32_t queues, bool by_high_bits)
 			uint32_t hash = random_below(UINT32_MAX) / queues * queues + queue;
 
 			if (by_high_bits)
-				hash = (uint32_t)((uint64_t)hash * FLOWS >> 32);
+				hash = maltcove_flow_of_hash(hash, FLOWS);
 			CHECK(maltcove_enqueue_flow(&m, 0, hash, 100, 0, i, &admitted) == MALTCOVE_OK && admitted.flow < FLOWS);
 			flow[i] = admitted.flow;
 			tuples[flow[i]]++;
@@ -592,9 +592,34 @@ static uint32_t alone(uint32_t queues, bool by_high_bits)
 	return all / queues;
 }
 
-/* Flows of a network card's hash. */
+/* Flows of a network card's hash. crates/test_parts has the same rows for the proved functions. */
 static void hashes_of_a_card(void)
 {
+	static const struct {
+		uint32_t hash, values, flow, queue;
+	} rows[] = {
+		{ 0x00000000, 1024, 0, 0 },
+		{ 0xffffffff, 1024, 1023, 1023 },
+		{ 0x80000000, 1000, 500, 0 },
+		{ 0x12345678, 65536, 4660, 22136 },
+		{ 0x0000ffff, 16, 0, 15 },
+		{ 0x0003ffff, 3, 0, 2 },
+		{ 0x004189ff, 1000, 1, 539 },
+		{ 0x00418937, 1000, 0, 535 },
+		{ 0x00418938, 1000, 1, 536 },
+		{ 0x00000005, 0, 0, 0 },
+	};
+	uint32_t of_queue[16] = { 0 };
+
+	for (size_t i = 0; i < sizeof rows / sizeof rows[0]; i++) {
+		CHECK(maltcove_flow_of_hash(rows[i].hash, rows[i].values) == rows[i].flow);
+		CHECK(maltcove_queue_of_hash(rows[i].hash, rows[i].values) == rows[i].queue);
+	}
+	/* the hashes of one flow are spread over all queues */
+	for (uint32_t low = 0; low < 65536; low++)
+		of_queue[maltcove_queue_of_hash(0x40000000 | low, 16)]++;
+	for (uint32_t queue = 0; queue < 16; queue++)
+		CHECK(of_queue[queue] == 4096);
 	for (uint32_t queues = 1; queues <= 64; queues *= 4)
 		CHECK(alone(queues, true) >= 86 && alone(queues, true) <= 95);
 	CHECK(alone(16, false) >= 17 && alone(16, false) <= 27);

@@ -41,6 +41,8 @@ mod views;
 
 pub use error::{Error, WordFault};
 pub use headers::{find, mark, parse, Found, Fragment, InPlaceOfPorts, Parsed, Ports, Verdict};
-pub use packet::{Admitted, Cause, Dropped, Ecn, Flushed, Mark, Packet, Sent};
+pub use packet::{
+    flow_of_hash, queue_of_hash, Admitted, Cause, Dropped, Ecn, Flushed, Mark, Packet, Sent,
+};
 pub use scheduler::{version, Drops, Flush, Scheduler};
 pub use views::{Classify, Flow, Params, Totals};

@@ -191,3 +191,16 @@ pub struct Flushed {
     /// The id that it was accepted with.
     pub id: u64,
 }
+
+/// The flow of a packet with this hash of a network card, below `flows`, and 0 where that is 0. It depends on the hash's
+/// high bits, since the low ones have chosen the card's queue. Each flow gets as many hashes as any other, or one more or
+/// less.
+pub const fn flow_of_hash(hash: u32, flows: u32) -> u32 {
+    ((hash as u64 * flows as u64) >> 32) as u32
+}
+
+/// The queue of a packet with this hash, below `queues`, for a program with a scheduler for each. It depends on the hash's
+/// low half, so the packets of a queue are spread over flows as those of all queues are.
+pub const fn queue_of_hash(hash: u32, queues: u32) -> u32 {
+    flow_of_hash(hash.rotate_left(16), queues)
+}

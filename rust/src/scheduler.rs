@@ -90,7 +90,7 @@ impl Scheduler {
     }
 
     /// Accepts a packet into the flow that the caller has chosen, modulo the number of flows. Of a network card's hash
-    /// take the high bits, as `(u64::from(hash) * u64::from(flows) >> 32) as u32`: the low bits have chosen the queue.
+    /// take [`flow_of_hash`](crate::flow_of_hash).
     ///
     /// It fails as [`enqueue`](Scheduler::enqueue) does, and with [`Error::Hashed`] where the words lack
     /// `classify dport`.

@@ -2,7 +2,7 @@
 //! No two numbers of a record are equal here.
 
 use maltcove::{
-    Admitted, Cause, Classify, Dropped, Ecn, Error, Flow, Flushed, Mark, Packet, Params, Scheduler,
+    flow_of_hash, queue_of_hash, Admitted, Cause, Classify, Dropped, Ecn, Error, Flow, Flushed, Mark, Packet, Params, Scheduler,
     Sent, Totals,
 };
 use std::net::IpAddr;
@@ -364,4 +364,22 @@ fn moments_of_each_call() {
     assert_eq!(scheduler.close(8), Err(Error::Backwards));
     assert_eq!(scheduler.close(11), Ok(()));
     assert_eq!(scheduler.dequeue(10), Err(Error::Backwards));
+}
+
+/// The flow and the queue of some hashes, as in c/tests/calls.c.
+#[test]
+fn hashes_of_a_card() {
+    let rows = [
+        (0xffff_ffff, 1024, 1023, 1023),
+        (0x8000_0000, 1000, 500, 0),
+        (0x1234_5678, 65_536, 4660, 22_136),
+        (0x0000_ffff, 16, 0, 15),
+        (0x0041_8937, 1000, 0, 535),
+        (0x0041_8938, 1000, 1, 536),
+        (5, 0, 0, 0),
+    ];
+    for (hash, values, flow, queue) in rows {
+        assert_eq!(flow_of_hash(hash, values), flow);
+        assert_eq!(queue_of_hash(hash, values), queue);
+    }
 }

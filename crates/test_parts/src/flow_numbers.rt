@@ -1,6 +1,8 @@
 //! Flows by hash and by port.
 
-use packet_core::{Classify, FiveTuple, Ip, ParamFields, Params, Seed, flow_of};
+use packet_core::{
+    Classify, FiveTuple, Ip, ParamFields, Params, Seed, flow_of, flow_of_hash, queue_of_hash,
+};
 use std::process::Abort;
 
 /// The seed of zeros.
@@ -160,3 +162,26 @@ const FIVE_TUPLES: [(FiveTuple, u32, u32, u32); 8] = [
     (MAPPED_QUERY, 7407, 30696, 53),
     (BOTH_KINDS, 22584, 41426, 53),
 ];
+
+/// Hashes of a network card, how many flows or queues there are, and the flow and the queue. `c/tests/calls.c` has the
+/// same rows for the calls in C.
+const HASHES: [(u32, u32, u32, u32); 10] = [
+    (0x0000_0000, 1024, 0, 0),
+    (0xffff_ffff, 1024, 1023, 1023),
+    (0x8000_0000, 1000, 500, 0),
+    (0x1234_5678, 65_536, 4660, 22_136),
+    (0x0000_ffff, 16, 0, 15),
+    (0x0003_ffff, 3, 0, 2),
+    (0x0041_89ff, 1000, 1, 539),
+    (0x0041_8937, 1000, 0, 535),
+    (0x0041_8938, 1000, 1, 536),
+    (0x0000_0005, 0, 0, 0),
+];
+
+#[test]
+fn flows_and_queues_of_hashes(rt: HostRuntime) {
+    for &(hash, values, flow, queue) in &HASHES {
+        assert_eq!(rt; flow_of_hash(hash, values), flow);
+        assert_eq!(rt; queue_of_hash(hash, values), queue);
+    }
+}
