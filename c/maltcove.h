@@ -411,9 +411,9 @@ int maltcove_params(maltcove *m, maltcove_params_t *params);
  *     228, 229       raw IPv4, raw IPv6
  *
  * VLAN tags are skipped, any number of them (ethertypes 8100, 88A8 and 9100). PPPoE, MPLS and frames with a length in
- * place of an ethertype carry no IP here. *found is all 0 after MALTCOVE_CUT and MALTCOVE_UNKNOWN_LINK, and after
- * MALTCOVE_NOT_IP it says what else is carried, with ethertype 0 where an address family is none of IP's. bytes may be
- * NULL where captured is 0.
+ * place of an ethertype carry no IP here. found->offset is at most captured. *found is all 0 after MALTCOVE_CUT and
+ * MALTCOVE_UNKNOWN_LINK, and after MALTCOVE_NOT_IP it says what else is carried, with ethertype 0 where an address
+ * family is none of IP's. bytes may be NULL where captured is 0.
  *
  *     if (maltcove_find(frame, captured, 1, &found) == MALTCOVE_FINE)
  *             maltcove_parse(frame + found.offset, captured - found.offset, wire - found.offset, found.ethertype,

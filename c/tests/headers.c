@@ -4,8 +4,8 @@
  *   headers [PACKETS WANTED]
  *
  * It begins with packets that are written out here, each by the RFC that it names. PACKETS and WANTED are files with a
- * line for each of further packets, most of captures, as tools/header-rows makes them: what is asked, how many bytes the
- * link delivered and the captured bytes; and what another program found in them.
+ * line for each of further packets, most of captures, as tools/header-rows makes them: what is asked, how many bytes
+ * the link delivered and the captured bytes; and what another program found in them.
  */
 #include "maltcove.h"
 

@@ -1,6 +1,6 @@
 -- Where the packet stands in what a link delivered, by the number that captures have for the link's type (LINKTYPE_ of
 -- the registry that came with pcap).
-use Rattle.std.specs.Prelude.{◌≡◌, ℕ, ◌+◌, ◌*◌, ◌==◌, ◌||◌, Bool, true, false, List, drop, length, nat_lt, not, if◌then◌else◌}
+use Rattle.std.specs.Prelude.{◌≡◌, ℕ, ◌+◌, ◌≤◌, ◌*◌, ◌==◌, ◌||◌, Bool, true, false, List, drop, length, nat_lt, not, if◌then◌else◌}
 use Rattle.header_core.specs.Fields.{be16_at, be32_at, byte_at}
 use Rattle.header_core.specs.Links.{CarriesBehind, IsCutBehind, ethertype_place, is_tag}
 use Rattle.header_core.specs.declared.link.Payload.{Payload}
@@ -8,6 +8,13 @@ use Rattle.header_core.specs.declared.link_types.Carried.{Carried}
 use Rattle.header_core.specs.declared.link_types.Carried.TheVariants as carried
 use Rattle.header_core.specs.declared.link_types.LinkKind.{LinkKind}
 use Rattle.header_core.specs.declared.link_types.LinkKind.TheVariants as kind
+
+-- What is carried begins within the captured bytes.
+abbrev pub BeginsWithin : List ℕ → Carried → Type 0
+BeginsWithin bytes (carried.Packet p) = p.offset ≤ length bytes
+BeginsWithin bytes (carried.Another p) = p.offset ≤ length bytes
+BeginsWithin bytes carried.Cut = Unit {0}
+BeginsWithin bytes carried.Unknown = Unit {0}
 
 -- the kind of link that a number names: 101 is raw IP, which some systems write as 12 or 14
 abbrev pub link_kind : ℕ → LinkKind

@@ -1,8 +1,8 @@
 //! The packet in what a link delivered, for each type of link.
 
-ghost use Rattle.std.specs.Prelude.{◌≡◌, ◌+◌, ◌≤◌, length};
+ghost use Rattle.std.specs.Prelude.{◌≡◌, ℕ, ◌+◌, ◌≤◌, List, length};
 ghost use Rattle.header_core.specs.Fields.{be32_at};
-ghost use Rattle.header_core.specs.LinkTypes.{Carries, CarriesCookedTwo, CarriesFrom, carried_as, carried_of_family, family_of_null, is_ip, le32_at_start, link_kind, payload_at};
+ghost use Rattle.header_core.specs.LinkTypes.{BeginsWithin, Carries, CarriesCookedTwo, CarriesFrom, carried_as, carried_of_family, family_of_null, is_ip, le32_at_start, link_kind, payload_at};
 ghost use Rattle.header_core.specs.declared.link_types.LinkKind.TheVariants as kind;
 
 use crate::fields::{be16_at, be32_at};
@@ -48,7 +48,8 @@ pub(crate) enum LinkKind {
 /// for raw IP, 228 and 229 for raw IPv4 and IPv6, 113 and 276 for Linux's cooked headers, 0 and 108 for BSD's loopback.
 /// VLAN tags are skipped (IEEE 802.1Q).
 pub fn find_packet(bytes: &[u8], link_type: u32) -> Carried
-    ensures { Carries bytes.now link_type result }
+    ensures carries { Carries bytes.now link_type result }
+    ensures within { BeginsWithin bytes.now result }
 {
     match link_kind(link_type) {
         LinkKind::Ethernet => carried_from(bytes, 0, 0),
@@ -101,7 +102,8 @@ fn is_ip(ethertype: u16) -> bool
 
 /// What is carried, by its ethertype.
 fn carried_as(payload: Payload) -> Carried
-    ensures { result ≡ carried_as payload }
+    ensures value { result ≡ carried_as payload }
+    ensures within { (bytes : List ℕ) → payload.offset ≤ length bytes → BeginsWithin bytes result }
 {
     if is_ip(payload.ethertype) {
         Carried::Packet(payload)
@@ -114,7 +116,8 @@ fn carried_as(payload: Payload) -> Carried
 fn carried_from(bytes: &[u8], from: usize, outer: usize) -> Carried
     requires header { from ≤ 10 }
     requires tag { outer ≤ 1 }
-    ensures { CarriesFrom bytes.now from outer result }
+    ensures carries { CarriesFrom bytes.now from outer result }
+    ensures within { BeginsWithin bytes.now result }
 {
     if bytes.len() < from {
         return Carried::Cut;
@@ -131,7 +134,8 @@ fn carried_from(bytes: &[u8], from: usize, outer: usize) -> Carried
 
 /// What stands behind Linux's cooked header of 20 bytes.
 fn carried_by_cooked_two(bytes: &[u8]) -> Carried
-    ensures { CarriesCookedTwo bytes.now result }
+    ensures carries { CarriesCookedTwo bytes.now result }
+    ensures within { BeginsWithin bytes.now result }
 {
     if bytes.len() < 20 {
         return Carried::Cut;
@@ -169,7 +173,8 @@ fn le32_at_start(bytes: &[u8]) -> u32
 
 /// What stands behind an address family.
 fn carried_of_family(family: u32) -> Carried
-    ensures { result ≡ carried_of_family family }
+    ensures value { result ≡ carried_of_family family }
+    ensures within { (bytes : List ℕ) → 4 ≤ length bytes → BeginsWithin bytes result }
 {
     match family {
         2 => Carried::Packet(payload_at(4, 0x0800)),

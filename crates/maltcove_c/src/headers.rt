@@ -1,6 +1,6 @@
 //! The calls that read a packet's bytes, and the one that marks them. They need no scheduler, and take no memory.
 
-ghost use Rattle.std.specs.Prelude.{◌≡◌};
+ghost use Rattle.std.specs.Prelude.{◌≡◌, ◌≤◌, length};
 ghost use Rattle.std.specs.Bool.{OnFalse, OnTrue};
 ghost use Rattle.header_core.specs.Marks.{KeepsSums, Marks, is_markable};
 ghost use Rattle.maltcove_c.specs.Headers.{IsFound, IsParsed, ethertype_said, instead_of_flags, with_ce};
@@ -55,7 +55,8 @@ pub extern "C" fn maltcove_raw_parse(
 /// Finds the packet in what a link delivered.
 #[unsafe(no_mangle)]
 pub extern "C" fn maltcove_raw_find(bytes: &[u8], link_type: u32, found: &mut MaltcoveFound) -> i32
-    ensures { IsFound bytes.now link_type result found.new }
+    ensures found { IsFound bytes.now link_type result found.new }
+    ensures within { found.new.offset ≤ length bytes.now }
 {
     let carried = find_packet(bytes, link_type);
     *found = found_from(&carried);

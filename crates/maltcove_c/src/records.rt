@@ -1,6 +1,7 @@
 //! The records that C reads and writes. Each has the layout of its struct in `maltcove.h`.
 
-ghost use Rattle.std.specs.Prelude.{◌≡◌, IfSome, IsNone};
+ghost use Rattle.std.specs.Prelude.{◌≡◌, ◌≤◌, ℕ, IfSome, IsNone, List, length};
+ghost use Rattle.header_core.specs.LinkTypes.{BeginsWithin};
 ghost use Rattle.packet_core.specs.Packets.{PacketParts};
 ghost use Rattle.maltcove_c.specs.Records.{Says, SaysInFlow, address_of_bytes, admitted_told, bytes_of_address, cause_code, dropped_told, ecn_bits, ecn_of_bits, fault_told, flow_told, flushed_told, found_told, fragment_code, idle_told, mark_code, not_text_told, nothing_told, packet_told, params_told, payload_told, ports_code, sent_told, totals_told, where_told, word_told};
 
@@ -344,7 +345,8 @@ fn found_at(payload: &Payload) -> MaltcoveFound
 
 /// What a link delivered, for C.
 pub(crate) fn found_from(carried: &Carried) -> MaltcoveFound
-    ensures { result ≡ found_told carried.now }
+    ensures told { result ≡ found_told carried.now }
+    ensures within { (bytes : List ℕ) → BeginsWithin bytes carried.now → result.offset ≤ length bytes }
 {
     match carried {
         Carried::Packet(payload) => found_at(payload),

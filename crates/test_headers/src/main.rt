@@ -5,6 +5,8 @@
 //! other programs found.
 #![tactic(auto)]
 
+ghost use Rattle.std.specs.Prelude.{◌≤◌, length};
+
 mod rows;
 
 use crate::rows::{Asked, address, fragment_number, ports_number, verdict_number};
@@ -84,7 +86,9 @@ fn answer_payload<R: Print + AllocGlobal>(
     bytes: &[u8],
     wire: usize,
     payload: Payload,
-) -> Result<()> {
+) -> Result<()>
+    requires { payload.offset ≤ length bytes.now }
+{
     let header = dissect(
         &bytes[payload.offset..],
         wire.saturating_sub(payload.offset),
