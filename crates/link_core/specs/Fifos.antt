@@ -45,8 +45,8 @@ progress_of queue came steps events = record {
   steps = steps;
 }
 
--- The journal names what waits, as it waits, and each fate is of a packet that came. What left and what was lost is what
--- the journal names so.
+-- The journal names what waits, as it waits, and each fate is of a packet that came. What left and what was lost is
+-- what the journal names so.
 pub record AreNamed (arrived : ℕ) (events : List Event) (queue sent lost : List Waiting) : Type 0 where
   pub ids : accepted_ids events ≡ range_with_len 0 arrived
   pub fates : AllByRecursion (λ id. id < arrived) (fate_ids events)

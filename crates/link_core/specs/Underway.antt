@@ -64,7 +64,8 @@ pub record IsOnTime {Q : Type 0} (link : LinkFields) (at : Standing Q) (busy : O
   pub frees : IfSome busy (IsFreeInTime link at.state.last (sent_count at.events))
   pub comes : AreComing at.state.last coming
 
--- A discipline has made the steps of the link so far, and goes on without a refusal. No more packets were sent than came.
+-- A discipline has made the steps of the link so far, and goes on without a refusal. No more packets were sent than
+-- came.
 pub record IsOnLink {Q : Type 0} (d : Discipline Q) (link : LinkFields) (arrivals : List Arrival) (at : Progress Q)
     (busy : Option FreeAt) (coming : List Arrival) : Type 0 where
   pub underway : IsUnderway d link arrivals at.steps at.standing

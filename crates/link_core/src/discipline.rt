@@ -10,8 +10,9 @@ ghost use Rattle.link_core.specs.QueueDisciplines.{HasArrived, HasServed, Progre
 use journal_core::{Memory, Sent};
 use packet_core::Packet;
 
-/// A queueing discipline: which packet goes next, and which are dropped. A link runs over any, and its laws hold of each.
-/// `Engine`, the scheduler with its steps, is one, and `Fifo` another. It tells its recorder what becomes of packets.
+/// A queueing discipline: which packet goes next, and which are dropped. A link runs over each by the same law
+/// (`run_over`). `Engine`, the scheduler with its steps, is one, and `Fifo` another. It tells its recorder what becomes
+/// of packets.
 pub trait QueueDiscipline: Drop {
     /// What it queues packets in, as its rules see it.
     ghost Queues: { Type 0 };
@@ -28,9 +29,9 @@ pub trait QueueDiscipline: Drop {
     /// The steps so far, and the queues and the journal that they led to.
     ghost so_far: { Self → Progress Queues };
 
-    /// A packet comes in at a moment, in microseconds, by lane 0, and may be dropped, or others in its place. The moment
-    /// is below 2^60 and not before the last one, and fewer than 2^40 packets came before. It fails for want of memory
-    /// alone, and changes nothing then.
+    /// A packet comes in at a moment, in microseconds, by lane 0, and may be dropped, or others in its place. The
+    /// moment is below 2^60 and not before the last one, and fewer than 2^40 packets came before. It fails for want of
+    /// memory alone, and changes nothing then.
     fn arrive(&mut self, moment: u64, packet: Packet) -> Result<(), Memory>
         requires { refusal_of (so_far self.old).standing.state (Enqueue moment 0 packet) ≡ None }
         ensures arrived { IfOk result (λ _.

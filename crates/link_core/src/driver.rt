@@ -15,10 +15,11 @@ use crate::free_at::FreeAt;
 use crate::link::Link;
 use journal_core::Memory;
 
-/// Makes the steps of a link for these arrivals with a discipline that made none before, and returns the moment at which
-/// the link has sent its last packet whole, in microseconds, rounded up; it is 0 where none was sent. Each packet comes in
-/// at its moment. The link asks for a packet whenever it gets free, in vain too, and whenever a packet comes while it is
-/// idle. So the link is never idle while something waits. No step is refused, and it fails for want of memory alone.
+/// Makes the steps of a link for these arrivals with a discipline that made none before, and returns the moment at
+/// which the link has sent its last packet whole, in microseconds, rounded up; it is 0 where none was sent. Each
+/// packet comes in at its moment. The link asks for a packet whenever it gets free, in vain too, and whenever a packet
+/// comes while it is idle. So the link is never idle while something waits. No step is refused, and it fails for want
+/// of memory alone.
 pub fn run_over<D: QueueDiscipline>(
     discipline: &mut D,
     link: &Link,
@@ -43,8 +44,8 @@ pub fn run_over<D: QueueDiscipline>(
     Ok(done.rounded_up(link))
 }
 
-/// The link asks for packets until the next one comes, takes that in, and asks for one at once where it is idle. `done` is
-/// when the link has sent the packets so far.
+/// The link asks for packets until the next one comes, takes that in, and asks for one at once where it is idle.
+/// `done` is when the link has sent the packets so far.
 fn meet_next<D: QueueDiscipline>(
     discipline: &mut D,
     link: &Link,
@@ -105,8 +106,8 @@ fn ask_before<D: QueueDiscipline>(
     Ok(None)
 }
 
-/// The link asks for a packet, and sends it if there is one: when it gets free again. That is when it has sent all packets
-/// so far.
+/// The link asks for a packet, and sends it if there is one: when it gets free again. That is when it has sent all
+/// packets so far.
 fn ask<D: QueueDiscipline>(
     discipline: &mut D,
     link: &Link,

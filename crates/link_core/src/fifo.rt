@@ -60,8 +60,8 @@ pub fn run_fifo_with_recorder<K: Recorder>(
     Ok(recorder)
 }
 
-/// The same as `run_fifo_with_recorder`, and the moment at which the link has sent its last packet whole, in microseconds,
-/// rounded up. It is 0 where none was sent.
+/// The same as `run_fifo_with_recorder`, and the moment at which the link has sent its last packet whole, in
+/// microseconds, rounded up. It is 0 where none was sent.
 pub fn run_fifo_to_end<K: Recorder>(
     alloc: Global,
     params: Params,
@@ -85,10 +85,10 @@ pub fn run_fifo_to_end<K: Recorder>(
     Ok((fifo.into_recorder(), end))
 }
 
-/// A FIFO: a packet is dropped that arrives where as many wait as the limit, with the cause `Overflow`. It has no other
-/// limit, and it marks nothing. Each packet's flow in the journal is the one that FQ-CoDel with the same parameters and
-/// seed would choose, though the queue looks at none. It tells its recorder what becomes of packets, and keeps its steps
-/// for proofs alone.
+/// A FIFO: a packet is dropped that arrives where as many wait as the limit, with the cause `Overflow`. It has no
+/// other limit, and it marks nothing. Each packet's flow in the journal is the one that FQ-CoDel with the same
+/// parameters and seed would choose, though the queue looks at none. It tells its recorder what becomes of packets,
+/// and keeps its steps for proofs alone.
 #[derive(Drop)]
 pub struct Fifo<K: Recorder = EventList> {
     params: Params,

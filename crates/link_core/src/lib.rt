@@ -1,6 +1,6 @@
-//! A bottleneck link over the scheduler: it sends one packet after another at its rate, and asks for the next one
-//! whenever it gets free. Which steps that makes of a list of arrivals, and what becomes of each packet. Arrivals are
-//! as they came: no sender answers to drops, marks or delays.
+//! A bottleneck link over the scheduler, a FIFO or another `QueueDiscipline`: it sends one packet after another at its
+//! rate, and asks for the next one whenever it gets free. Which steps that makes of a list of arrivals, and what
+//! becomes of each packet. Arrivals are as they came: no sender answers to drops, marks or delays.
 #![tactic(auto)]
 
 mod arrival;
