@@ -1,6 +1,6 @@
 //! Who is told what becomes of each packet, and who is told the steps of a run.
 
-ghost use Rattle.std.specs.Prelude.{◌≡◌, ◌-◌, ◌<◌, ◌≤◌, ℕ, List, [], ◌∷◌, ◌++◌, OnErr, OnOk};
+ghost use Rattle.std.specs.Prelude.{◌≡◌, ◌+◌, ◌-◌, ◌<◌, ◌≤◌, ℕ, List, [], ◌∷◌, ◌++◌, OnErr, OnOk, length};
 ghost use Rattle.packet_core.specs.declared.packet.Waiting.{Waiting};
 ghost use Rattle.journal_core.specs.MadeFor.{MadeFor, made_for_any};
 ghost use Rattle.journal_core.specs.Recorders.{listed_events, listed_losses, listed_room, listed_sent, listed_step_room, listed_steps, null_events, null_losses, null_room, null_sent, null_step_room, null_steps};
@@ -162,12 +162,13 @@ impl EventList {
         events
     }
 
-    /// Forgets what it was told, and keeps its memory. So it can serve another scheduler.
+    /// Forgets what it was told, and keeps its memory: there is room for as many events as before, and for those that it
+    /// was told. So it can serve another scheduler.
     pub fn clear(&mut self)
         ensures told { listed_events self.new ≡ [] }
         ensures sent { listed_sent self.new ≡ [] }
         ensures lost { listed_losses self.new ≡ [] }
-        ensures room { listed_room self.old ≤ listed_room self.new }
+        ensures room { listed_room self.new ≡ listed_room self.old + length (listed_events self.old) }
     {
         self.events.clear();
         self.sent = GhostList::new();
@@ -245,10 +246,10 @@ impl StepList {
         steps
     }
 
-    /// Forgets what it was told, and keeps its memory. So it can serve another engine.
+    /// Forgets what it was told, and keeps its memory, as `EventList::clear` does. So it can serve another engine.
     pub fn clear(&mut self)
         ensures told { listed_steps self.new ≡ [] }
-        ensures room { listed_step_room self.old ≤ listed_step_room self.new }
+        ensures room { listed_step_room self.new ≡ listed_step_room self.old + length (listed_steps self.old) }
     {
         self.steps.clear();
     }
