@@ -57,9 +57,7 @@ impl Display for Verdict {
         f.write_str(match self {
             Verdict::Fine => "a packet of IP",
             Verdict::Short => "fewer bytes came than the header has",
-            Verdict::NotIp => {
-                "neither IPv4 nor IPv6, or another version than the ethertype says"
-            }
+            Verdict::NotIp => "neither IPv4 nor IPv6, or another version than the ethertype says",
             Verdict::BadIhl => "the header length of IPv4 is below 5 words",
             Verdict::BadLength => "the total length of IPv4 is below the header length",
             Verdict::Overrun => "the packet says that it is longer than what came",
@@ -150,8 +148,7 @@ pub struct Found {
 pub fn find(bytes: &[u8], link_type: u32) -> Found {
     let mut found = sys::Found::default();
     // SAFETY: the bytes and the record live through the call, and the length is theirs.
-    let answer =
-        unsafe { sys::maltcove_find(bytes.as_ptr(), bytes.len(), link_type, &mut found) };
+    let answer = unsafe { sys::maltcove_find(bytes.as_ptr(), bytes.len(), link_type, &mut found) };
     Found {
         verdict: Verdict::of(answer),
         offset: found.offset as usize,

@@ -76,7 +76,10 @@ fn others_take_the_place_of_ports() {
         let parsed = parse(&esp6(), 48, None, instead, 0);
         let packet = parsed.packet.unwrap();
         assert_eq!((packet.src, packet.dst), (source, destination));
-        assert_eq!((packet.sport, packet.dport, parsed.ports), (sport, dport, ports));
+        assert_eq!(
+            (packet.sport, packet.dport, parsed.ports),
+            (sport, dport, ports)
+        );
         assert_eq!((packet.proto, packet.len, packet.ecn), (50, 48, Ecn::Ce));
         assert_eq!((parsed.flow_label, parsed.dscp), (0xabcde, 42));
     }
@@ -118,7 +121,10 @@ fn fragments_and_cut_ports() {
         assert_eq!((parsed.fragment, parsed.ports), (fragment, Ports::Fragment));
     }
     assert_eq!(parse(&UDP4[..22], 28, None, PORTS, 0).ports, Ports::Cut);
-    assert_eq!(parse(&spoilt(3, &[23]), 28, None, PORTS, 0).ports, Ports::Beyond);
+    assert_eq!(
+        parse(&spoilt(3, &[23]), 28, None, PORTS, 0).ports,
+        Ports::Beyond
+    );
 }
 
 #[test]
