@@ -545,12 +545,13 @@ fn rise(
     comparisons
 }
 
-// The one of the two nodes below the top that all places with bytes are below, else the top.
+// The one of the two nodes below the top that all places with bytes are below, else the top. It sinks to no leaf: of
+// two flows, the one that stays is still compared as its packets leave.
 fn sunk(numbers: &[u32], bytes: &[u64], winners: &[u32], top: Top) -> Top
     requires tree { IsTree (length bytes.now) numbers.now bytes.now winners.now top.node top.height }
     ensures tree { IsTree (length bytes.now) numbers.now bytes.now winners.now result.node result.height }
 {
-    if top.node >= bytes.len() {
+    if top.node >= bytes.len() / 2 {
         return top;
     }
     let left = 2 * top.node;

@@ -6,12 +6,12 @@ pub returns-then-bytes-winners-eq0 : goal.returns-then-bytes-winners-eq0
 returns-then-bytes-winners-eq0 c = record {
   tree =
       let top = c.args.top.node in
-      sinks c.requires.tree (2 * top) (2 * top + 1) (omega arith) (omega arith) (omega arith) c.if-top-bytes.false (omega (arith, c.if-bytes-winners-eq0.true));
+      sinks c.requires.tree (2 * top) (2 * top + 1) (omega arith) (omega arith) (omega arith) (omega (arith, c.if-top-bytes.false)) (omega (arith, c.if-bytes-winners-eq0.true));
 }
 
 pub returns-then-bytes-winners-eq0-2 : goal.returns-then-bytes-winners-eq0-2
 returns-then-bytes-winners-eq0-2 c = record {
   tree =
       let top = c.args.top.node in
-      sinks c.requires.tree (2 * top + 1) (2 * top) (omega arith) (omega arith) (omega arith) c.if-top-bytes.false (omega (arith, c.if-bytes-winners-eq0-2.true));
+      sinks c.requires.tree (2 * top + 1) (2 * top) (omega arith) (omega arith) (omega arith) (omega (arith, c.if-top-bytes.false)) (omega (arith, c.if-bytes-winners-eq0-2.true));
 }
