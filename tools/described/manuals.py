@@ -17,9 +17,9 @@ def amount(text, unit):
 
 
 def help_rows(part, tables):
-    """The rows of the block behind the line Words, Range, Default: of each its form, its range, its default and its
+    """The rows of the block behind the line with Range and Default: of each its form, its range, its default and its
     text."""
-    block = part.after(r"^ *Words +Range +Default\n").until(r"\n\n")
+    block = part.after(r"^ *(?:Words|Parameter) +Range +Default\n").until(r"\n\n")
     indent = len(block.text) - len(block.text.lstrip(" "))
     units, found = {one.name: one.unit for one in tables.parameters}, []
     for place, line in enumerate(block.text.split("\n")):

@@ -13,7 +13,7 @@ use Rattle.link_command.specs.Marks.{vain_place}
 -- a line, and a second one with what may be done
 abbrev pub no_packet_text : List ℕ
 no_packet_text =
-    codes "maltlink: no packet came\n  standard input has no row 'enq': rows are read from there, as in 'maltlink --rate 10mbit < arrivals.csv'\n"
+    codes "maltlink: no packet arrived\n  standard input has no 'enq' row; arrivals are read from there, as in 'maltlink --rate 10mbit < arrivals.csv'\n"
 
 -- a five-tuple as the fields of a row
 abbrev pub tuple_text : FiveTuple → List ℕ

@@ -1,4 +1,4 @@
-//! The words behind the program's name, read by `clap`.
+//! The program's arguments, read by `clap`.
 
 ghost use Rattle.std.specs.Prelude.{◌≡◌, ◌≢◌, ◌⊎◌, IfErr, IfOk, codes, false, map, option_map, string_bytes};
 ghost use Rattle.clap.specs.Words.{app_of, first_of, found_of, kind_of, rows_of, rule_of, with_rule};
@@ -41,23 +41,23 @@ pub enum TableName {
 pub struct RunRequest<'a> {
     /// The text of the rate.
     pub rate: &'a str,
-    /// The text of the bytes on the wire beside a packet's own, where there is one.
+    /// The text of the overhead on the wire, if it is given.
     pub overhead: Option<&'a str>,
-    /// The text of the least bytes on the wire, where there is one.
+    /// The text of the minimum size on the wire, if it is given.
     pub mpu: Option<&'a str>,
-    /// The text of the seed, where there is one.
+    /// The text of the seed, if it is given.
     pub seed: Option<&'a str>,
-    /// The text of the width of a bin, where there is one.
+    /// The text of the width of a bin, if it is given.
     pub every: Option<&'a str>,
-    /// Whether a FIFO is run beside it.
+    /// Whether a FIFO is run to compare with.
     pub has_fifo: bool,
     /// The table.
     pub table: TableName,
-    /// The parameter words.
+    /// The parameters.
     pub parameters: Vec<&'a str>,
 }
 
-/// What the words ask for.
+/// What the arguments ask for.
 #[derive(Debug, Drop)]
 pub enum Asked<'a> {
     /// A run.
@@ -66,7 +66,7 @@ pub enum Asked<'a> {
     Text(String),
 }
 
-/// Reads the words behind the program's name.
+/// Reads the program's arguments.
 pub fn parse<'a>(alloc: Global, words: &'a [&'a str]) -> Result<Asked<'a>, ProgramFault>
     ensures run { IfOk result (λ asked. (run : _) → asked ≡ Asked.Run run
         → AsksForLink (map (λ w. w.now) words.entry.now) (texts_of run)) }
@@ -86,7 +86,7 @@ pub fn parse<'a>(alloc: Global, words: &'a [&'a str]) -> Result<Asked<'a>, Progr
     }
 }
 
-/// What is answered where there are no matches: a text, or a fault.
+/// What is returned if there are no matches: a text, or a fault.
 fn without_matches<'a>(
     alloc: Global,
     words: &[&str],
@@ -132,7 +132,7 @@ fn run_request<'a>(alloc: Global, matches: &ArgMatches<'a>) -> Result<RunRequest
     })
 }
 
-/// The parameter words.
+/// The parameters.
 fn parameters_of<'a>(alloc: Global, matches: &ArgMatches<'a>) -> Result<Vec<&'a str>, AllocError>
     ensures { IfOk result (λ words. map (λ w. w.now) words.items
         ≡ (texts_in (rows_of (found_of matches.now))).parameters) }

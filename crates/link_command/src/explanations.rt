@@ -1,39 +1,38 @@
-//! What a fault says to people: what was found, and what is wanted.
+//! The second line of an error, for people: what was found, and what was expected.
 
 use crate::faults::{Found, ProgramFault, RowFault, ValueName};
 use crate::fields::FieldName;
+use crate::nearest::nearest_name;
 use packet_core::ParamFault;
 use row_core::TraceFaultKind;
-use std::io::Write;
+use std::io::{self, Write};
 
-/// The line for people. Where it can't be written, that is passed over.
+/// Writes the line for people. A write that fails is ignored: there is no other place for it.
 pub(crate) fn explain<F: Write>(faults: &mut F, fault: &ProgramFault) {
     let _ = match fault {
         ProgramFault::Value(name, _, found) => {
-            writeln!(faults, "  --{name} {found:?}: wanted is {}", wanted(*name))
+            writeln!(faults, "  --{name} {found:?}: expected {}", wanted(*name))
         }
         ProgramFault::Seed(found) => {
-            writeln!(
-                faults,
-                "  --seed {found:?}: wanted are 32 hexadecimal digits"
-            )
+            writeln!(faults, "  --seed {found:?}: expected 32 hexadecimal digits")
         }
+        ProgramFault::Params(ParamFault::UnknownWord(_), found) => explain_unknown(faults, found),
         ProgramFault::Params(fault, found) => {
             writeln!(faults, "  {found:?}: {}", wanted_word(*fault, found))
         }
         ProgramFault::Row(0, what, _) => writeln!(faults, "  the input {}", amiss_input(*what)),
         ProgramFault::Row(_, _, Found::Capture) => writeln!(
             faults,
-            "  the input is a capture of packets; wanted are rows, as 'tools/pcap-to-arrivals FILE' makes of it"
+            "  the input is a packet capture; 'tools/pcap-to-arrivals FILE' converts it"
         ),
         ProgramFault::Row(_, _, Found::Utf16) => writeln!(
             faults,
-            "  the input is UTF-16; wanted is UTF-8, as 'iconv -f UTF-16 -t UTF-8' makes of it"
+            "  the input is UTF-16; 'iconv -f UTF-16 -t UTF-8' converts it"
         ),
         ProgramFault::Row(number, what, Found::Field(name, found)) => {
             writeln!(
                 faults,
-                "  row {number}, field {} ({name}): {found:?} {}; wanted is {}",
+                "  row {number}, field {} ({name}): {found:?} {}; expected {}",
                 name.number(),
                 amiss(*what, *name, found),
                 wanted_field(*name)
@@ -49,79 +48,93 @@ pub(crate) fn explain<F: Write>(faults: &mut F, fault: &ProgramFault) {
     };
 }
 
-/// What value an option has.
+/// Writes the line on a word that is no parameter's name.
+fn explain_unknown<F: Write>(faults: &mut F, found: &str) -> io::Result<()> {
+    if found.contains('.') || found.contains('/') {
+        return writeln!(
+            faults,
+            "  {found:?}: unknown parameter; arrivals are read from standard input, as in 'maltlink .. < FILE'"
+        );
+    }
+    match nearest_name(found) {
+        Some(name) => writeln!(
+            faults,
+            "  {found:?}: unknown parameter; did you mean '{name}'?"
+        ),
+        None => writeln!(
+            faults,
+            "  {found:?}: unknown parameter ('maltlink --help' lists them)"
+        ),
+    }
+}
+
+/// What value an option takes.
 pub(crate) fn wanted(name: ValueName) -> &'static str {
     match name {
-        ValueName::Rate => "1000bit to 1tbit, as in 10mbit or 1250kbps",
+        ValueName::Rate => "a rate from 1000bit to 1tbit, such as 10mbit or 1250kbps",
         ValueName::Overhead => "a number from 0 to 1000, in bytes",
         ValueName::Mpu => "a number from 0 to 65535, in bytes",
         ValueName::Every => "a time from 1ms to 1000s",
     }
 }
 
-/// What a parameter word is to be.
+/// What is expected of a parameter.
 fn wanted_word(fault: ParamFault, found: &str) -> &'static str {
     match fault {
-        ParamFault::UnknownWord(_) => {
-            if found.contains('.') || found.contains('/') {
-                "no parameter has that name; rows are read from standard input, as in 'maltlink .. < FILE'"
-            } else {
-                "no parameter has that name ('maltlink --help' lists them)"
-            }
-        }
-        ParamFault::MissingValue(_) => "a value is wanted after this word",
+        ParamFault::UnknownWord(_) => "unknown parameter",
+        ParamFault::MissingValue(_) => "this parameter needs a value after it",
         ParamFault::NotANumber(_) => wanted_number(found),
-        ParamFault::OutOfRange(_) => "it is outside its range ('maltlink --help' lists them)",
+        ParamFault::OutOfRange(_) => "out of range ('maltlink --help' lists the ranges)",
     }
 }
 
-/// What a parameter's value is to be that is no number.
+/// What is expected of a parameter's value that isn't a number.
 fn wanted_number(found: &str) -> &'static str {
     if found.contains(',') {
-        "a number is wanted without commas, as in 10240"
+        "expected a number without commas, such as 10240"
     } else if found.contains('.') {
-        "a time with a point is wanted as in 5.5ms: one to six digits, and us, ms or s, to a whole microsecond"
+        "expected a time such as 5.5ms: one to six digits after the point, and us, ms or s, to a whole microsecond"
     } else {
-        "a number is wanted, or a time as in 5ms"
+        "expected a number, or a time such as 5ms"
     }
 }
 
 /// What is wrong with a field.
 fn amiss(what: RowFault, name: FieldName, found: &str) -> &'static str {
     match what {
-        RowFault::NotAnArrival => "is no arrival",
+        RowFault::NotAnArrival => "isn't an arrival",
         RowFault::TooLate => "is too late",
-        RowFault::Backwards => "is below the moment of the row before",
+        RowFault::Backwards => "is earlier than the row before",
         RowFault::Trace(TraceFaultKind::BadKind) => {
             if found == "version" {
-                "stands in the first row alone"
+                "is allowed in the first row only"
             } else {
-                "is no kind of row"
+                "isn't a kind of row"
             }
         }
         RowFault::Trace(TraceFaultKind::BadAddress) => match name {
-            FieldName::Dst => "is no address of the kind of SRC",
-            _ => "is no address",
+            FieldName::Dst => "isn't an address of the same family as SRC",
+            _ => "isn't an address",
         },
         RowFault::Trace(_) => {
             if found.contains('.') {
-                "is no whole number"
+                "isn't a whole number"
             } else {
-                "is no such number"
+                "isn't a valid number"
             }
         }
     }
 }
 
-/// What a field is to have.
+/// What is expected in a field.
 fn wanted_field(name: FieldName) -> &'static str {
     match name {
         FieldName::Kind => "enq",
         FieldName::Version => "2",
-        FieldName::Moment => "0 to 576460752303423487, in microseconds, never falling",
+        FieldName::Moment => "0 to 576460752303423487, in microseconds, never decreasing",
         FieldName::Proto => "0 to 255",
         FieldName::Src | FieldName::Dst => {
-            "four numbers joined by dots, or after a row version,2 also 32 hexadecimal digits"
+            "an IPv4 address such as 10.0.0.1, or after a row version,2 an IPv6 address of 32 hexadecimal digits"
         }
         FieldName::Sport | FieldName::Dport => "0 to 65535",
         FieldName::Len => "1 to 65535, in bytes",
@@ -133,7 +146,7 @@ fn wanted_field(name: FieldName) -> &'static str {
 fn amiss_input(what: RowFault) -> &'static str {
     match what {
         RowFault::Trace(TraceFaultKind::TooLarge) => {
-            "has more than 134217728 bytes; wanted are at most so many, in at most 1000000 rows"
+            "has more than 134217728 bytes; expected at most that many, in at most 1000000 rows"
         }
         _ => amiss_row(what),
     }
@@ -143,12 +156,12 @@ fn amiss_input(what: RowFault) -> &'static str {
 fn amiss_row(what: RowFault) -> &'static str {
     match what {
         RowFault::Trace(TraceFaultKind::Read) => "couldn't be read",
-        RowFault::Trace(TraceFaultKind::Memory) => "had no memory",
+        RowFault::Trace(TraceFaultKind::Memory) => "couldn't be stored: out of memory",
         RowFault::Trace(TraceFaultKind::TooLarge) => {
-            "is one too many; wanted are at most 1000000 rows"
+            "is one too many; expected at most 1000000 rows"
         }
         RowFault::Trace(_) | RowFault::NotAnArrival | RowFault::TooLate | RowFault::Backwards => {
-            "has another number of fields; wanted is enq,MOMENT,PROTO,SRC,DST,SPORT,DPORT,LEN,ECN"
+            "has the wrong number of fields; expected enq,MOMENT,PROTO,SRC,DST,SPORT,DPORT,LEN,ECN"
         }
     }
 }

@@ -1,4 +1,4 @@
-//! What can go wrong, as the program says it: a line for programs, and a line for people.
+//! What can go wrong, as the program says it: a line for programs and one for people.
 
 ghost use Rattle.std.specs.Prelude.{◌≡◌};
 ghost use Rattle.link_command.specs.Faults.{row_status, status_of};
@@ -12,10 +12,10 @@ use std::alloc::AllocError;
 use std::io::{self, ErrorKind, Write};
 use thiserror::Error;
 
-/// The status where the machine failed: memory, a read or a write.
+/// The exit status after running out of memory, or a failed read or write.
 const MACHINE_FAULT: u8 = 1;
 
-/// The status where something is wrong that was given: the words or the arrivals.
+/// The exit status if the arguments or the arrivals are wrong.
 const INPUT_FAULT: u8 = 2;
 
 /// An option whose value is a number.
@@ -55,10 +55,10 @@ pub enum RowFault {
     /// It is a row of a trace, but not `enq`.
     #[error("NotAnArrival")]
     NotAnArrival,
-    /// Its moment is 2^59 microseconds or more.
+    /// Its time is 2^59 microseconds or more.
     #[error("TooLate")]
     TooLate,
-    /// Its moment is before that of the row before.
+    /// Its time is before that of the row before.
     #[error("Backwards")]
     Backwards,
 }
@@ -79,11 +79,11 @@ pub enum Found {
 /// Why the program failed.
 #[derive(Debug, Drop, Error)]
 pub enum ProgramFault {
-    /// The words aren't those of a command line. The text says what is wrong, in whole lines. Of the control characters
-    /// it has line feeds alone: each other one of a word is written as `\u{1b}`.
+    /// The arguments aren't those of a command line. The text says what is wrong, in whole lines. Of the control
+    /// characters it has line feeds alone: each other one of a word is written as `\u{1b}`.
     #[error("{0}")]
     CommandLine(String),
-    /// A word isn't UTF-8.
+    /// An argument isn't UTF-8.
     #[error("a word isn't UTF-8")]
     NotUtf8,
     /// The value of an option is wrong. The text is the value as it was found.
@@ -92,14 +92,14 @@ pub enum ProgramFault {
     /// The seed isn't 32 hexadecimal digits. The text is what was found.
     #[error("seed")]
     Seed(String),
-    /// A parameter word is wrong. The text is the word.
+    /// A parameter is wrong. The text is the argument.
     #[error("{0}")]
     Params(ParamFault, String),
     /// A row is wrong, by its number from 1, and 0 where the input couldn't be read. What was found is the row, or the
     /// field of it.
     #[error("row {0}: {1}")]
     Row(u64, RowFault, Found),
-    /// A growth was refused.
+    /// Out of memory.
     #[error("memory")]
     Memory,
     /// A write failed or took nothing. What was written is the front of the table.
@@ -108,7 +108,7 @@ pub enum ProgramFault {
 }
 
 impl ProgramFault {
-    /// The status that the program ends with: 1 where the machine failed, and 2 where what was given is wrong.
+    /// The exit status: 1 if the program ran out of memory, or a read or a write failed, and 2 if its input is wrong.
     pub fn status(&self) -> u8
         ensures { result ≡ status_of self.now }
     {
@@ -144,7 +144,7 @@ impl From<AllocError> for ProgramFault {
     }
 }
 
-/// Why the words can't be had.
+/// Why the arguments can't be read.
 impl From<io::Error> for ProgramFault {
     ghost use Rattle.std.specs.Prelude.{◌≢◌};
     ghost use Rattle.std.specs.IoError.{error_kind};
@@ -161,8 +161,8 @@ impl From<io::Error> for ProgramFault {
     }
 }
 
-/// Reports a fault, and answers its status. The first line is for programs, the second one says what was found and what
-/// is wanted. Where it can't be written there is nowhere left to say so, and it is passed over.
+/// Reports an error, and returns its exit status. The first line is for programs, the second one says what was found
+/// and what is wanted. If the write fails there is nowhere left to report that, so it is ignored.
 pub fn tell<F: Write>(faults: &mut F, fault: &ProgramFault) -> u8
     ensures { result ≡ status_of fault.now }
 {

@@ -11,6 +11,7 @@ mod fields;
 mod manual;
 mod marks;
 mod mistakes;
+mod nearest;
 mod notes;
 mod plain;
 mod program_run;

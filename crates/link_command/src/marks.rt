@@ -64,8 +64,8 @@ fn is_late(packet: &PacketRecord, interval: u64) -> bool
     }
 }
 
-/// The number of the first five-tuple whose marks are in vain, and that of all five-tuples where there is none. It fails
-/// for want of memory alone.
+/// The number of the first five-tuple whose marks are in vain, and that of all five-tuples where there is none. It
+/// fails only if it is out of memory.
 pub(crate) fn vain_place(alloc: Global, interval: u64, packets: &Packets) -> Result<usize, Memory>
     ensures { IfOk result (λ place. place ≡ vain_place interval packets.now) }
 {

@@ -1,22 +1,23 @@
-//! What a word that begins with a dash was to be, where it is no option. `clap` would have it behind `--`, where the
-//! parameters' words are read, and it is none of these either.
+//! What an argument that begins with a dash and isn't an option was likely to be. `clap`'s tip is to write it after `--`,
+//! among the parameters, where it would be wrong too.
 
 use crate::explanations::wanted;
 use crate::faults::ValueName;
+use crate::nearest::nearest_name;
 use clap::Error;
 use clap::error::ErrorKind;
 use std::alloc::{AllocError, Global};
 
-/// How the tips of `clap` begin.
+/// The beginning of `clap`'s tips.
 const TIP: &str = "\n  tip: ";
 
-/// How the tip begins that never helps.
+/// The beginning of the tip that never helps.
 const BEHIND_DASHES: &str = "\n  tip: to pass '";
 
-/// What a value is of which the line says no more.
-const LISTED: &str = "one of those that 'maltlink --help' lists";
+/// What is expected as a value that is a name.
+const LISTED: &str = "one of the names that 'maltlink --help' lists";
 
-/// The text of a mistake: what `clap` says, with a second line in place of its tip where that misleads.
+/// The text of an error on the command line: `clap`'s, with a second line instead of its tip if that misleads.
 pub(crate) fn mistake_text(
     alloc: Global,
     words: &[&str],
@@ -89,26 +90,29 @@ fn takes_value(name: &str) -> bool {
     }
 }
 
-/// What that word was to be, behind the one before it.
+/// What that argument was likely to be, after the one before it.
 fn meant(alloc: Global, before: &str, word: &str) -> Result<String, AllocError> {
     if takes_value(before) {
-        return format!(in alloc; "  {before} {word:?}: wanted is {}", wanted_after(before));
+        return format!(in alloc; "  {before} {word:?}: expected {}", wanted_after(before));
     }
     if let Some(form) = form_of(bare_name(word)) {
-        return format!(in alloc;
-            "  {word:?}: a parameter is written without dashes, as in '{form}'"
-        );
+        return format!(in alloc; "  {word:?}: parameters have no dashes; write '{form}'");
     }
     if form_of(before).is_some() && before != "ecn" && before != "noecn" {
         return format!(in alloc;
-            "  {before} {word:?}: wanted is a value without a sign, as in '{}'",
+            "  {before} {word:?}: expected a value without a sign, as in '{}'",
             form_of(before).unwrap_or("")
         );
     }
-    format!(in alloc; "  {word:?}: no option has that name ('maltlink --help' lists them)")
+    match nearest_name(bare_name(word)) {
+        Some(name) => format!(in alloc;
+            "  {word:?}: unknown option; did you mean the parameter '{name}', without dashes?"
+        ),
+        None => format!(in alloc; "  {word:?}: unknown option ('maltlink --help' lists them)"),
+    }
 }
 
-/// What the value of an option is.
+/// What value is expected after an option.
 fn wanted_after(option: &str) -> &'static str {
     match option {
         "--rate" => wanted(ValueName::Rate),

@@ -41,7 +41,7 @@ pub(crate) fn note_input<F: Write>(notes: &mut F, terminals: Terminals)
     if terminals.input {
         let _ = writeln!(
             notes,
-            "maltlink: arrivals are read from this terminal; Ctrl-D at the start of a line ends them"
+            "maltlink: reading arrivals from the terminal; Ctrl-D at the start of a line ends them"
         );
     }
 }
@@ -52,7 +52,7 @@ pub(crate) fn note_read<F: Write>(notes: &mut F, terminals: Terminals, arrivals:
     ensures { terminals.faults ≡ false → Keeps (F.contents notes.old) (F.contents notes.new) }
 {
     if is_watched(terminals, arrivals) {
-        let _ = writeln!(notes, "maltlink: {} arrivals are read", arrivals.len());
+        let _ = writeln!(notes, "maltlink: read {} arrivals", arrivals.len());
     }
 }
 
@@ -137,8 +137,8 @@ fn note_compared<F: Write>(notes: &mut F, terminals: Terminals, arrivals: &[Arri
     }
 }
 
-/// The note on the run of these arrivals: that no packet came, or that the marks of a five-tuple are in vain. Mostly there
-/// is none. It fails for want of memory alone.
+/// The note on the run of these arrivals: that no packet arrived, or that the marks of a five-tuple are in vain. Mostly
+/// there is none. It fails only if it is out of memory.
 pub(crate) fn run_note(
     alloc: Global,
     arrivals: &[Arrival],
@@ -153,13 +153,13 @@ pub(crate) fn run_note(
     }
 }
 
-/// The note that no packet came.
+/// The note that no packet arrived.
 fn no_packet_note(alloc: Global) -> Result<Vec<u8>, Memory>
     ensures { IfOk result (λ note. note.items ≡ no_packet_text) }
 {
     let mut text = Vec::new(alloc);
     text.extend_from_slice(
-        b"maltlink: no packet came\n  standard input has no row 'enq': rows are read from there, as in 'maltlink --rate 10mbit < arrivals.csv'\n",
+        b"maltlink: no packet arrived\n  standard input has no 'enq' row; arrivals are read from there, as in 'maltlink --rate 10mbit < arrivals.csv'\n",
     )?;
     Ok(text)
 }

@@ -37,7 +37,7 @@ use link_core::{
     Arrival, fifo_fates, fifo_few_events, run_fifo_to_end, run_fifo_with_recorder, run_link_to_end,
     run_link_with_recorders,
 };
-use link_picture::picture_text_of;
+use link_picture::{Settings, picture_text_of};
 use link_report::{
     Binned, Gathered, MAX_EVENTS, Packets, Queue, RunPackets, flows_text_of, packets_text_of,
     steps_text,
@@ -49,10 +49,10 @@ use std::alloc::{AllocError, Global};
 use std::io::{Read, Write};
 use trace_core::{Sink, write_text};
 
-/// The status of a run that went well, and that of help.
+/// The exit status of a successful run and of help.
 const SUCCESS: u8 = 0;
 
-/// What the words ask for.
+/// What the arguments ask for.
 #[derive(Drop)]
 pub(crate) struct Report {
     /// A table, or another text.
@@ -61,9 +61,9 @@ pub(crate) struct Report {
     pub(crate) note: Vec<u8>,
 }
 
-/// The whole program over the words behind its name. It reads arrivals and writes a table of a link's run, or writes help
-/// where the words ask for that, and reports a fault on `faults`. It answers the status that the program ends with.
-/// Where standard streams are a terminal, it reports there too what it reads, and how far a long run is.
+/// The whole program over its arguments. It reads arrivals and writes a table of a link's run, or writes help where the
+/// arguments ask for that, and reports a fault on `faults`. It returns the status that the program ends with. Where
+/// standard streams are a terminal, it reports there too what it reads, and how far a long run is.
 pub fn program<R: Read + Source + Records, W: Write, F: Write + Sink>(
     alloc: Global,
     words: &[&str],
@@ -110,7 +110,7 @@ pub fn program<R: Read + Source + Records, W: Write, F: Write + Sink>(
     }
 }
 
-/// What the words ask for: a table, or help.
+/// What the arguments ask for: a table, or help.
 fn text_asked<R: Read + Source + Records, F: Write>(
     alloc: Global,
     words: &[&str],
@@ -138,7 +138,7 @@ fn text_asked<R: Read + Source + Records, F: Write>(
     }
 }
 
-/// The table that is asked for. The values of options are tested in their order, then the parameter words, and then the
+/// The table that is asked for. The values of options are tested in their order, then the parameters, and then the
 /// arrivals.
 fn run_text<R: Read + Source + Records, F: Write>(
     alloc: Global,
@@ -338,7 +338,7 @@ fn last_note(
     gathered_note(alloc, run, arrivals, &events)
 }
 
-/// The table of bins of a run of these arrivals, beside those of a FIFO where that is asked for. The rows are made as the
+/// The table of bins of a run of these arrivals, with those of a FIFO if that is asked for. The rows are made as the
 /// events are told, so no journal is stored. The packets of the run go before the FIFO's come.
 #[inline(never)]
 fn bins_text<F: Write>(
@@ -429,7 +429,7 @@ struct Told<'a> {
     end: u64,
 }
 
-/// The table of a run's packets, beside that of a FIFO's where one is asked for.
+/// The table of a run's packets, with that of a FIFO's if one is asked for.
 #[inline(never)]
 fn compared_text<F: Write>(
     alloc: Global,
@@ -498,11 +498,21 @@ fn packets_table(
         }
         TableName::Svg => {
             let (packets, others) = (packets_of(told.events)?, others_of(fifo)?);
-            let rate = run.link.rate();
-            Ok(picture_text_of(alloc, rate, run.every, packets, others)?)
+            Ok(picture_text_of(alloc, &settings_of(run), packets, others)?)
         }
         TableName::Series => unreachable!(),
         TableName::Steps => unreachable!(),
+    }
+}
+
+/// The settings of a run that its picture shows.
+fn settings_of(run: &Run) -> Settings {
+    Settings {
+        rate: run.link.rate(),
+        overhead: run.link.overhead(),
+        mpu: run.link.mpu(),
+        every: run.every,
+        params: run.params,
     }
 }
 

@@ -12,10 +12,10 @@ use packet_core::read_numeral;
 /// The most digits that are read after a point.
 const MAX_DECIMALS: usize = 9;
 
-/// The rate that a text says, in whole bits a second, and 2^64 - 1 where it is more than that: digits, maybe a point and
-/// one to nine digits more, and then a unit in any case (tc(8), "RATES"). `bit` or nothing is a bit a second, and `bps` a
-/// byte; `k`, `m`, `g` and `t` before them are thousands, millions and so on, and `ki`, `mi`, `gi` and `ti` powers of
-/// 1,024. The product is exact, and rounded down. Another text has none.
+/// The rate that a text says, in whole bits per second, and 2^64 - 1 where it is more than that: digits, maybe a point
+/// and one to nine digits more, and then a unit in any case (tc(8), "RATES"). `bit` or nothing is a bit a second, and
+/// `bps` a byte; `k`, `m`, `g` and `t` before them are thousands, millions and so on, and `ki`, `mi`, `gi` and `ti`
+/// powers of 1,024. The product is exact, and rounded down. Another text has none.
 pub fn read_rate(text: &str) -> Option<u64>
     ensures { result ≡ option_map (λ n. min n (2 ^ 64 - 1)) (bit_rate_of text.now) }
 {
@@ -69,7 +69,7 @@ fn decimals_number(decimals: &[u8]) -> Option<u64>
     read_numeral(decimals)
 }
 
-/// How many bits a second a unit has.
+/// How many bits per second a unit has.
 #[tactic(auto, unfolding(crate::specs::Rates::rate_unit_of))]
 fn rate_unit(text: &[u8]) -> Option<u64>
     ensures { result ≡ rate_unit_of text.now }
@@ -97,7 +97,7 @@ fn rate_unit(text: &[u8]) -> Option<u64>
     }
 }
 
-/// How many bits a second a unit of bytes has.
+/// How many bits per second a unit of bytes has.
 #[tactic(auto, unfolding(crate::specs::Rates::bits_of_byte_unit))]
 fn byte_unit(text: &[u8]) -> Option<u64>
     ensures { result ≡ bits_of_byte_unit text.now }

@@ -20,16 +20,16 @@ use link_core::{Link, LinkFields};
 use packet_core::{ParamFault, Params, Seed, read_numeral, read_params};
 use std::alloc::{AllocError, Global};
 
-/// The least rate, in bits a second.
+/// The least rate, in bits per second.
 const MIN_RATE: u64 = 1_000;
 
-/// The greatest rate, in bits a second.
+/// The greatest rate, in bits per second.
 const MAX_RATE: u64 = 1_000_000_000_000;
 
-/// The most bytes on the wire beside a packet's own.
+/// The greatest overhead on the wire, in bytes.
 const MAX_OVERHEAD: u64 = 1_000;
 
-/// The greatest least number of bytes on the wire.
+/// The greatest minimum size on the wire, in bytes.
 const MAX_MPU: u64 = 65_535;
 
 /// The least width of a bin, in microseconds.
@@ -54,13 +54,13 @@ pub(crate) enum GivenFault {
     Value(ValueName, ValueFault),
     /// The seed.
     Seed,
-    /// A parameter word.
+    /// A parameter.
     Params(ParamFault),
-    /// A growth was refused.
+    /// Out of memory.
     Memory,
 }
 
-/// The run of a request. The values of options are tested in their order, and then the parameter words.
+/// The run of a request. The values of options are tested in their order, and then the parameters.
 pub(crate) fn run_of(alloc: Global, request: &RunRequest<'_>) -> Result<Run, ProgramFault>
     ensures run { IfOk result (λ run. SaysRun (texts_of request.now) (run_parts_of run)) }
     ensures fault { IfErr result (IsWordsFault (texts_of request.now)) }

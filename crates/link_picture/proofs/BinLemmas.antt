@@ -1,6 +1,6 @@
 -- The bins of packets, one packet more.
 use Rattle.std.proofs.Common.{◌≡◌, ◌≢◌, ◌∙◌, ℕ, zero, suc, ◌+◌, ◌-◌, ◌*◌, ◌/◌, ◌^◌, ◌<◌, ◌≤◌, true, false, cond, not, List, [], ◌∷◌, ◌++◌, Option, Some, None, append-nil, min, max, set, get_or, take, length, refl, sym, ap, inl, inr, arith}
-use Rattle.std.specs.Prelude.{count_by, sum_by}
+use Rattle.std.specs.Prelude.{sum_by}
 use Rattle.std.specs.List.{cons_option, filter_map}
 use Rattle.std.proofs.Math.Nat.{mul-le-mul_right, mul_comm, lt-div-mul-add}
 use Rattle.std.proofs.lemmas.Bool.{and_left, and_right, and_from, lt-ltb, le-ltb, le-leb, lt-leb, cases_lt}
@@ -12,7 +12,9 @@ use Rattle.std.proofs.lemmas.List.FromFn.{length-map-range_with_len, get_or-map-
 use Rattle.link_report.specs.declared.packets.PacketRecord.{PacketRecord}
 use Rattle.link_report.specs.Packets.{delay_sent, last_moment, sent_len}
 use Rattle.link_picture.specs.declared.bins.Bin.{Bin}
-use Rattle.link_picture.specs.Bins.{LeavesRoom, bin_of, bins_from, greatest, is_dropped, is_in, longer, packets_in}
+use Rattle.link_picture.specs.declared.counts.Counts.{Counts}
+use Rattle.link_picture.specs.Counts.{counts_of}
+use Rattle.link_picture.specs.Bins.{LeavesRoom, bin_of, bins_from, greatest, is_in, longer, packets_in}
 
 -- A moment is in the bin whose number is the quotient,
 in_own : (width moment number : ℕ) → 0 < width → number ≡ moment / width → is_in width number moment ≡ true
@@ -98,20 +100,15 @@ greatest_more (x ∷ xs) None = ap greatest (sym (append-nil (x ∷ xs)))
 greatest_more (x ∷ xs) (Some y) = ap (λ n. Some n) (sym (fold_push max x xs y))
 
 -- a bin with a packet more
-pub bin_more : (packets : List PacketRecord) (p : PacketRecord) (bin : Bin) (longest : Option ℕ) (len lost bytes drops : ℕ) → LeavesRoom packets → bin ≡ bin_of packets → longest ≡ longer bin.longest (delay_sent p) → len ≡ sent_len p → len < 2 ^ 16 → lost ≡ cond (is_dropped p) 1 0 → lost ≤ 1
-    → bytes ≡ min (bin.sent_bytes + len) (2 ^ 64 - 1) → drops ≡ min (bin.drops + lost) (2 ^ 64 - 1) → record { longest = longest; sent_bytes = bytes; drops = drops } ≡ bin_of (packets ++ p ∷ [])
-bin_more packets p bin longest len lost bytes drops room is waits of_len short of_lost one adds counts =
+pub bin_more : (packets : List PacketRecord) (p : PacketRecord) (bin : Bin) (longest : Option ℕ) (len bytes : ℕ) (counts : Counts) → LeavesRoom packets → bin ≡ bin_of packets → longest ≡ longer bin.longest (delay_sent p) → len ≡ sent_len p → len < 2 ^ 16
+    → bytes ≡ min (bin.sent_bytes + len) (2 ^ 64 - 1) → counts ≡ counts_of (packets ++ p ∷ []) → record { longest = longest; sent_bytes = bytes; counts = counts } ≡ bin_of (packets ++ p ∷ [])
+bin_more packets p bin longest len bytes counts room is waits of_len short adds all_counts =
     let most = waits ∙ ap (λ (b : Bin). longer b.longest (delay_sent p)) is ∙ greatest_more (filter_map delay_sent packets) (delay_sent p) ∙ ap greatest (sym (filter_map-append delay_sent packets (p ∷ []))) in
     let old_bytes = ap (λ (b : Bin). b.sent_bytes) is in
-    let old_drops = ap (λ (b : Bin). b.drops) is in
-    let few = count_by-le-length is_dropped packets in
     let roomy = room.bytes in
-    let short_list = room.few in
     let sum = sum_by_push sent_len packets p in
-    let count = sum_by_push (λ q. cond (is_dropped q) 1 0) packets p in
     let all_bytes : bytes ≡ sum_by sent_len (packets ++ p ∷ []) = omega arith in
-    let all_drops : drops ≡ count_by is_dropped (packets ++ p ∷ []) = omega arith in
-    λ i. record { longest = most i; sent_bytes = all_bytes i; drops = all_drops i }
+    λ i. record { longest = most i; sent_bytes = all_bytes i; counts = all_counts i }
 
 -- the packets of a bin leave room where all do
 in_room : (width number : ℕ) (packets : List PacketRecord) → LeavesRoom packets → LeavesRoom (packets_in width number packets)

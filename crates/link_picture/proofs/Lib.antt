@@ -1,4 +1,5 @@
 pub mod OctaveLemmas
+pub mod CountLemmas
 pub mod BinLemmas
 pub mod LineLemmas
 pub mod ChoiceLemmas

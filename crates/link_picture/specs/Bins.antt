@@ -1,10 +1,11 @@
 -- What happened to packets in each bin of time.
-use Rattle.std.specs.Prelude.{ℕ, ◌+◌, ◌*◌, ◌^◌, ◌<◌, Bool, ◌&&◌, ◌||◌, nat_le, nat_lt, List, [], ◌∷◌, Option, Some, None, max, map, fold, filter, filter_map, count_by, sum_by, length}
+use Rattle.std.specs.Prelude.{ℕ, ◌+◌, ◌*◌, ◌^◌, ◌<◌, Bool, ◌&&◌, nat_le, nat_lt, List, [], ◌∷◌, Option, Some, None, max, map, fold, filter, filter_map, sum_by, length}
 use Rattle.std.specs.List.{range_with_len}
 use Rattle.link_report.specs.declared.packets.PacketRecord.{PacketRecord}
-use Rattle.link_report.specs.Packets.{delay_sent, is_codel_drop, is_overflow_drop, last_moment, sent_len}
+use Rattle.link_report.specs.Packets.{delay_sent, last_moment, sent_len}
 use Rattle.link_picture.specs.declared.axis.Axis.{Axis}
 use Rattle.link_picture.specs.declared.bins.Bin.{Bin}
+use Rattle.link_picture.specs.Counts.{counts_of}
 
 -- whether a moment is in the bin with that number: from the number times the width on, and below the next bin
 abbrev pub is_in : ℕ → ℕ → ℕ → Bool
@@ -19,15 +20,12 @@ abbrev pub greatest : List ℕ → Option ℕ
 greatest [] = None
 greatest (x ∷ xs) = Some (fold max x xs)
 
-abbrev pub is_dropped : PacketRecord → Bool
-is_dropped p = is_codel_drop p || is_overflow_drop p
-
 -- a bin with these packets
 abbrev pub bin_of : List PacketRecord → Bin
 bin_of packets = record {
   longest = greatest (filter_map delay_sent packets);
   sent_bytes = sum_by sent_len packets;
-  drops = count_by is_dropped packets;
+  counts = counts_of packets;
 }
 
 -- the longer of two waits

@@ -1,5 +1,6 @@
 pub mod Octave
 pub mod Axes
+pub mod Counts
 pub mod Bins
 pub mod Lines
 pub mod Percentages
@@ -8,3 +9,4 @@ pub mod Points
 pub mod Contents
 pub mod Extremes
 pub mod Wording
+pub mod Settings

@@ -6,15 +6,25 @@ use Rattle.link_picture.specs.declared.layout.TheConstants.{PANEL_HEIGHT, PANEL_
 use Rattle.link_picture.specs.declared.points.Point.{Point}
 use Rattle.link_picture.specs.declared.scales.RateScale.{RateScale}
 use Rattle.link_picture.specs.declared.scales.WaitScale.{WaitScale}
+use Rattle.link_picture.specs.Axes.{in_64}
 use Rattle.link_picture.specs.Octave.{octave_of}
 
 -- the part of an extent that an amount is of a whole, and all of it where the amount is greater
 unfoldable pub part_of : ℕ → ℕ → ℕ → ℕ
 part_of amount whole extent = min amount whole * extent / whole
 
--- how far along an extent a wait is: none of it up to the least wait of the scale, and all of it from the greatest on
+-- how far along an extent a value is, on a scale between two of `octave_of`: none of it up to the lower end, and all of it
+-- from the upper end on
+abbrev pub scale_part : ℕ → ℕ → ℕ → ℕ → ℕ
+scale_part low high extent value = part_of (octave_of (max value 1) - low) (high - low) extent
+
+-- how far along an extent a wait is
 abbrev pub wait_part : WaitScale → ℕ → ℕ → ℕ
-wait_part scale extent wait = part_of (octave_of (max wait 1) - scale.low) (scale.high - scale.low) extent
+wait_part scale extent wait = scale_part scale.low scale.high extent wait
+
+-- and a rate, which counts as the greatest of 64 bits where it is above that
+abbrev pub rate_part : RateScale → ℕ → ℕ → ℕ
+rate_part scale extent rate = scale_part scale.low scale.high extent (in_64 rate)
 
 -- so many bins have the panel's width, from the first to the last
 abbrev pub bin_x : ℕ → ℕ → ℕ
@@ -50,7 +60,7 @@ bin_rate_of width bin = bin.sent_bytes * 8000000 / width
 abbrev pub rate_point : RateScale → Axis → ℕ → Bin → Point
 rate_point scale axis place bin = record {
   x = bin_x axis.count place;
-  y = RATE_BOTTOM - part_of (bin_rate_of axis.width bin) scale.top PANEL_HEIGHT;
+  y = RATE_BOTTOM - rate_part scale PANEL_HEIGHT (bin_rate_of axis.width bin);
 }
 
 -- those of bins, of which the first is at that place

@@ -19,6 +19,13 @@ time_text time step =
     else if is_whole 1000 step then (decimal (time / 1000) ++ codes " ms")
     else (decimal time ++ codes " us")
 
+-- A duration of so many microseconds as a parameter's value, in the greatest unit in which it is whole.
+abbrev pub duration_text : ℕ → List ℕ
+duration_text time =
+    if is_whole 1000000 time then (decimal (time / 1000000) ++ codes "s")
+    else if is_whole 1000 time then (decimal (time / 1000) ++ codes "ms")
+    else (decimal time ++ codes "us")
+
 -- so many tenths of a unit: its whole number, a dot, and one digit
 abbrev pub tenths_text : ℕ → List ℕ → List ℕ
 tenths_text tenths unit = decimal (tenths / 10) ++ (codes "." ++ (decimal (tenths % 10) ++ (codes " " ++ unit)))
@@ -39,6 +46,14 @@ rate_text rate step =
     else if is_whole 1000000 step then (decimal (rate / 1000000) ++ codes " Mbit/s")
     else if is_whole 1000 step then (decimal (rate / 1000) ++ codes " kbit/s")
     else (decimal rate ++ codes " bit/s")
+
+-- A rate of so many bits per second, by the prefix of the greatest unit in which it is whole.
+abbrev pub mark_rate_text : ℕ → List ℕ
+mark_rate_text rate =
+    if is_whole 1000000000 rate then (decimal (rate / 1000000000) ++ codes "G")
+    else if is_whole 1000000 rate then (decimal (rate / 1000000) ++ codes "M")
+    else if is_whole 1000 rate then (decimal (rate / 1000) ++ codes "k")
+    else decimal rate
 
 -- An address: four numbers with dots, or in brackets the text of RFC 5952. Of the numbers of two bytes each that has the
 -- longest run of zeros as `::` (section 4).

@@ -1,12 +1,13 @@
 //! What happened to packets in each bin of time.
 
-ghost use Rattle.std.specs.Prelude.{◌≡◌, ◌≤◌, ◌∷◌, ◌++◌, [], List, IfOk, cond, length};
+ghost use Rattle.std.specs.Prelude.{◌≡◌, ◌≤◌, ◌∷◌, ◌++◌, [], List, IfOk, length};
 ghost use Rattle.link_report.specs.declared.packets.PacketRecord.{PacketRecord};
 ghost use Rattle.link_report.specs.declared.summary.TheConstants.{MAX_EVENTS};
 ghost use Rattle.link_report.specs.Packets.{sent_len};
-ghost use Rattle.link_picture.specs.Bins.{LeavesRoom, bin_of, bins_of, is_dropped, longer};
+ghost use Rattle.link_picture.specs.Bins.{LeavesRoom, bin_of, bins_of, longer};
 
 use crate::axis::Axis;
+use crate::counts::Counts;
 use journal_core::Memory;
 use link_report::PacketRecord;
 use std::alloc::Global;
@@ -18,8 +19,8 @@ pub struct Bin {
     pub longest: Option<u64>,
     /// The lengths of the packets sent in it, added up.
     pub sent_bytes: u64,
-    /// How many packets were dropped in it.
-    pub drops: u64,
+    /// How many packets were dropped in it, by cause, and how many were sent in it with a mark.
+    pub counts: Counts,
 }
 
 impl Bin {
@@ -30,7 +31,7 @@ impl Bin {
         Bin {
             longest: None,
             sent_bytes: 0,
-            drops: 0,
+            counts: Counts::none(),
         }
     }
 
@@ -43,20 +44,8 @@ impl Bin {
         Bin {
             longest: longer(self.longest, packet.delay_sent()),
             sent_bytes: self.sent_bytes.saturating_add(u64::from(len)),
-            drops: self.drops.saturating_add(count_drop(packet)),
+            counts: self.counts.with(packet),
         }
-    }
-}
-
-/// One where a packet was dropped, and else none.
-fn count_drop(packet: &PacketRecord) -> u64
-    ensures value { result ≡ cond (is_dropped packet.now) 1 0 }
-    ensures bound { result ≤ 1 }
-{
-    if packet.is_codel_drop() || packet.is_overflow_drop() {
-        1
-    } else {
-        0
     }
 }
 

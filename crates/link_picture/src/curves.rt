@@ -1,13 +1,13 @@
 //! What a picture shows of each line of a queue.
 
-ghost use Rattle.std.specs.Prelude.{◌≡◌, ◌≤◌, IfOk, length, count_by};
-ghost use Rattle.link_picture.specs.Bins.{is_dropped};
+ghost use Rattle.std.specs.Prelude.{◌≡◌, ◌≤◌, IfOk, length};
 ghost use Rattle.link_report.specs.declared.summary.TheConstants.{MAX_EVENTS};
 ghost use Rattle.link_picture.specs.Percentages.{percentiles_of};
 ghost use Rattle.link_picture.specs.Curves.{curve_of, curves_of};
 
 use crate::axis::Axis;
 use crate::bins::{Bin, bins_of};
+use crate::counts::Counts;
 use crate::lines::packets_on;
 use journal_core::Memory;
 use link_report::{PacketRecord, delays_of, percentile};
@@ -22,7 +22,7 @@ const PERCENTILES: u8 = 101;
 pub struct Curve {
     bins: Vec<Bin>,
     percentiles: Vec<u64>,
-    drops: u64,
+    counts: Counts,
 }
 
 impl Model for Curve {
@@ -30,7 +30,7 @@ impl Model for Curve {
 
     ghost Value = { CurveParts };
 
-    ghost view = { λ c. record { bins = c.bins.items; percentiles = c.percentiles.items; drops = c.drops } };
+    ghost view = { λ c. record { bins = c.bins.items; percentiles = c.percentiles.items; counts = c.counts } };
 }
 
 impl Curve {
@@ -42,7 +42,7 @@ impl Curve {
         Ok(Curve {
             bins: bins_of(alloc, axis, packets)?,
             percentiles: percentiles_of(alloc, delays_of(alloc, packets)?)?,
-            drops: count_drops(packets),
+            counts: Counts::of(packets),
         })
     }
 
@@ -61,11 +61,11 @@ impl Curve {
         &self.percentiles
     }
 
-    /// How many packets were dropped.
-    pub fn drops(&self) -> u64
-        ensures { result ≡ self.now.drops }
+    /// How many packets were dropped, by cause, and how many were marked.
+    pub fn counts(&self) -> Counts
+        ensures { result ≡ self.now.counts }
     {
-        self.drops
+        self.counts
     }
 }
 
@@ -104,14 +104,4 @@ fn percentiles_of(alloc: Global, mut delays: Vec<u64>) -> Result<Vec<u64>, Memor
         percentiles.push(percentile(&delays, percent))?;
     }
     Ok(percentiles)
-}
-
-/// How many packets were dropped.
-fn count_drops(packets: &[PacketRecord]) -> u64
-    ensures { result ≡ count_by is_dropped packets.now }
-{
-    packets
-        .iter()
-        .filter(|p| p.is_codel_drop() || p.is_overflow_drop())
-        .count() as u64
 }

@@ -7,25 +7,22 @@ use crate::curves::Curve;
 use crate::layout::{
     PANEL_HEIGHT, PANEL_LEFT, PANEL_WIDTH, RATE_BOTTOM, SHARE_BOTTOM, WAIT_BOTTOM,
 };
+use crate::looks::{LINK_LOOK, look_of};
 use crate::points::{
-    Point, bin_x, rate_points, rate_y, share_points, share_y, time_x, wait_points, wait_x, wait_y,
+    Point, rate_points, rate_y, share_points, share_y, time_x, wait_points, wait_x, wait_y,
 };
 use crate::scales::{RateScale, WaitScale, round_step};
+use crate::settings::Settings;
 use crate::svg::{Anchor, Look, Svg, Weight};
-use crate::wording::{rate_text, time_text};
+use crate::wording::{mark_rate_text, time_text};
 use journal_core::Memory;
 use std::alloc::Global;
-
-/// The colours of five-tuples, which colour-blind readers tell apart (those of Okabe and Ito), and that of all others.
-const COLORS: [&str; 7] = [
-    "#0072b2", "#d55e00", "#009e73", "#cc79a7", "#e69f00", "#56b4e9", "#777777",
-];
 
 /// The sign of "at most", as SVG writes it.
 const AT_MOST: &str = "&#8804;";
 
-/// The greatest width of a sign of a name, in pixels.
-const SIGN_WIDTH: u64 = 8;
+/// The greatest width of a character of a name, in pixels.
+const CHARACTER_WIDTH: u64 = 8;
 
 /// How far to the right a text below a panel may reach.
 const LOW_RIGHT: u64 = 700;
@@ -45,9 +42,9 @@ pub(crate) struct Show<'a> {
     pub content: &'a Content,
     /// Whether there is another queue.
     pub has_fifo: bool,
-    /// The rate of the link, in bits a second.
-    pub link: u64,
-    /// The scale of waits.
+    /// The settings of the run.
+    pub settings: &'a Settings,
+    /// The scale of delays.
     pub waits: WaitScale,
     /// The scale of rates.
     pub rates: RateScale,
@@ -58,27 +55,28 @@ pub(crate) fn at(x: u64, y: u64) -> Point {
     Point { x, y }
 }
 
-/// How a line looks, by its number among so many five-tuples that have names. The line after these is that of all others.
-pub(crate) fn look_of(named: usize, line: usize, is_dashed: bool) -> Look {
-    let place = if line < named { line } else { COLORS.len() };
-    let color = COLORS[place.min(COLORS.len() - 1)];
-    Look { color, is_dashed }
-}
-
-/// The frame of the first panel, in which no packet is.
+/// The frame of the first panel, with a text that no packet arrived.
 pub(crate) fn empty_panel(svg: &mut Svg) -> Result<(), Memory> {
     svg.frame(WAIT_BOTTOM)?;
     let middle = at(
         PANEL_LEFT + PANEL_WIDTH / 2,
         WAIT_BOTTOM - PANEL_HEIGHT / 2 + 4,
     );
-    svg.label(middle, Anchor::Middle, Weight::Name, "no packet came")
+    svg.label(middle, Anchor::Middle, Weight::Name, "no packet arrived")
 }
 
-/// The title of a panel.
-fn caption(svg: &mut Svg, bottom: u64, text: &str) -> Result<(), Memory> {
+/// The title of a panel, and the name of its axis from the lower edge up, which is at the top of that axis.
+fn caption(svg: &mut Svg, bottom: u64, text: &str, name: &str) -> Result<(), Memory> {
     let y = bottom.saturating_sub(PANEL_HEIGHT).saturating_sub(9);
-    svg.label(at(PANEL_LEFT, y), Anchor::Start, Weight::Caption, text)
+    svg.label(at(PANEL_LEFT, y), Anchor::Start, Weight::Caption, text)?;
+    let left = at(PANEL_LEFT.saturating_sub(7), y);
+    svg.label(left, Anchor::End, Weight::Small, name)
+}
+
+/// The name of a panel's axis from left to right, below the end of that axis.
+fn low_name(svg: &mut Svg, bottom: u64, name: &str) -> Result<(), Memory> {
+    let place = at(PANEL_LEFT + PANEL_WIDTH, bottom.saturating_add(34));
+    svg.label(place, Anchor::End, Weight::Small, name)
 }
 
 /// A text left of a panel, at that height.
@@ -89,11 +87,11 @@ fn left_text(svg: &mut Svg, y: u64, text: &str) -> Result<(), Memory> {
 
 /// The greatest width of a text, in pixels.
 fn text_width(text: &str) -> u64 {
-    let signs = match text.strip_prefix(AT_MOST) {
+    let length = match text.strip_prefix(AT_MOST) {
         Some(rest) => rest.len().saturating_add(1),
         None => text.len(),
     };
-    (signs as u64).saturating_mul(SIGN_WIDTH)
+    (length as u64).saturating_mul(CHARACTER_WIDTH)
 }
 
 /// Where a text of that width lies below a panel, and which point of it. One that would come near the legend ends there.
@@ -113,7 +111,8 @@ fn low_text(svg: &mut Svg, x: u64, bottom: u64, text: &str) -> Result<(), Memory
     svg.label(below, anchor, Weight::Name, text)
 }
 
-/// The lines of times in a panel, from the start of the first bin on, and their texts.
+/// The lines of times in a panel, from the start of the first bin on, their texts, and the axis's name with that start
+/// unless it is 0.
 fn time_lines(svg: &mut Svg, show: &Show<'_>, bottom: u64) -> Result<(), Memory> {
     let axis = &show.content.axis;
     let length = axis.count.saturating_sub(1).saturating_mul(axis.width);
@@ -127,10 +126,16 @@ fn time_lines(svg: &mut Svg, show: &Show<'_>, bottom: u64) -> Result<(), Memory>
         }
         time = time.saturating_add(step);
     }
-    Ok(())
+    let start = axis.first.saturating_mul(axis.width);
+    if start == 0 {
+        low_name(svg, bottom, "time")
+    } else {
+        let name = format!(in show.alloc; "time after {start} us")?;
+        low_name(svg, bottom, &name)
+    }
 }
 
-/// The text of a wait on a scale. The least one has all shorter waits too.
+/// The text of a delay on a scale. The least one has all shorter delays too.
 fn mark_text(show: &Show<'_>, wait: u64, place: usize) -> Result<String, Memory> {
     let text = time_text(show.alloc, wait, wait)?;
     if place == 0 {
@@ -140,12 +145,12 @@ fn mark_text(show: &Show<'_>, wait: u64, place: usize) -> Result<String, Memory>
     }
 }
 
-/// The panel of the longest waits.
+/// The panel of the longest delays.
 pub(crate) fn wait_panel(svg: &mut Svg, show: &Show<'_>) -> Result<(), Memory> {
     let width = show.content.axis.width;
     let bin = time_text(show.alloc, width, width)?;
-    let text = format!(in show.alloc; "Longest wait of the packets sent, in each {bin}")?;
-    caption(svg, WAIT_BOTTOM, &text)?;
+    let text = format!(in show.alloc; "Longest delay of packets sent, in each {bin}")?;
+    caption(svg, WAIT_BOTTOM, &text, "delay")?;
     time_lines(svg, show, WAIT_BOTTOM)?;
     for (place, wait) in show.waits.marks(show.alloc)?.iter().enumerate() {
         let y = wait_y(&show.waits, *wait);
@@ -153,24 +158,41 @@ pub(crate) fn wait_panel(svg: &mut Svg, show: &Show<'_>) -> Result<(), Memory> {
         left_text(svg, y, mark_text(show, *wait, place)?.as_str())?;
     }
     svg.frame(WAIT_BOTTOM)?;
+    wait_lines(svg, show, &show.content.scheduler, false)?;
     if show.has_fifo {
         wait_lines(svg, show, &show.content.fifo, true)?;
     }
-    wait_lines(svg, show, &show.content.scheduler, false)
+    Ok(())
 }
 
-/// The lines of a queue in the panel of the longest waits. That of all others comes first, below the rest.
+/// Which line of a queue is drawn at that place in their order, and how it looks. Each is drawn on those before it, which
+/// show through its gaps: first that of all others, if there is one, and then the solid one of the first five-tuple.
+fn drawn_at(show: &Show<'_>, place: usize, is_fifo: bool) -> (usize, Look) {
+    let named = show.content.names.len();
+    let line = if show.content.lines <= named {
+        place
+    } else if place == 0 {
+        named
+    } else {
+        place - 1
+    };
+    (line, look_of(named, line, is_fifo))
+}
+
+/// The lines of a queue in the panel of the longest delays.
 fn wait_lines(
     svg: &mut Svg,
     show: &Show<'_>,
     curves: &[Curve],
-    is_dashed: bool,
+    is_fifo: bool,
 ) -> Result<(), Memory> {
-    for (line, curve) in curves.iter().enumerate().rev() {
-        let look = look_of(show.content.names.len(), line, is_dashed);
-        let axis = &show.content.axis;
-        let points = wait_points(show.alloc, axis, &show.waits, curve.bins())?;
-        broken_line(svg, show.alloc, look, &points)?;
+    for place in 0..curves.len() {
+        let (line, look) = drawn_at(show, place, is_fifo);
+        if let Some(curve) = curves.get(line) {
+            let axis = &show.content.axis;
+            let points = wait_points(show.alloc, axis, &show.waits, curve.bins())?;
+            broken_line(svg, show.alloc, look, &points)?;
+        }
     }
     Ok(())
 }
@@ -195,8 +217,7 @@ fn broken_line(
     svg.line(look, &part)
 }
 
-/// Which marks have their texts below a panel: all, or where these don't keep apart, every third: the powers of ten, or
-/// every third of these. Where those don't either it is every sixth.
+/// Which marks have their texts below a panel: all of them, or every third if these would touch, or else every sixth.
 fn turn_of_texts(show: &Show<'_>, marks: &[u64]) -> Result<usize, Memory>
     ensures { IfOk result (λ turn. 0 < turn) }
 {
@@ -209,7 +230,7 @@ fn turn_of_texts(show: &Show<'_>, marks: &[u64]) -> Result<usize, Memory>
     }
 }
 
-/// Whether the texts of every so-many-th mark below a panel keep apart.
+/// Whether the texts of every third mark, or of every mark by another such number, don't touch below a panel.
 fn keep_apart(show: &Show<'_>, marks: &[u64], turn: usize) -> Result<bool, Memory>
     requires { 0 < turn }
 {
@@ -238,10 +259,11 @@ fn low_extent(x: u64, width: u64) -> (u64, u64) {
     (from, from.saturating_add(width))
 }
 
-/// The panel of the distribution of waits.
+/// The panel of the distribution of delays.
 pub(crate) fn share_panel(svg: &mut Svg, show: &Show<'_>) -> Result<(), Memory> {
-    let text = "Share of the packets sent that waited at most so long";
-    caption(svg, SHARE_BOTTOM, text)?;
+    let text = "Share of packets sent with at most that delay";
+    caption(svg, SHARE_BOTTOM, text, "share")?;
+    low_name(svg, SHARE_BOTTOM, "delay")?;
     let marks = show.waits.marks(show.alloc)?;
     let turn = turn_of_texts(show, &marks)?;
     for (place, wait) in marks.iter().enumerate() {
@@ -258,10 +280,11 @@ pub(crate) fn share_panel(svg: &mut Svg, show: &Show<'_>) -> Result<(), Memory> 
         left_text(svg, y, format!(in show.alloc; "{percent}%")?.as_str())?;
     }
     svg.frame(SHARE_BOTTOM)?;
+    share_lines(svg, show, &show.content.scheduler, false)?;
     if show.has_fifo {
         share_lines(svg, show, &show.content.fifo, true)?;
     }
-    share_lines(svg, show, &show.content.scheduler, false)
+    Ok(())
 }
 
 /// The lines of a queue in the panel of the distribution.
@@ -269,12 +292,14 @@ fn share_lines(
     svg: &mut Svg,
     show: &Show<'_>,
     curves: &[Curve],
-    is_dashed: bool,
+    is_fifo: bool,
 ) -> Result<(), Memory> {
-    for (line, curve) in curves.iter().enumerate().rev() {
-        let look = look_of(show.content.names.len(), line, is_dashed);
-        let points = share_points(show.alloc, &show.waits, curve.percentiles())?;
-        svg.line(look, corners(show.alloc, &points)?.as_slice())?;
+    for place in 0..curves.len() {
+        let (line, look) = drawn_at(show, place, is_fifo);
+        if let Some(curve) = curves.get(line) {
+            let points = share_points(show.alloc, &show.waits, curve.percentiles())?;
+            svg.line(look, corners(show.alloc, &points)?.as_slice())?;
+        }
     }
     Ok(())
 }
@@ -300,38 +325,35 @@ fn corners(alloc: Global, points: &[Point]) -> Result<Vec<Point>, Memory> {
     Ok(kept)
 }
 
-/// The panel of the throughput, with a line at the rate of the link where that is on the scale.
+/// The panel of the throughput, with a line at the rate of the link.
 pub(crate) fn rate_panel(svg: &mut Svg, show: &Show<'_>) -> Result<(), Memory> {
     let width = show.content.axis.width;
     let bin = time_text(show.alloc, width, width)?;
-    let what = "below, a tick where packets were lost";
-    let text = format!(in show.alloc; "Throughput, in each {bin}; {what}")?;
-    caption(svg, RATE_BOTTOM, &text)?;
+    let text = format!(in show.alloc; "Throughput, in each {bin}; dotted, the link's rate")?;
+    caption(svg, RATE_BOTTOM, &text, "bit/s")?;
     time_lines(svg, show, RATE_BOTTOM)?;
     rate_lines(svg, show)?;
     svg.frame(RATE_BOTTOM)?;
+    throughput(svg, show, &show.content.scheduler, false)?;
     if show.has_fifo {
         throughput(svg, show, &show.content.fifo, true)?;
     }
-    throughput(svg, show, &show.content.scheduler, false)?;
-    loss_rows(svg, show, &show.content.scheduler, "fq_codel", 786)?;
-    if show.has_fifo {
-        loss_rows(svg, show, &show.content.fifo, "fifo", 812)?;
-    }
-    Ok(())
+    let link = rate_y(&show.rates, u128::from(show.settings.rate));
+    svg.level(link, LINK_LOOK)
 }
 
-/// The lines of rates and their texts.
+/// The lines of rates and their texts. The least one has all lower rates too, and bins in which nothing was sent.
 fn rate_lines(svg: &mut Svg, show: &Show<'_>) -> Result<(), Memory> {
-    let RateScale { top, step, .. } = show.rates;
-    let mut rate = 0u64;
-    for _turn in 0..6 {
-        if rate <= top {
-            let y = rate_y(&show.rates, u128::from(rate));
-            svg.across(y)?;
-            left_text(svg, y, rate_text(show.alloc, rate, step)?.as_str())?;
+    for (place, rate) in show.rates.marks(show.alloc)?.iter().enumerate() {
+        let y = rate_y(&show.rates, u128::from(*rate));
+        svg.across(y)?;
+        let text = mark_rate_text(show.alloc, *rate)?;
+        if place == 0 {
+            let least = format!(in show.alloc; "{AT_MOST} {text}")?;
+            left_text(svg, y, &least)?;
+        } else {
+            left_text(svg, y, &text)?;
         }
-        rate = rate.saturating_add(step);
     }
     Ok(())
 }
@@ -341,43 +363,32 @@ fn throughput(
     svg: &mut Svg,
     show: &Show<'_>,
     curves: &[Curve],
-    is_dashed: bool,
+    is_fifo: bool,
 ) -> Result<(), Memory> {
-    for (line, curve) in curves.iter().enumerate().rev() {
-        let look = look_of(show.content.names.len(), line, is_dashed);
-        let axis = &show.content.axis;
-        let points = rate_points(show.alloc, axis, &show.rates, curve.bins())?;
-        let from = curve.bins().iter().position(|bin| bin.sent_bytes > 0);
-        let last = curve.bins().iter().rposition(|bin| bin.sent_bytes > 0);
-        if let (Some(from), Some(last)) = (from, last)
-            && let Some(part) = points.get(from..last.saturating_add(1))
-        {
-            svg.line(look, part)?;
+    for place in 0..curves.len() {
+        let (line, look) = drawn_at(show, place, is_fifo);
+        if let Some(curve) = curves.get(line) {
+            throughput_line(svg, show, look, curve)?;
         }
     }
     Ok(())
 }
 
-/// The ticks of a queue, below one another by line, and its name.
-fn loss_rows(
+/// A line in the panel of the throughput.
+fn throughput_line(
     svg: &mut Svg,
     show: &Show<'_>,
-    curves: &[Curve],
-    name: &str,
-    top: u64,
+    look: Look,
+    curve: &Curve,
 ) -> Result<(), Memory> {
-    let place = at(PANEL_LEFT.saturating_sub(7), top.saturating_add(14));
-    svg.label(place, Anchor::End, Weight::Small, name)?;
-    let mut y = top;
-    for (line, curve) in curves.iter().enumerate() {
-        let look = look_of(show.content.names.len(), line, false);
-        for (place, bin) in curve.bins().iter().enumerate() {
-            if bin.drops > 0 {
-                let x = bin_x(show.content.axis.count, place as u64);
-                svg.tick(at(x, y), look.color)?;
-            }
-        }
-        y = y.saturating_add(3);
+    let axis = &show.content.axis;
+    let points = rate_points(show.alloc, axis, &show.rates, curve.bins())?;
+    let from = curve.bins().iter().position(|bin| bin.sent_bytes > 0);
+    let last = curve.bins().iter().rposition(|bin| bin.sent_bytes > 0);
+    if let (Some(from), Some(last)) = (from, last)
+        && let Some(part) = points.get(from..last.saturating_add(1))
+    {
+        svg.line(look, part)?;
     }
     Ok(())
 }

@@ -1,7 +1,8 @@
 //! The points of a picture, from the bins and the percentiles of its lines.
 
 ghost use Rattle.std.specs.Prelude.{◌≡◌, ◌<◌, ◌≤◌, ◌+◌, ◌-◌, ◌*◌, ◌/◌, ◌^◌, min, IfOk};
-ghost use Rattle.link_picture.specs.Points.{bin_x, part_of, bin_rate_of, rate_point, rate_points, share_point, share_points, wait_part, wait_point, wait_points};
+ghost use Rattle.link_picture.specs.Axes.{in_64};
+ghost use Rattle.link_picture.specs.Points.{bin_x, part_of, bin_rate_of, rate_part, rate_point, rate_points, scale_part, share_point, share_points, wait_part, wait_point, wait_points};
 
 use crate::axis::Axis;
 use crate::bins::Bin;
@@ -34,14 +35,40 @@ fn part_of(amount: u128, whole: u64, extent: u64) -> u64
     (amount * u128::from(extent) / u128::from(whole)) as u64
 }
 
-/// How far along an extent a wait is, on the scale.
+/// How far along an extent a value is, on a scale between two of `octave`.
+fn scale_part(low: u64, high: u64, extent: u64, value: u64) -> u64
+    requires wide { low < high }
+    requires small { extent < 2 ^ 16 }
+    ensures value { result ≡ scale_part low high extent value }
+    ensures bound { result ≤ extent }
+{
+    let above = octave(value.max(1)).saturating_sub(low);
+    part_of(u128::from(above), high - low, extent)
+}
+
+/// How far along an extent a delay is, on the scale.
 fn wait_part(scale: &WaitScale, extent: u64, wait: u64) -> u64
     requires { extent < 2 ^ 16 }
     ensures value { result ≡ wait_part scale.now extent wait }
     ensures bound { result ≤ extent }
 {
-    let above = octave(wait.max(1)).saturating_sub(scale.low);
-    part_of(u128::from(above), scale.high - scale.low, extent)
+    scale_part(scale.low, scale.high, extent, wait)
+}
+
+/// How far along an extent a rate is, on the scale.
+fn rate_part(scale: &RateScale, extent: u64, rate: u128) -> u64
+    requires { extent < 2 ^ 16 }
+    ensures value { result ≡ rate_part scale.now extent rate }
+    ensures bound { result ≤ extent }
+{
+    scale_part(scale.low, scale.high, extent, capped(rate))
+}
+
+/// A rate, and the greatest one of 64 bits if it is above that.
+pub(crate) fn capped(rate: u128) -> u64
+    ensures { result ≡ in_64 rate }
+{
+    u64::try_from(rate).unwrap_or(u64::MAX)
 }
 
 /// Where the bin at a place among so many is, from the left edge.
@@ -61,21 +88,21 @@ pub fn time_x(axis: &Axis, time: u64) -> u64
     PANEL_LEFT + part_of(u128::from(time), length.max(1), PANEL_WIDTH)
 }
 
-/// Where a wait is in the panel of longest waits, from the upper edge.
+/// Where a delay is in the panel of the longest delays, from the upper edge.
 pub fn wait_y(scale: &WaitScale, wait: u64) -> u64
     ensures { result ≡ WAIT_BOTTOM - wait_part scale.now PANEL_HEIGHT wait }
 {
     WAIT_BOTTOM - wait_part(scale, PANEL_HEIGHT, wait)
 }
 
-/// Where a wait is in the panel of the distribution, from the left edge.
+/// Where a delay is in the panel of the distribution, from the left edge.
 pub fn wait_x(scale: &WaitScale, wait: u64) -> u64
     ensures { result ≡ PANEL_LEFT + wait_part scale.now PANEL_WIDTH wait }
 {
     PANEL_LEFT + wait_part(scale, PANEL_WIDTH, wait)
 }
 
-/// Where so many in 100 are in the panel of the distribution, from the upper edge.
+/// Where a percentage is in the panel of the distribution, from the upper edge.
 pub fn share_y(percent: u64) -> u64
     ensures { result ≡ SHARE_BOTTOM - part_of percent 100 PANEL_HEIGHT }
 {
@@ -84,20 +111,19 @@ pub fn share_y(percent: u64) -> u64
 
 /// Where a rate is in the panel of the throughput, from the upper edge.
 pub fn rate_y(scale: &RateScale, rate: u128) -> u64
-    ensures { result ≡ RATE_BOTTOM - part_of rate scale.now.top PANEL_HEIGHT }
+    ensures { result ≡ RATE_BOTTOM - rate_part scale.now PANEL_HEIGHT rate }
 {
-    RATE_BOTTOM - part_of(rate, scale.top, PANEL_HEIGHT)
+    RATE_BOTTOM - rate_part(scale, PANEL_HEIGHT, rate)
 }
 
-/// What was sent in a bin, in bits a second, rounded down.
+/// What was sent in a bin, in bits per second, rounded down.
 pub fn rate_of(axis: &Axis, bin: &Bin) -> u128
     ensures { result ≡ bin_rate_of axis.now.width bin.now }
 {
     u128::from(bin.sent_bytes) * 8_000_000 / u128::from(axis.width)
 }
 
-/// The points of the longest waits: for each bin in which a packet was sent the place of the longest wait. It fails for
-/// want of memory alone.
+/// The points of the longest delays, one for each bin in which a packet was sent. It fails only if it is out of memory.
 pub fn wait_points(
     alloc: Global,
     axis: &Axis,
@@ -113,7 +139,7 @@ pub fn wait_points(
     Ok(points)
 }
 
-/// The point of the longest wait in a bin, if a packet was sent in it.
+/// The point of the longest delay in a bin, if a packet was sent in it.
 fn wait_point(axis: &Axis, scale: &WaitScale, place: u64, bin: &Bin) -> Option<Point>
     ensures { result ≡ wait_point scale.now axis.now.count place bin.now }
 {
@@ -126,8 +152,7 @@ fn wait_point(axis: &Axis, scale: &WaitScale, place: u64, bin: &Bin) -> Option<P
     }
 }
 
-/// The points of the distribution of waits: for each percentile how many in 100 waited at most so long. It fails for
-/// want of memory alone.
+/// The points of the distribution of delays, one for each percentile. It fails only if it is out of memory.
 pub fn share_points(
     alloc: Global,
     scale: &WaitScale,
@@ -145,7 +170,7 @@ pub fn share_points(
     Ok(points)
 }
 
-/// The points of the throughput: for each bin what was sent in it in a second. It fails for want of memory alone.
+/// The points of the throughput, one for each bin. It fails only if it is out of memory.
 pub fn rate_points(
     alloc: Global,
     axis: &Axis,

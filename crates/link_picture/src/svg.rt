@@ -10,8 +10,12 @@ use std::alloc::Global;
 pub(crate) struct Look {
     /// Its colour.
     pub color: &'static str,
-    /// Whether it is dashed.
-    pub is_dashed: bool,
+    /// Its width, in pixels.
+    pub width: &'static str,
+    /// The attribute of its dashes, with a space before it, and nothing if it is solid.
+    pub dashes: &'static str,
+    /// Whether the circle of a lone point is empty.
+    pub is_open: bool,
 }
 
 /// Which point of a text lies at its place.
@@ -130,6 +134,21 @@ impl Svg {
         )
     }
 
+    /// A line across a panel that looks like that.
+    pub(crate) fn level(&mut self, y: u64, look: Look) -> Result<(), Memory> {
+        let (x, length) = (PANEL_LEFT, PANEL_WIDTH);
+        let Look {
+            color,
+            width,
+            dashes,
+            ..
+        } = look;
+        write!(
+            self.text,
+            "<path d=\"M{x} {y}h{length}\" stroke=\"{color}\" stroke-width=\"{width}\"{dashes}/>\n"
+        )
+    }
+
     /// A thin line down a panel with that lower edge.
     pub(crate) fn down(&mut self, x: u64, bottom: u64) -> Result<(), Memory> {
         let (y, height) = (bottom.saturating_sub(PANEL_HEIGHT), PANEL_HEIGHT);
@@ -142,11 +161,15 @@ impl Svg {
     /// A short line from a point to the right, for a legend.
     pub(crate) fn sample(&mut self, at: Point, look: Look) -> Result<(), Memory> {
         let Point { x, y } = at;
-        let color = look.color;
-        let dashes = dashes(look);
+        let Look {
+            color,
+            width,
+            dashes,
+            ..
+        } = look;
         write!(
             self.text,
-            "<path d=\"M{x} {y}h22\" stroke=\"{color}\" stroke-width=\"3\"{dashes}/>\n"
+            "<path d=\"M{x} {y}h24\" stroke=\"{color}\" stroke-width=\"{width}\"{dashes}/>\n"
         )
     }
 
@@ -170,11 +193,15 @@ impl Svg {
 
     /// A line through these points.
     fn polyline(&mut self, look: Look, points: &[Point]) -> Result<(), Memory> {
-        let color = look.color;
-        let dashes = dashes(look);
+        let Look {
+            color,
+            width,
+            dashes,
+            ..
+        } = look;
         write!(
             self.text,
-            "<polyline fill=\"none\" stroke=\"{color}\" stroke-width=\"1.5\"{dashes} points=\""
+            "<polyline fill=\"none\" stroke=\"{color}\" stroke-width=\"{width}\"{dashes} points=\""
         )?;
         let mut gap = "";
         for point in points {
@@ -185,23 +212,14 @@ impl Svg {
         self.text.push_str("\"/>\n")
     }
 
-    /// A small circle. That of a dashed line is empty.
+    /// A small circle.
     fn circle(&mut self, look: Look, at: Point) -> Result<(), Memory> {
         let Point { x, y } = at;
         let color = look.color;
-        let fill = if look.is_dashed { "none" } else { color };
+        let fill = if look.is_open { "none" } else { color };
         write!(
             self.text,
             "<circle cx=\"{x}\" cy=\"{y}\" r=\"2\" fill=\"{fill}\" stroke=\"{color}\"/>\n"
         )
-    }
-}
-
-/// The attribute of a dashed line.
-fn dashes(look: Look) -> &'static str {
-    if look.is_dashed {
-        " stroke-dasharray=\"5 3\""
-    } else {
-        ""
     }
 }

@@ -41,7 +41,22 @@ pub(crate) fn time_text(alloc: Global, time: u64, step: u64) -> Result<String, M
     }
 }
 
-/// A wait, rounded down to tenths of its unit.
+/// A duration as a parameter's value, in the greatest unit in which it is a whole number.
+pub(crate) fn duration_text(alloc: Global, time: u64) -> Result<String, Memory>
+    ensures { IfOk result (λ text. string_bytes text ≡ Spec.duration_text time) }
+{
+    if time % SECOND == 0 {
+        let seconds = time / SECOND;
+        format!(in alloc; "{seconds}s")
+    } else if time % MILLISECOND == 0 {
+        let milliseconds = time / MILLISECOND;
+        format!(in alloc; "{milliseconds}ms")
+    } else {
+        format!(in alloc; "{time}us")
+    }
+}
+
+/// A delay, rounded down to tenths of its unit.
 pub(crate) fn wait_text(alloc: Global, wait: u64) -> Result<String, Memory>
     ensures { IfOk result (λ text. string_bytes text ≡ Spec.wait_text wait) }
 {
@@ -80,6 +95,24 @@ pub(crate) fn rate_text(alloc: Global, rate: u64, step: u64) -> Result<String, M
         format!(in alloc; "{kilobits} kbit/s")
     } else {
         format!(in alloc; "{rate} bit/s")
+    }
+}
+
+/// A rate in bits per second beside its mark on a scale: the prefix of its unit alone, which the scale's name has.
+pub(crate) fn mark_rate_text(alloc: Global, rate: u64) -> Result<String, Memory>
+    ensures { IfOk result (λ text. string_bytes text ≡ Spec.mark_rate_text rate) }
+{
+    if rate % GIGABIT == 0 {
+        let gigabits = rate / GIGABIT;
+        format!(in alloc; "{gigabits}G")
+    } else if rate % MEGABIT == 0 {
+        let megabits = rate / MEGABIT;
+        format!(in alloc; "{megabits}M")
+    } else if rate % KILOBIT == 0 {
+        let kilobits = rate / KILOBIT;
+        format!(in alloc; "{kilobits}k")
+    } else {
+        format!(in alloc; "{rate}")
     }
 }
 

@@ -20,28 +20,28 @@ fn words_are_explained(rt: HostRuntime) {
     let table: [(&[&str], &str); 7] = [
         (
             &["--rate", "1mbit", "--overhead", "1001"],
-            "maltlink: overhead: OutOfRange\n  --overhead \"1001\": wanted is a number from 0 to 1000, in bytes\n",
+            "maltlink: overhead: OutOfRange\n  --overhead \"1001\": expected a number from 0 to 1000, in bytes\n",
         ),
         (
             &["--rate", "1mbit", "--mpu", "65536"],
-            "maltlink: mpu: OutOfRange\n  --mpu \"65536\": wanted is a number from 0 to 65535, in bytes\n",
+            "maltlink: mpu: OutOfRange\n  --mpu \"65536\": expected a number from 0 to 65535, in bytes\n",
         ),
         (
             &["--rate", "1mbit", "--seed", "00"],
-            "maltlink: seed\n  --seed \"00\": wanted are 32 hexadecimal digits\n",
+            "maltlink: seed\n  --seed \"00\": expected 32 hexadecimal digits\n",
         ),
         (
             &["--rate", "1mbit", "brown"],
-            "maltlink: parameter word 1: UnknownWord\n  \"brown\": no parameter has that name \
+            "maltlink: parameter word 1: UnknownWord\n  \"brown\": unknown parameter \
 ('maltlink --help' lists them)\n",
         ),
         (
             &["--rate", "1mbit", "ecn", "limit"],
-            "maltlink: parameter word 2: MissingValue\n  \"limit\": a value is wanted after this word\n",
+            "maltlink: parameter word 2: MissingValue\n  \"limit\": this parameter needs a value after it\n",
         ),
         (
             &["--rate", "1mbit", "flows", "0"],
-            "maltlink: parameter word 2: OutOfRange\n  \"0\": it is outside its range ('maltlink --help' lists them)\n",
+            "maltlink: parameter word 2: OutOfRange\n  \"0\": out of range ('maltlink --help' lists the ranges)\n",
         ),
         (
             &["--overhead", "3"],
@@ -61,7 +61,7 @@ fn control_characters_of_mistakes_are_numbers(rt: HostRuntime) {
     let table: [(&[&str], &str); 2] = [
         (
             &["--rate", "1mbit", "--\u{1b}[2Jred"],
-            "error: unexpected argument '--\\u{1b}[2Jred' found\n  \"--\\u{1b}[2Jred\": no option has that name \
+            "error: unexpected argument '--\\u{1b}[2Jred' found\n  \"--\\u{1b}[2Jred\": unknown option \
 ('maltlink --help' lists them)\n\nUsage: maltlink --rate <RATE> [PARAM]...\n\nFor more information, try '--help'.\n",
         ),
         (
@@ -81,21 +81,21 @@ fn control_characters_of_words_are_numbers(rt: HostRuntime) {
     let table: [(&[&str], &str); 4] = [
         (
             &["--rate", "\u{1b}[31m1\u{9b}mbit"],
-            "maltlink: rate: NotANumber\n  --rate \"\\u{1b}[31m1\\u{9b}mbit\": wanted is \
-1000bit to 1tbit, as in 10mbit or 1250kbps\n",
+            "maltlink: rate: NotANumber\n  --rate \"\\u{1b}[31m1\\u{9b}mbit\": expected a rate from \
+1000bit to 1tbit, such as 10mbit or 1250kbps\n",
         ),
         (
             &["--rate", "1mbit", "--seed", "\u{1b}c"],
-            "maltlink: seed\n  --seed \"\\u{1b}c\": wanted are 32 hexadecimal digits\n",
+            "maltlink: seed\n  --seed \"\\u{1b}c\": expected 32 hexadecimal digits\n",
         ),
         (
             &["--rate", "1mbit", "\u{1b}c\u{7}"],
-            "maltlink: parameter word 1: UnknownWord\n  \"\\u{1b}c\\u{7}\": no parameter has that name \
+            "maltlink: parameter word 1: UnknownWord\n  \"\\u{1b}c\\u{7}\": unknown parameter \
 ('maltlink --help' lists them)\n",
         ),
         (
             &["--rate", "1mbit", "limit", "1\u{7f}"],
-            "maltlink: parameter word 2: NotANumber\n  \"1\\u{7f}\": a number is wanted, or a time as in 5ms\n",
+            "maltlink: parameter word 2: NotANumber\n  \"1\\u{7f}\": expected a number, or a time such as 5ms\n",
         ),
     ];
     for (words, wanted) in table {
@@ -109,13 +109,13 @@ fn control_characters_of_rows_are_numbers(rt: HostRuntime) {
     let table = [
         (
             "enq,\u{1b}[2J,6,10.0.0.1,10.0.0.9,1,443,1514,2\n",
-            "maltlink: row 1: BadNumber\n  row 1, field 2 (MOMENT): \"\\u{1b}[2J\" is no such number; wanted is \
-0 to 576460752303423487, in microseconds, never falling\n",
+            "maltlink: row 1: BadNumber\n  row 1, field 2 (MOMENT): \"\\u{1b}[2J\" isn't a valid number; expected \
+0 to 576460752303423487, in microseconds, never decreasing\n",
         ),
         (
             "enq,\u{9b}2J\u{7}\n",
-            "maltlink: row 1: BadFieldCount\n  row 1: \"enq,\\u{9b}2J\\u{7}\" has another number of \
-fields; wanted is enq,MOMENT,PROTO,SRC,DST,SPORT,DPORT,LEN,ECN\n",
+            "maltlink: row 1: BadFieldCount\n  row 1: \"enq,\\u{9b}2J\\u{7}\" has the wrong number of \
+fields; expected enq,MOMENT,PROTO,SRC,DST,SPORT,DPORT,LEN,ECN\n",
         ),
     ];
     for (input, wanted) in table {
@@ -135,49 +135,49 @@ fn words_with_dashes_are_explained(rt: HostRuntime) {
         (
             &["--rate", "1mbit", "--limit", "200"],
             "'--limit'",
-            "  \"--limit\": a parameter is written without dashes, as in 'limit 10240'",
+            "  \"--limit\": parameters have no dashes; write 'limit 10240'",
             one,
         ),
         (
             &["--rate", "1mbit", "--noecn"],
             "'--noecn'",
-            "  \"--noecn\": a parameter is written without dashes, as in 'noecn'",
+            "  \"--noecn\": parameters have no dashes; write 'noecn'",
             one,
         ),
         (
             &["--rate", "1mbit", "limit", "-5"],
             "'-5'",
-            "  limit \"-5\": wanted is a value without a sign, as in 'limit 10240'",
+            "  limit \"-5\": expected a value without a sign, as in 'limit 10240'",
             any,
         ),
         (
             &["--rate", "1mbit", "--overhead", "-14"],
             "'-1'",
-            "  --overhead \"-14\": wanted is a number from 0 to 1000, in bytes",
+            "  --overhead \"-14\": expected a number from 0 to 1000, in bytes",
             any,
         ),
         (
             &["--rate", "-20mbit"],
             "'-2'",
-            "  --rate \"-20mbit\": wanted is 1000bit to 1tbit, as in 10mbit or 1250kbps",
+            "  --rate \"-20mbit\": expected a rate from 1000bit to 1tbit, such as 10mbit or 1250kbps",
             any,
         ),
         (
             &["--rate", "1mbit", "--seed", "-1"],
             "'-1'",
-            "  --seed \"-1\": wanted is 32 hexadecimal digits",
+            "  --seed \"-1\": expected 32 hexadecimal digits",
             any,
         ),
         (
             &["--rate", "1mbit", "--write", "-f"],
             "'-f'",
-            "  --write \"-f\": wanted is one of those that 'maltlink --help' lists",
+            "  --write \"-f\": expected one of the names that 'maltlink --help' lists",
             any,
         ),
         (
             &["--rate", "1mbit", "ecn", "-x"],
             "'-x'",
-            "  \"-x\": no option has that name ('maltlink --help' lists them)",
+            "  \"-x\": unknown option ('maltlink --help' lists them)",
             any,
         ),
         (
@@ -203,15 +203,15 @@ fn parameters_with_dashes(rt: HostRuntime) {
         "\n\nUsage: maltlink --rate <RATE> [PARAM]...\n\nFor more information, try '--help'.\n";
     for (word, form) in FORMS {
         let wanted = format!(in rt.alloc();
-            "error: unexpected argument '{word}' found\n  \"{word}\": a parameter is written without dashes, \
-as in '{form}'{rest}"
+            "error: unexpected argument '{word}' found\n  \"{word}\": parameters have no dashes; \
+write '{form}'{rest}"
         );
         let words = ["--rate", "1mbit", word];
         refuses(&rt, &words, "", wanted.expect(&rt, "memory").as_str());
     }
     let mtu =
-        "error: unexpected argument '--mtu' found\n  \"--mtu\": a parameter is written without dashes, \
-as in 'mtu 1514'\n\nUsage: maltlink --rate <RATE> --mpu <N> [PARAM]...\n\nFor more information, try '--help'.\n";
+        "error: unexpected argument '--mtu' found\n  \"--mtu\": parameters have no dashes; \
+write 'mtu 1514'\n\nUsage: maltlink --rate <RATE> --mpu <N> [PARAM]...\n\nFor more information, try '--help'.\n";
     refuses(&rt, &["--rate", "1mbit", "--mtu"], "", mtu);
 }
 
@@ -225,8 +225,8 @@ fn parameters_with_a_dash_or_a_value(rt: HostRuntime) {
     ];
     for (word, found, form, options) in table {
         let wanted = format!(in rt.alloc();
-            "error: unexpected argument {found} found\n  \"{word}\": a parameter is written without dashes, \
-as in '{form}'\n\nUsage: maltlink {options}--rate <RATE> [PARAM]...\n\nFor more information, try '--help'.\n"
+            "error: unexpected argument {found} found\n  \"{word}\": parameters have no dashes; \
+write '{form}'\n\nUsage: maltlink {options}--rate <RATE> [PARAM]...\n\nFor more information, try '--help'.\n"
         );
         let words = ["--rate", "1mbit", word];
         refuses(&rt, &words, "", wanted.expect(&rt, "memory").as_str());
@@ -256,47 +256,47 @@ fn the_word_that_is_no_option(rt: HostRuntime) {
         (
             &["--rate", "1mbit", "--compare", "fifo", "-x"],
             "'-x'",
-            "  \"-x\": no option has that name ('maltlink --help' lists them)",
+            "  \"-x\": unknown option ('maltlink --help' lists them)",
         ),
         (
             &["--rate", "1mbit", "--compare=fifo", "--every=5ms", "-x"],
             "'-x'",
-            "  \"-x\": no option has that name ('maltlink --help' lists them)",
+            "  \"-x\": unknown option ('maltlink --help' lists them)",
         ),
         (
             &["--rate", "1mbit", "--every", "5ms", "-x"],
             "'-x'",
-            "  \"-x\": no option has that name ('maltlink --help' lists them)",
+            "  \"-x\": unknown option ('maltlink --help' lists them)",
         ),
         (
             &["--rate", "1mbit", "--every", "-5ms"],
             "'-5'",
-            "  --every \"-5ms\": wanted is a time from 1ms to 1000s",
+            "  --every \"-5ms\": expected a time from 1ms to 1000s",
         ),
         (
             &["--rate", "1mbit", "--compare", "-x"],
             "'-x'",
-            "  --compare \"-x\": wanted is one of those that 'maltlink --help' lists",
+            "  --compare \"-x\": expected one of the names that 'maltlink --help' lists",
         ),
         (
             &["--rate=1mbit", "-x"],
             "'-x'",
-            "  \"-x\": no option has that name ('maltlink --help' lists them)",
+            "  \"-x\": unknown option ('maltlink --help' lists them)",
         ),
         (
             &["--rate", "1mbit", "-", "-x"],
             "'-x'",
-            "  \"-x\": no option has that name ('maltlink --help' lists them)",
+            "  \"-x\": unknown option ('maltlink --help' lists them)",
         ),
         (
             &["--rate", "1mbit", "noecn", "-x"],
             "'-x'",
-            "  \"-x\": no option has that name ('maltlink --help' lists them)",
+            "  \"-x\": unknown option ('maltlink --help' lists them)",
         ),
         (
             &["--rate", "1mbit", "--mpu", "-1"],
             "'-1'",
-            "  --mpu \"-1\": wanted is a number from 0 to 65535, in bytes",
+            "  --mpu \"-1\": expected a number from 0 to 65535, in bytes",
         ),
     ];
     for (words, found, line) in table {
@@ -307,28 +307,73 @@ fn the_word_that_is_no_option(rt: HostRuntime) {
     }
 }
 
+/// A mistyped parameter: a letter missing, doubled or wrong, letters swapped, another sign, or the value with it. A word
+/// that is like no parameter has no such question.
+#[test]
+fn mistyped_parameters(rt: HostRuntime) {
+    for (word, name) in [
+        ("limt", "limit"),
+        ("limti", "limit"),
+        ("limits", "limit"),
+        ("limit=5", "limit"),
+        ("flow", "flows"),
+        ("quantom", "quantum"),
+        ("mttu", "mtu"),
+        ("taget", "target"),
+        ("tarrget", "target"),
+        ("intreval", "interval"),
+        ("ce-threshold", "ce_threshold"),
+        ("ce-treshold", "ce_threshold"),
+        ("memory-limit", "memory_limit"),
+        ("dropbatch", "drop_batch"),
+        ("enc", ""),
+        ("ecm", "ecn"),
+        ("no_ecn", "noecn"),
+        ("clasify", "classify"),
+        ("", ""),
+        ("5ms", ""),
+        ("fifo", ""),
+        ("limit-of-packets", ""),
+    ] {
+        let wanted = if name.is_empty() {
+            format!(in rt.alloc(); "unknown parameter ('maltlink --help' lists them)")
+        } else {
+            format!(in rt.alloc(); "unknown parameter; did you mean '{name}'?")
+        };
+        let line = wanted.expect(&rt, "memory");
+        let text = format!(in rt.alloc();
+            "maltlink: parameter word 1: UnknownWord\n  \"{word}\": {line}\n"
+        );
+        let words = ["--rate", "1mbit", word];
+        refuses(&rt, &words, "", text.expect(&rt, "memory").as_str());
+    }
+    let dashed = "error: unexpected argument '--quantom' found\n  \"--quantom\": unknown option; did you mean the \
+parameter 'quantum', without dashes?\n\nUsage: maltlink --rate <RATE> [PARAM]...\n\nFor more information, try '--help'.\n";
+    refuses(&rt, &["--rate", "1mbit", "--quantom", "5"], "", dashed);
+}
+
 /// A word that is no parameter, as a file's name is, and values in forms that aren't read.
 #[test]
 fn words_that_are_no_parameters(rt: HostRuntime) {
     let table: [(&[&str], &str); 4] = [
         (
             &["--rate", "1mbit", "arrivals.csv"],
-            "maltlink: parameter word 1: UnknownWord\n  \"arrivals.csv\": no parameter has that name; rows are read from \
+            "maltlink: parameter word 1: UnknownWord\n  \"arrivals.csv\": unknown parameter; arrivals are read from \
 standard input, as in 'maltlink .. < FILE'\n",
         ),
         (
             &["--rate", "1mbit", "ecn", "/tmp/arrivals"],
-            "maltlink: parameter word 2: UnknownWord\n  \"/tmp/arrivals\": no parameter has that name; rows are read from \
+            "maltlink: parameter word 2: UnknownWord\n  \"/tmp/arrivals\": unknown parameter; arrivals are read from \
 standard input, as in 'maltlink .. < FILE'\n",
         ),
         (
             &["--rate", "1mbit", "limit", "10,240"],
-            "maltlink: parameter word 2: NotANumber\n  \"10,240\": a number is wanted without commas, as in 10240\n",
+            "maltlink: parameter word 2: NotANumber\n  \"10,240\": expected a number without commas, such as 10240\n",
         ),
         (
             &["--rate", "1mbit", "target", "5.5msec"],
-            "maltlink: parameter word 2: NotANumber\n  \"5.5msec\": a time with a point is wanted as in 5.5ms: one to six \
-digits, and us, ms or s, to a whole microsecond\n",
+            "maltlink: parameter word 2: NotANumber\n  \"5.5msec\": expected a time such as 5.5ms: one to six \
+digits after the point, and us, ms or s, to a whole microsecond\n",
         ),
     ];
     for (words, wanted) in table {
@@ -346,8 +391,8 @@ fn fields_are_shown(rt: HostRuntime) {
             .expect(&rt, "memory");
         let input = format!(in rt.alloc(); "enq,{field},6,10.0.0.1,10.0.0.9,1,443,1514,2\n");
         let wanted = format!(in rt.alloc();
-            "maltlink: row 1: BadNumber\n  row 1, field 2 (MOMENT): \"{seen}\" is no such number; \
-wanted is 0 to 576460752303423487, in microseconds, never falling\n"
+            "maltlink: row 1: BadNumber\n  row 1, field 2 (MOMENT): \"{seen}\" isn't a valid number; \
+expected 0 to 576460752303423487, in microseconds, never decreasing\n"
         );
         let input = input.expect(&rt, "memory");
         refuses(
@@ -363,7 +408,7 @@ wanted is 0 to 576460752303423487, in microseconds, never falling\n"
 #[test]
 fn a_row_of_one_byte_is_shown(rt: HostRuntime) {
     let wanted =
-        "maltlink: row 1: BadKind\n  row 1, field 1 (KIND): \"x\" is no kind of row; wanted is enq\n";
+        "maltlink: row 1: BadKind\n  row 1, field 1 (KIND): \"x\" isn't a kind of row; expected enq\n";
     refuses(&rt, &["--rate", "10mbit"], "x", wanted);
 }
 
@@ -373,12 +418,12 @@ fn rows_that_are_nearly_right(rt: HostRuntime) {
     let table = [
         (
             "enq,0,6,10.0.0.1,10.0.0.9,5000,443,1514,2\nversion,2\n",
-            "maltlink: row 2: BadKind\n  row 2, field 1 (KIND): \"version\" stands in the first row alone; wanted is enq\n",
+            "maltlink: row 2: BadKind\n  row 2, field 1 (KIND): \"version\" is allowed in the first row only; expected enq\n",
         ),
         (
             "enq,0.25,6,10.0.0.1,10.0.0.9,5000,443,1514,2\n",
-            "maltlink: row 1: BadNumber\n  row 1, field 2 (MOMENT): \"0.25\" is no whole number; wanted is \
-0 to 576460752303423487, in microseconds, never falling\n",
+            "maltlink: row 1: BadNumber\n  row 1, field 2 (MOMENT): \"0.25\" isn't a whole number; expected \
+0 to 576460752303423487, in microseconds, never decreasing\n",
         ),
     ];
     for (input, wanted) in table {
@@ -425,8 +470,8 @@ fn input_of_other_kinds(rt: HostRuntime) {
         refuses_bytes(
             &rt,
             input,
-            "maltlink: row 1: BadKind\n  the input is a capture of packets; wanted are rows, as \
-'tools/pcap-to-arrivals FILE' makes of it\n",
+            "maltlink: row 1: BadKind\n  the input is a packet capture; \
+'tools/pcap-to-arrivals FILE' converts it\n",
         );
     }
     let texts: [&[u8]; 4] = [
@@ -439,7 +484,7 @@ fn input_of_other_kinds(rt: HostRuntime) {
         refuses_bytes(
             &rt,
             input,
-            "maltlink: row 1: BadKind\n  the input is UTF-16; wanted is UTF-8, as 'iconv -f UTF-16 -t UTF-8' makes of it\n",
+            "maltlink: row 1: BadKind\n  the input is UTF-16; 'iconv -f UTF-16 -t UTF-8' converts it\n",
         );
     }
 }
@@ -458,7 +503,7 @@ fn faults_at_a_row(rt: HostRuntime) {
         (
             TraceFaultKind::Memory,
             1,
-            "maltlink: row 7: Memory\n  row 7: \"enq,0\" had no memory\n",
+            "maltlink: row 7: Memory\n  row 7: \"enq,0\" couldn't be stored: out of memory\n",
         ),
         (
             TraceFaultKind::Read,
@@ -468,7 +513,7 @@ fn faults_at_a_row(rt: HostRuntime) {
         (
             TraceFaultKind::TooLarge,
             2,
-            "maltlink: row 7: TooLarge\n  row 7: \"enq,0\" is one too many; wanted are at most 1000000 rows\n",
+            "maltlink: row 7: TooLarge\n  row 7: \"enq,0\" is one too many; expected at most 1000000 rows\n",
         ),
     ] {
         let found = String::from_str(rt.alloc(), "enq,0").expect(&rt, "memory");
@@ -485,7 +530,7 @@ fn faults_at_a_row(rt: HostRuntime) {
         &rt,
         &fault,
         1,
-        "maltlink: row 0: Memory\n  the input had no memory\n",
+        "maltlink: row 0: Memory\n  the input couldn't be stored: out of memory\n",
     );
 }
 
@@ -495,26 +540,26 @@ fn rows_are_explained(rt: HostRuntime) {
     let table = [
         (
             "enq,0,6,10.0.0.1,10.0.0.9,65536,443,1514,2\n",
-            "maltlink: row 1: BadNumber\n  row 1, field 6 (SPORT): \"65536\" is no such number; wanted is 0 to 65535\n",
+            "maltlink: row 1: BadNumber\n  row 1, field 6 (SPORT): \"65536\" isn't a valid number; expected 0 to 65535\n",
         ),
         (
             "deq,x\n",
-            "maltlink: row 1: BadNumber\n  row 1, field 2 (MOMENT): \"x\" is no such number; wanted is \
-0 to 576460752303423487, in microseconds, never falling\n",
+            "maltlink: row 1: BadNumber\n  row 1, field 2 (MOMENT): \"x\" isn't a valid number; expected \
+0 to 576460752303423487, in microseconds, never decreasing\n",
         ),
         (
             "enq,576460752303423488,6,10.0.0.1,10.0.0.9,5000,443,1514,2\n",
-            "maltlink: row 1: TooLate\n  row 1, field 2 (MOMENT): \"576460752303423488\" is too late; wanted is \
-0 to 576460752303423487, in microseconds, never falling\n",
+            "maltlink: row 1: TooLate\n  row 1, field 2 (MOMENT): \"576460752303423488\" is too late; expected \
+0 to 576460752303423487, in microseconds, never decreasing\n",
         ),
         (
             "put,1\n",
-            "maltlink: row 1: BadKind\n  row 1, field 1 (KIND): \"put\" is no kind of row; wanted is enq\n",
+            "maltlink: row 1: BadKind\n  row 1, field 1 (KIND): \"put\" isn't a kind of row; expected enq\n",
         ),
         (
             "enq,0,6,10.0.0.1,10.0.0.9,5000,443,1514\n",
-            "maltlink: row 1: BadFieldCount\n  row 1: \"enq,0,6,10.0.0.1,10.0.0.9,5000,443,1514\" has another number of \
-fields; wanted is enq,MOMENT,PROTO,SRC,DST,SPORT,DPORT,LEN,ECN\n",
+            "maltlink: row 1: BadFieldCount\n  row 1: \"enq,0,6,10.0.0.1,10.0.0.9,5000,443,1514\" has the wrong number of \
+fields; expected enq,MOMENT,PROTO,SRC,DST,SPORT,DPORT,LEN,ECN\n",
         ),
     ];
     for (input, wanted) in table {
@@ -601,7 +646,7 @@ fn too_many_bytes_are_explained(rt: HostRuntime) {
         terminals,
     );
     let wanted =
-        "maltlink: row 0: TooLarge\n  the input has more than 134217728 bytes; wanted are at most so many, in at most \
+        "maltlink: row 0: TooLarge\n  the input has more than 134217728 bytes; expected at most that many, in at most \
 1000000 rows\n";
     assert_eq!(rt; str::from_utf8(&told).ok(), Some(wanted));
     assert_eq!(rt; status, 2);

@@ -19,52 +19,52 @@ fn fields_of_rows(rt: HostRuntime) {
     let table = [
         (
             "enq,0,6,10.0.0.300,10.0.0.9,5000,443,1514,2\n",
-            "maltlink: row 1: BadAddress\n  row 1, field 4 (SRC): \"10.0.0.300\" is no address; wanted is \
-four numbers joined by dots, or after a row version,2 also 32 hexadecimal digits\n",
+            "maltlink: row 1: BadAddress\n  row 1, field 4 (SRC): \"10.0.0.300\" isn't an address; expected \
+an IPv4 address such as 10.0.0.1, or after a row version,2 an IPv6 address of 32 hexadecimal digits\n",
         ),
         (
             "version,2\nenq,0,6,10.0.0.1,20010db8000000000000000000000001,5000,443,1514,2\n",
-            "maltlink: row 2: BadAddress\n  row 2, field 5 (DST): \"20010db8000000000000000000000001\" is no \
-address of the kind of SRC; wanted is four numbers joined by dots, or after a row version,2 also 32 hexadecimal digits\n",
+            "maltlink: row 2: BadAddress\n  row 2, field 5 (DST): \"20010db8000000000000000000000001\" isn't an address of the same family as SRC; \
+expected an IPv4 address such as 10.0.0.1, or after a row version,2 an IPv6 address of 32 hexadecimal digits\n",
         ),
         (
             "version,2\nenq,0,6,10.0.0.300,10.0.0.9,5000,443,1514,2\n",
-            "maltlink: row 2: BadAddress\n  row 2, field 4 (SRC): \"10.0.0.300\" is no address; wanted is \
-four numbers joined by dots, or after a row version,2 also 32 hexadecimal digits\n",
+            "maltlink: row 2: BadAddress\n  row 2, field 4 (SRC): \"10.0.0.300\" isn't an address; expected \
+an IPv4 address such as 10.0.0.1, or after a row version,2 an IPv6 address of 32 hexadecimal digits\n",
         ),
         (
             "enq,0,6,20010db8000000000000000000000001,20010db8000000000000000000000002,5000,443,1514,2\n",
-            "maltlink: row 1: BadAddress\n  row 1, field 4 (SRC): \"20010db8000000000000000000000001\" is no \
-address; wanted is four numbers joined by dots, or after a row version,2 also 32 hexadecimal digits\n",
+            "maltlink: row 1: BadAddress\n  row 1, field 4 (SRC): \"20010db8000000000000000000000001\" isn't an address; \
+expected an IPv4 address such as 10.0.0.1, or after a row version,2 an IPv6 address of 32 hexadecimal digits\n",
         ),
         (
             "enq,0,256,10.0.0.1,10.0.0.9,5000,443,1514,2\n",
-            "maltlink: row 1: BadNumber\n  row 1, field 3 (PROTO): \"256\" is no such number; wanted is 0 to 255\n",
+            "maltlink: row 1: BadNumber\n  row 1, field 3 (PROTO): \"256\" isn't a valid number; expected 0 to 255\n",
         ),
         (
             "enq,0,6,10.0.0.1,10.0.0.9,5000,65536,1514,2\r\n",
-            "maltlink: row 1: BadNumber\n  row 1, field 7 (DPORT): \"65536\" is no such number; wanted is 0 to 65535\n",
+            "maltlink: row 1: BadNumber\n  row 1, field 7 (DPORT): \"65536\" isn't a valid number; expected 0 to 65535\n",
         ),
         (
             "\nenq,0,6,10.0.0.1,10.0.0.9,5000,443,1514,2\n\"\"\nenq,1,6,10.0.0.1,10.0.0.9,5000,443,1514,4\n",
-            "maltlink: row 2: BadEcn\n  row 2, field 9 (ECN): \"4\" is no such number; wanted is one digit from 0 to 3\n",
+            "maltlink: row 2: BadEcn\n  row 2, field 9 (ECN): \"4\" isn't a valid number; expected one digit from 0 to 3\n",
         ),
         (
             "enq,0,6,10.0.0.1,10.0.0.9,5000,443,0,2\n",
-            "maltlink: row 1: LengthOutOfRange\n  row 1, field 8 (LEN): \"0\" is no such number; wanted is \
+            "maltlink: row 1: LengthOutOfRange\n  row 1, field 8 (LEN): \"0\" isn't a valid number; expected \
 1 to 65535, in bytes\n",
         ),
         (
             "version,3\n",
-            "maltlink: row 1: BadNumber\n  row 1, field 2 (VERSION): \"3\" is no such number; wanted is 2\n",
+            "maltlink: row 1: BadNumber\n  row 1, field 2 (VERSION): \"3\" isn't a valid number; expected 2\n",
         ),
         (
             "deq,9\n",
-            "maltlink: row 1: NotAnArrival\n  row 1, field 1 (KIND): \"deq\" is no arrival; wanted is enq\n",
+            "maltlink: row 1: NotAnArrival\n  row 1, field 1 (KIND): \"deq\" isn't an arrival; expected enq\n",
         ),
         (
             "enq,0,6,10.0.0.1\n",
-            "maltlink: row 1: BadFieldCount\n  row 1: \"enq,0,6,10.0.0.1\" has another number of fields; wanted is \
+            "maltlink: row 1: BadFieldCount\n  row 1: \"enq,0,6,10.0.0.1\" has the wrong number of fields; expected \
 enq,MOMENT,PROTO,SRC,DST,SPORT,DPORT,LEN,ECN\n",
         ),
     ];
@@ -81,23 +81,23 @@ fn fields_of_rows_in_other_forms(rt: HostRuntime) {
         (
             "enq,0,6,10.0.0.1,10.0.0.9,5000,443,1514,2\r\n\"\"\r\nenq,1,6,10.0.0.1,10.0.0.9,5000,443,1514,2\r\n\
 enq,2,17,10.0.0.300,10.0.0.2,5000,53,1000,2\r\n",
-            "maltlink: row 3: BadAddress\n  row 3, field 4 (SRC): \"10.0.0.300\" is no address; wanted is \
-four numbers joined by dots, or after a row version,2 also 32 hexadecimal digits\n",
+            "maltlink: row 3: BadAddress\n  row 3, field 4 (SRC): \"10.0.0.300\" isn't an address; expected \
+an IPv4 address such as 10.0.0.1, or after a row version,2 an IPv6 address of 32 hexadecimal digits\n",
         ),
         (
             "enq,0,6,10.0.0.1,\"10.0.0.300\",5000,443,1514,2\n",
-            "maltlink: row 1: BadAddress\n  row 1, field 5 (DST): \"10.0.0.300\" is no \
-address of the kind of SRC; wanted is four numbers joined by dots, or after a row version,2 also 32 hexadecimal digits\n",
+            "maltlink: row 1: BadAddress\n  row 1, field 5 (DST): \"10.0.0.300\" isn't an address of the same family as SRC; \
+expected an IPv4 address such as 10.0.0.1, or after a row version,2 an IPv6 address of 32 hexadecimal digits\n",
         ),
         (
             "\u{feff}version,2\nenq,0,6,20010db8000000000000000000000001,10.0.0.1,5000,443,1514,2\n",
-            "maltlink: row 2: BadAddress\n  row 2, field 5 (DST): \"10.0.0.1\" is no \
-address of the kind of SRC; wanted is four numbers joined by dots, or after a row version,2 also 32 hexadecimal digits\n",
+            "maltlink: row 2: BadAddress\n  row 2, field 5 (DST): \"10.0.0.1\" isn't an address of the same family as SRC; \
+expected an IPv4 address such as 10.0.0.1, or after a row version,2 an IPv6 address of 32 hexadecimal digits\n",
         ),
         (
             "\"version\",\"2\"\nenq,0,6,20010db8000000000000000000000001,10.0.0.1,5000,443,1514,2\n",
-            "maltlink: row 2: BadAddress\n  row 2, field 5 (DST): \"10.0.0.1\" is no \
-address of the kind of SRC; wanted is four numbers joined by dots, or after a row version,2 also 32 hexadecimal digits\n",
+            "maltlink: row 2: BadAddress\n  row 2, field 5 (DST): \"10.0.0.1\" isn't an address of the same family as SRC; \
+expected an IPv4 address such as 10.0.0.1, or after a row version,2 an IPv6 address of 32 hexadecimal digits\n",
         ),
     ];
     for (input, wanted) in table {
@@ -105,7 +105,7 @@ address of the kind of SRC; wanted is four numbers joined by dots, or after a ro
     }
 }
 
-/// A row that is no arrival has its number, empty lines aside, whatever comes after it. A fault of the grammar in a later
+/// A row that isn't an arrival has its number, empty lines aside, whatever comes after it. A fault of the grammar in a later
 /// row comes before it.
 #[test]
 fn rows_that_are_no_arrivals(rt: HostRuntime) {
@@ -113,20 +113,20 @@ fn rows_that_are_no_arrivals(rt: HostRuntime) {
         (
             "\nenq,5,6,10.0.0.1,10.0.0.9,5000,443,1514,2\n\"\"\nenq,5,6,10.0.0.1,10.0.0.9,5000,443,1514,2\n\n\
 deq,9\nenq,7,6,10.0.0.1,10.0.0.9,5000,443,1514,2\n",
-            "maltlink: row 3: NotAnArrival\n  row 3, field 1 (KIND): \"deq\" is no arrival; wanted is enq\n",
+            "maltlink: row 3: NotAnArrival\n  row 3, field 1 (KIND): \"deq\" isn't an arrival; expected enq\n",
         ),
         (
             "version,2\nenq,5,6,10.0.0.1,10.0.0.9,5000,443,1514,2\nclose,9\ndeq,9\nenq,7,6,10.0.0.1,10.0.0.9,5000,443,1514,2",
-            "maltlink: row 3: NotAnArrival\n  row 3, field 1 (KIND): \"close\" is no arrival; wanted is enq\n",
+            "maltlink: row 3: NotAnArrival\n  row 3, field 1 (KIND): \"close\" isn't an arrival; expected enq\n",
         ),
         (
             "enq,5,6,10.0.0.1,10.0.0.9,5000,443,1514,2\nenq,4,6,10.0.0.1,10.0.0.9,5000,443,1514,2\ndeq,9\n",
-            "maltlink: row 2: Backwards\n  row 2, field 2 (MOMENT): \"4\" is below the moment of the row before; wanted \
-is 0 to 576460752303423487, in microseconds, never falling\n",
+            "maltlink: row 2: Backwards\n  row 2, field 2 (MOMENT): \"4\" is earlier than the row before; wanted \
+is 0 to 576460752303423487, in microseconds, never decreasing\n",
         ),
         (
             "deq,9\nenq,7,6,10.0.0.1,10.0.0.9,5000,443,1514,2\nclose\nenq\n",
-            "maltlink: row 3: BadFieldCount\n  row 3: \"close\" has another number of fields; wanted is \
+            "maltlink: row 3: BadFieldCount\n  row 3: \"close\" has the wrong number of fields; expected \
 enq,MOMENT,PROTO,SRC,DST,SPORT,DPORT,LEN,ECN\n",
         ),
     ];
@@ -143,22 +143,22 @@ fn words_before_rows(rt: HostRuntime) {
         &["--rate", "999bit", "--overhead", "x", "limit"],
         "deq,9\n",
         2,
-        "maltlink: rate: OutOfRange\n  --rate \"999bit\": wanted is 1000bit to 1tbit, as in 10mbit or 1250kbps\n",
+        "maltlink: rate: OutOfRange\n  --rate \"999bit\": expected a rate from 1000bit to 1tbit, such as 10mbit or 1250kbps\n",
     );
     faults(
         &rt,
         &["--rate", "1mbit", "--every", "0.5ms", "--seed", "00"],
         "",
         2,
-        "maltlink: every: NotANumber\n  --every \"0.5ms\": wanted is a time from 1ms to 1000s\n",
+        "maltlink: every: NotANumber\n  --every \"0.5ms\": expected a time from 1ms to 1000s\n",
     );
     faults(
         &rt,
         &["--rate", "1mbit", "target", "5.0001ms"],
         "",
         2,
-        "maltlink: parameter word 2: NotANumber\n  \"5.0001ms\": a time with a point is wanted as in 5.5ms: one to six digits, and \
-us, ms or s, to a whole microsecond\n",
+        "maltlink: parameter word 2: NotANumber\n  \"5.0001ms\": expected a time such as 5.5ms: one to six digits \
+after the point, and us, ms or s, to a whole microsecond\n",
     );
 }
 
@@ -185,8 +185,8 @@ fn reads_at_a_terminal(rt: HostRuntime) {
     assert_eq!(rt;
         str::from_utf8(&told).ok(),
         Some(
-            "maltlink: arrivals are read from this terminal; Ctrl-D at the start of a line ends them\n\
-maltlink: no packet came\n  standard input has no row 'enq': rows are read from there, as in \
+            "maltlink: reading arrivals from the terminal; Ctrl-D at the start of a line ends them\n\
+maltlink: no packet arrived\n  standard input has no 'enq' row; arrivals are read from there, as in \
 'maltlink --rate 10mbit < arrivals.csv'\n"
         )
     );
@@ -226,8 +226,8 @@ fn stages_of_a_long_run(rt: HostRuntime) {
     watched(&rt, &both_steps, &text, "");
     text.push_str("enq,100000000,17,10.0.0.1,10.0.0.9,1,443,40,0\n")
         .expect(&rt, "memory");
-    let run = "maltlink: 100000 arrivals are read\nmaltlink: the link has sent its last packet\n";
-    let both = "maltlink: 100000 arrivals are read\nmaltlink: the link has sent its last packet\n\
+    let run = "maltlink: read 100000 arrivals\nmaltlink: the link has sent its last packet\n";
+    let both = "maltlink: read 100000 arrivals\nmaltlink: the link has sent its last packet\n\
 maltlink: the FIFO has sent its last packet\n";
     watched(&rt, &flows, &text, run);
     watched(&rt, &both_flows, &text, both);

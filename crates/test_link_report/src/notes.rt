@@ -102,7 +102,7 @@ fn notes<R: Abort + AllocGlobal>(rt: &R, words: &[&str], input: &str, wanted: &s
 #[test]
 fn no_packet_is_reported(rt: HostRuntime) {
     let wanted =
-        "maltlink: no packet came\n  standard input has no row 'enq': rows are read from there, as in \
+        "maltlink: no packet arrived\n  standard input has no 'enq' row; arrivals are read from there, as in \
 'maltlink --rate 10mbit < arrivals.csv'\n";
     for input in ["", "\n\n", "\"\"\n", "version,2\n"] {
         notes(&rt, &[], input, wanted);

@@ -18,20 +18,20 @@ fn rows_after_the_version(rt: HostRuntime) {
     let table = [
         (
             "version,2\ndeq,9\n",
-            "maltlink: row 2: NotAnArrival\n  row 2, field 1 (KIND): \"deq\" is no arrival; wanted is enq\n",
+            "maltlink: row 2: NotAnArrival\n  row 2, field 1 (KIND): \"deq\" isn't an arrival; expected enq\n",
         ),
         (
             "\n\"\"\nversion,2\n\ndeq,9\nenq,7,6,10.0.0.1,10.0.0.9,5000,443,1514,2\n",
-            "maltlink: row 2: NotAnArrival\n  row 2, field 1 (KIND): \"deq\" is no arrival; wanted is enq\n",
+            "maltlink: row 2: NotAnArrival\n  row 2, field 1 (KIND): \"deq\" isn't an arrival; expected enq\n",
         ),
         (
             "version,2\ndeq,9\nclose\n",
-            "maltlink: row 3: BadFieldCount\n  row 3: \"close\" has another number of fields; wanted is \
+            "maltlink: row 3: BadFieldCount\n  row 3: \"close\" has the wrong number of fields; expected \
 enq,MOMENT,PROTO,SRC,DST,SPORT,DPORT,LEN,ECN\n",
         ),
         (
             "\ndeq,9\n",
-            "maltlink: row 1: NotAnArrival\n  row 1, field 1 (KIND): \"deq\" is no arrival; wanted is enq\n",
+            "maltlink: row 1: NotAnArrival\n  row 1, field 1 (KIND): \"deq\" isn't an arrival; expected enq\n",
         ),
     ];
     for (input, wanted) in table {
@@ -46,17 +46,17 @@ fn rows_that_are_shown(rt: HostRuntime) {
     let table = [
         (
             "enq,0,6,10.0.0.1,10.0.0.9,5000,443,1514,2,7\n",
-            "maltlink: row 1: BadFieldCount\n  row 1: \"enq,0,6,10.0.0.1,10.0.0.9,5000,443,1514,2,7\" has another number of \
-fields; wanted is enq,MOMENT,PROTO,SRC,DST,SPORT,DPORT,LEN,ECN\n",
+            "maltlink: row 1: BadFieldCount\n  row 1: \"enq,0,6,10.0.0.1,10.0.0.9,5000,443,1514,2,7\" has the wrong number of \
+fields; expected enq,MOMENT,PROTO,SRC,DST,SPORT,DPORT,LEN,ECN\n",
         ),
         (
             "enq,0,6,20010db8000000000000000000000001,20010db8000000000000000000000002,5000,443,1514,2\n",
-            "maltlink: row 1: BadAddress\n  row 1, field 4 (SRC): \"20010db8000000000000000000000001\" is no address; \
-wanted is four numbers joined by dots, or after a row version,2 also 32 hexadecimal digits\n",
+            "maltlink: row 1: BadAddress\n  row 1, field 4 (SRC): \"20010db8000000000000000000000001\" isn't an address; \
+expected an IPv4 address such as 10.0.0.1, or after a row version,2 an IPv6 address of 32 hexadecimal digits\n",
         ),
         (
             "#enq,0\nenq,0,6,10.0.0.1,10.0.0.9,5000,443,1514,2\n",
-            "maltlink: row 1: BadKind\n  row 1, field 1 (KIND): \"#enq\" is no kind of row; wanted is enq\n",
+            "maltlink: row 1: BadKind\n  row 1, field 1 (KIND): \"#enq\" isn't a kind of row; expected enq\n",
         ),
     ];
     for (input, wanted) in table {
@@ -77,7 +77,7 @@ fn a_late_row_is_shown(rt: HostRuntime) {
         .push_str("enq,0,6,10.0.0.1,10.0.0.300,5000,443,1514,2\n")
         .expect(&rt, "memory");
     let wanted =
-        "maltlink: row 100001: BadAddress\n  row 100001, field 5 (DST): \"10.0.0.300\" is no address of the kind \
-of SRC; wanted is four numbers joined by dots, or after a row version,2 also 32 hexadecimal digits\n";
+        "maltlink: row 100001: BadAddress\n  row 100001, field 5 (DST): \"10.0.0.300\" isn't an address of the kind \
+of SRC; expected an IPv4 address such as 10.0.0.1, or after a row version,2 an IPv6 address of 32 hexadecimal digits\n";
     reports(&rt, &input, wanted);
 }

@@ -4,9 +4,9 @@ use crate::calls::called;
 use journal_core::{EventList, StepList};
 use link_command::read_arrivals;
 use link_core::{Arrival, Link, LinkFields, run_fifo_to_end, run_link_to_end};
-use link_picture::picture_text;
+use link_picture::{Settings, picture_text};
 use link_report::{MAX_EVENTS, RunEvents, flows_text, packets_text, series_text, steps_text};
-use packet_core::{Seed, read_params};
+use packet_core::{Params, Seed, read_params};
 use std::process::Abort;
 
 /// The rate of the link, in bits a second.
@@ -94,6 +94,17 @@ fn written<R: Abort + AllocGlobal>(rt: &R, table: Table, with_fifo: bool, text: 
     output
 }
 
+/// The settings that a picture of such a run shows.
+fn settings(params: Params) -> Settings {
+    Settings {
+        rate: RATE,
+        overhead: 0,
+        mpu: 0,
+        every: EVERY,
+        params,
+    }
+}
+
 /// The same from the journals of the run, and from its steps.
 fn of_journals<R: Abort + AllocGlobal>(
     rt: &R,
@@ -143,7 +154,7 @@ fn of_journals<R: Abort + AllocGlobal>(
         Table::Packets => packets_text(alloc, events, fifo),
         Table::Series => series_text(alloc, EVERY, events, fifo),
         Table::Steps => steps_text(alloc, engine.steps()),
-        Table::Svg => picture_text(alloc, RATE, EVERY, events, fifo),
+        Table::Svg => picture_text(alloc, &settings(params), events, fifo),
     };
     made.expect(rt, "memory")
 }

@@ -1,5 +1,5 @@
-//! The form of pictures: elements that are closed, points within the picture, and what is there for no, one, ten and a
-//! thousand flows.
+//! The form of pictures: elements that are closed, points within the picture, and what is there for no, one, ten and
+//! three thousand flows.
 
 use crate::journals::Fate::{Lost, Sent};
 use crate::journals::{Given, has_all, journal, picture};
@@ -28,8 +28,8 @@ fn is_balanced<R: Abort + AllocGlobal>(rt: &R, text: &str) -> bool {
     open.is_empty()
 }
 
-/// All points of lines lie in the panels: 80 to 690 pixels from the left, 64 to 758 from above. It answers how many
-/// lines there are.
+/// All points of lines lie in the panels: 80 to 690 pixels from the left, 90 to 784 from above. It returns how many lines
+/// there are.
 fn lines_in_panels<R: Abort>(rt: &R, text: &str) -> usize {
     let mut lines = 0usize;
     for part in text.split("points=\"").skip(1) {
@@ -40,7 +40,7 @@ fn lines_in_panels<R: Abort>(rt: &R, text: &str) -> usize {
             let x: u64 = x.parse().ok().expect(rt, "a number");
             let y: u64 = y.parse().ok().expect(rt, "a number");
             assert!(rt; 80 <= x && x <= 690, "{x}");
-            assert!(rt; 64 <= y && y <= 758, "{y}");
+            assert!(rt; 90 <= y && y <= 784, "{y}");
         }
     }
     lines
@@ -63,7 +63,8 @@ fn flows<R: Abort + AllocGlobal>(rt: &R, count: u16) -> Vec<Given> {
     packets
 }
 
-/// One flow has one colour, one tick for its loss, and no dashes without another queue.
+/// One flow has one colour and one tick for its drop. Without another queue the link's rate alone is dashed, in its panel
+/// and in the legend.
 #[test]
 fn one_flow(rt: HostRuntime) {
     let text = picture(&rt, &journal(&rt, &flows(&rt, 1)), None);
@@ -73,12 +74,14 @@ fn one_flow(rt: HostRuntime) {
         &rt,
         &text,
         &[
-            "<path d=\"M80 786v3\" stroke=\"#0072b2\" stroke-width=\"2\"/>",
+            "<path d=\"M80 872v3\" stroke=\"#0072b2\" stroke-width=\"2\"/>",
             ">0: udp 10.0.0.1:5000</text>",
-            ">fq_codel: p50 10 us, p99 5.0 ms, 1 lost</text>",
+            ">fq_codel: p50 10 us, p99 5.0 ms</text>",
+            ">drops: 0 CoDel, 1 overflow; CE: 0</text>",
         ],
     );
-    assert!(rt; !text.contains("dash"));
+    assert_eq!(rt; text.split("stroke-dasharray").skip(1).count(), 2);
+    assert!(rt; !text.contains("fifo"));
     assert!(rt; !text.contains("#d55e00"));
 }
 
@@ -95,20 +98,23 @@ fn ten_flows(rt: HostRuntime) {
         &[
             ">5: udp 10.0.0.1:5000</text>",
             ">to 10.0.0.2:5</text>",
-            ">the other 4</text>",
-            "stroke=\"#777777\" stroke-width=\"1.5\" stroke-dasharray=\"5 3\"",
-            "<path d=\"M80 830v3\" stroke=\"#777777\" stroke-width=\"2\"/>",
-            ">fq_codel: p50 100 us, p99 5.0 ms, 4 lost</text>",
+            ">others (4)</text>",
+            "stroke=\"#777777\" stroke-width=\"2\" points=",
+            "stroke=\"#444444\" stroke-width=\"1.3\" stroke-dasharray=\"1 2\" points=",
+            "<path d=\"M80 942v3\" stroke=\"#777777\" stroke-width=\"2\"/>",
+            ">fq_codel: p50 100 us, p99 5.0 ms</text>",
+            ">drops: 0 CoDel, 4 overflow; CE: 0</text>",
+            ">fifo: p50 100 us, p99 5.0 ms, 4 drops</text>",
         ],
     );
     assert!(rt; !text.contains(">6: udp"));
 }
 
-/// Of a thousand flows the one with most packets has a name, wherever it came. The picture is no longer for that.
+/// Of three thousand flows the one with most packets has a name, wherever it came. The picture is no longer for that.
 #[test]
-fn thousand_flows(rt: HostRuntime) {
-    let mut packets = flows(&rt, 1_000);
-    let late = Given(99_900, 999, 100, Sent(200_000));
+fn three_thousand_flows(rt: HostRuntime) {
+    let mut packets = flows(&rt, 3_000);
+    let late = Given(299_900, 2_999, 100, Sent(400_000));
     packets.push(late).ok().expect(&rt, "memory");
     let text = picture(&rt, &journal(&rt, &packets), None);
     assert!(rt; is_balanced(&rt, &text));
@@ -117,17 +123,17 @@ fn thousand_flows(rt: HostRuntime) {
         &rt,
         &text,
         &[
-            ">999: udp 10.0.0.1:5000</text>",
-            ">to 10.0.0.2:999</text>",
+            ">2999: udp 10.0.0.1:5000</text>",
+            ">to 10.0.0.2:2999</text>",
             ">4: udp",
-            ">the other 994</text>",
+            ">others (2994)</text>",
         ],
     );
     assert!(rt; !text.contains(">5: udp"));
     assert!(rt; text.len() < 60_000);
 }
 
-/// Times count from the first bin, and the picture says from when that is, be it less than a second.
+/// Times count from the first bin, and the axis's name says when that is, be it less than a second.
 #[test]
 fn late_start(rt: HostRuntime) {
     let late = [Given(1_700_000_000_000_900, 1, 100, Sent(1_700_000_000_003_000))];
@@ -135,21 +141,14 @@ fn late_start(rt: HostRuntime) {
     has_all(
         &rt,
         &text,
-        &[
-            ">Times count from the moment 1700000000000000 us.</text>",
-            ">3000 us</text>",
-        ],
+        &[">time after 1700000000000000 us</text>", ">3000 us</text>"],
     );
     let soon = [Given(1_500, 1, 100, Sent(1_500))];
     let text = picture(&rt, &journal(&rt, &soon), None);
-    has_all(
-        &rt,
-        &text,
-        &[">Times count from the moment 1000 us.</text>"],
-    );
+    has_all(&rt, &text, &[">time after 1000 us</text>"]);
 }
 
-/// A wait of a second or more is written in seconds. Of a flow of which nothing was sent the losses are told.
+/// A delay of a second or more is in seconds. A flow of which nothing was sent has its drops.
 #[test]
 fn long_waits_and_lost_flows(rt: HostRuntime) {
     let packets = [
@@ -158,19 +157,28 @@ fn long_waits_and_lost_flows(rt: HostRuntime) {
         Given(0, 53, 100, Lost(6)),
     ];
     let parts = [
-        ">fq_codel: p50 1.5 s, p99 1.5 s, 0 lost</text>",
-        ">fq_codel: none sent, 2 lost</text>",
+        ">fq_codel: p50 1.5 s, p99 1.5 s</text>",
+        ">fq_codel: none sent</text>",
+        ">drops: 0 CoDel, 2 overflow; CE: 0</text>",
     ];
     has_all(&rt, &picture(&rt, &journal(&rt, &packets), None), &parts);
 }
 
-/// A scale ends near the greatest rate, and not at that of the link: 100 bytes in a millisecond are 800,000 bits a second.
+/// The scale of rates goes from the least rate to that of the link: 100 and 10 bytes in a millisecond are 800,000 and 80,000
+/// bits per second. From 10 kbit/s, 13,538, to an octave above 10 Mbit/s, 24,772, they are 6,456 and 3,072 of 11,234 steps.
 #[test]
 fn hardly_used(rt: HostRuntime) {
     let packets = [Given(0, 443, 100, Sent(0)), Given(0, 443, 10, Sent(1_000))];
     let text = picture(&rt, &journal(&rt, &packets), None);
-    has_all(&rt, &text, &[">800 kbit/s</text>", ">600 kbit/s</text>"]);
-    assert!(rt; !text.contains("1000 kbit/s"));
+    let parts = [
+        "points=\"80,675 690,733\"",
+        ">&#8804; 10k</text>",
+        ">50k</text>",
+        ">10M</text>",
+        ">20M</text>",
+    ];
+    has_all(&rt, &text, &parts);
+    assert!(rt; !text.contains(">50M</text>"));
 }
 
 /// Seven steps of time end at the last bin, and each has its text.

@@ -3,9 +3,9 @@
 ghost use Rattle.std.specs.Prelude.{◌≤◌, length};
 
 use journal_core::{Cause, Event};
-use link_picture::{picture_text, picture_text_of};
+use link_picture::{Settings, picture_text, picture_text_of};
 use link_report::{MAX_EVENTS, Packets};
-use packet_core::{Ecn, Packet};
+use packet_core::{Ecn, Packet, Params};
 use std::process::Abort;
 use test_support::tuple;
 
@@ -13,7 +13,12 @@ use test_support::tuple;
 #[derive(Clone, Copy)]
 pub(crate) enum Fate {
     Sent(u64),
+    /// Sent with CoDel's mark.
+    Marked(u64),
+    /// Dropped because a queue was full.
     Lost(u64),
+    /// Dropped by CoDel.
+    Dropped(u64),
 }
 
 /// A packet: when it came, to which port, how long it is, and what became of it.
@@ -43,10 +48,21 @@ pub(crate) fn journal<R: Abort + AllocGlobal>(rt: &R, packets: &[Given]) -> Vec<
                 ecn: Ecn::NotEct,
                 mark: journal_core::Mark::NoMark,
             },
+            Fate::Marked(moment) => Event::Sent {
+                id,
+                moment,
+                ecn: Ecn::Ce,
+                mark: journal_core::Mark::CodelMark,
+            },
             Fate::Lost(moment) => Event::Dropped {
                 id,
                 moment,
                 cause: Cause::Overflow,
+            },
+            Fate::Dropped(moment) => Event::Dropped {
+                id,
+                moment,
+                cause: Cause::Codel,
             },
         };
         events.push(event).ok().expect(rt, "memory");
@@ -63,6 +79,17 @@ fn packets_of<R: Abort + AllocGlobal>(rt: &R, events: &[Event]) -> Packets
     packets
 }
 
+/// The settings of a run at that rate, in bits per second, in bins of a millisecond. The rest is as by default.
+pub(crate) fn settings(rate: u64) -> Settings {
+    Settings {
+        rate,
+        overhead: 0,
+        mpu: 0,
+        every: 1_000,
+        params: Params::standard(),
+    }
+}
+
 /// The picture of a link of 10 Mbit/s with that journal, in bins of a millisecond. That of the journal's packets is the
 /// same.
 pub(crate) fn picture<R: Abort + AllocGlobal>(
@@ -74,14 +101,15 @@ pub(crate) fn picture<R: Abort + AllocGlobal>(
     if let Some(fifo) = fifo {
         assert!(rt; fifo.len() <= MAX_EVENTS);
     }
-    let text = picture_text(rt.alloc(), 10_000_000, 1_000, events, fifo).expect(rt, "memory");
+    let settings = settings(10_000_000);
+    let text = picture_text(rt.alloc(), &settings, events, fifo).expect(rt, "memory");
     let packets = packets_of(rt, events);
     let same = match fifo {
         Some(fifo) => {
             let others = packets_of(rt, fifo);
-            picture_text_of(rt.alloc(), 10_000_000, 1_000, &packets, Some(&others))
+            picture_text_of(rt.alloc(), &settings, &packets, Some(&others))
         }
-        None => picture_text_of(rt.alloc(), 10_000_000, 1_000, &packets, None),
+        None => picture_text_of(rt.alloc(), &settings, &packets, None),
     };
     assert_eq!(rt; same.expect(rt, "memory").as_slice(), text.as_slice());
     String::from_utf8(text).ok().expect(rt, "a text")

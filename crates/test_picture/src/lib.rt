@@ -16,6 +16,8 @@ mod long_run;
 #[cfg(test)]
 mod numbers;
 #[cfg(test)]
+mod settings;
+#[cfg(test)]
 mod texts;
 #[cfg(test)]
 mod worked;

@@ -45,26 +45,46 @@ fn widths_of_bins(rt: HostRuntime) {
     }
 }
 
-/// Five lines above 0 at most.
+/// A scale begins at the power of ten below the least rate, which counts as a tenth of the greatest if it is above that, and
+/// as its millionth if it is below that. 2^59 and 752 of 1,024 parts of it are near 10^18.
 #[test]
 fn scales_of_rates(rt: HostRuntime) {
-    for (most, top, step) in [
-        (0, 1, 1),
-        (5, 5, 1),
-        (6, 6, 2),
-        (10_000_000, 10_000_000, 2_000_000),
-        (12_112_000, 15_000_000, 5_000_000),
-        (40_000_000_000, 40_000_000_000, 10_000_000_000),
-        (1_000_000_000_000, 1_000_000_000_000, 200_000_000_000),
+    for (least, most, begin, low, high) in [
+        (0, 0, 1, 0, 1_024),
+        (5, 5, 1, 0, 3_328),
+        (10_000_000, 10_000_000, 1_000_000, 20_385, 24_772),
+        (85_600, 10_000_000, 10_000, 13_538, 24_772),
+        (1, 10_000_000, 10, 3_328, 24_772),
         (
-            400_000_000_000_000_000,
-            400_000_000_000_000_000,
-            100_000_000_000_000_000,
+            u64::MAX,
+            u64::MAX,
+            1_000_000_000_000_000_000,
+            61_168,
+            66_559,
         ),
     ] {
-        let scale = RateScale::upto(most);
-        assert_eq!(rt; scale.top, top, "for {most}");
-        assert_eq!(rt; scale.step, step);
+        let scale = RateScale::of(least, most);
+        assert_eq!(rt; scale.least, begin, "for {least} and {most}");
+        assert_eq!(rt; scale.low, low);
+        assert_eq!(rt; scale.high, high);
+    }
+}
+
+/// A scale of rates has marks as one of delays has: also twice and five times the powers of ten, unless it is long.
+#[test]
+fn marks_of_rates(rt: HostRuntime) {
+    let table: [(u64, &[u64]); 2] = [
+        (
+            1_000_000,
+            &[1_000_000, 2_000_000, 5_000_000, 10_000_000, 20_000_000],
+        ),
+        (1, &[10, 100, 1_000, 10_000, 100_000, 1_000_000, 10_000_000]),
+    ];
+    for (least, wanted) in table {
+        let marks = RateScale::of(least, 10_000_000)
+            .marks(rt.alloc())
+            .expect(&rt, "memory");
+        assert_eq!(rt; marks.as_slice(), wanted, "from {least}");
     }
 }
 

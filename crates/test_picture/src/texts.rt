@@ -109,7 +109,7 @@ fn long_names_in_the_legend(rt: HostRuntime) {
         {
             let (_, upto) = extent(text);
             assert!(rt;
-                upto <= 1_010 && text.y <= 850,
+                upto <= 1_010 && text.y <= 970,
                 "{} ends at {upto}",
                 text.signs
             );
@@ -123,20 +123,20 @@ fn long_names_in_the_legend(rt: HostRuntime) {
             last = text.y;
         }
     }
-    // Two queues, six rows for each of six five-tuples, and four for the others.
-    assert_eq!(rt; rows, 42);
+    // Two queues, the link's rate, seven rows for each of six five-tuples, and four for the others.
+    assert_eq!(rt; rows, 49);
     let parts = [
         ">0: icmpv6 [2001:fdb8:1234:ab56:</text>",
-        "<text x=\"748\" y=\"128\" text-anchor=\"start\">789a:bcde:f011:cc00]:50000</text>",
+        "<text x=\"748\" y=\"170\" text-anchor=\"start\">789a:bcde:f011:cc00]:50000</text>",
         ">to [2001:fdb8:1234:ab56:789a:bcde:</text>",
         ">f011:ccff]:60000</text>",
     ];
     has_all(&rt, &text, &parts);
 }
 
-/// A row of waits with losses of four digits begins at the left edge of the legend, so that it ends in the picture.
+/// A long row of numbers begins at the left edge of the legend, so that it ends in the picture.
 #[test]
-fn many_losses_in_the_legend(rt: HostRuntime) {
+fn long_rows_in_the_legend(rt: HostRuntime) {
     let mut packets = Vec::new(rt.alloc());
     for _packet in 0..1_000 {
         packets
@@ -145,12 +145,17 @@ fn many_losses_in_the_legend(rt: HostRuntime) {
             .expect(&rt, "memory");
     }
     packets
-        .push(Given(0, 443, 100, Sent(999_900)))
+        .push(Given(0, 443, 100, Sent(999_999_900_000)))
         .ok()
         .expect(&rt, "memory");
-    let wanted = "<text x=\"708\" y=\"102\" text-anchor=\"start\" font-size=\"11\" fill=\"#444\">\
-        fq_codel: p50 999.9 ms, p99 999.9 ms, 1000 lost</text>";
-    has_all(&rt, &picture(&rt, &journal(&rt, &packets), None), &[wanted]);
+    let wanted = [
+        "<text x=\"736\" y=\"186\" text-anchor=\"start\" font-size=\"11\" fill=\"#444\">\
+        fq_codel: p50 999999.9 s, p99 999999.9 s</text>",
+        "<text x=\"708\" y=\"218\" text-anchor=\"start\" font-size=\"11\" fill=\"#444\">\
+        fifo: p50 999999.9 s, p99 999999.9 s, 1000 drops</text>",
+    ];
+    let events = journal(&rt, &packets);
+    has_all(&rt, &picture(&rt, &events, Some(&events)), &wanted);
 }
 
 /// The texts of waits below the distribution keep apart, however long the longest wait is: from a millisecond to some
@@ -167,7 +172,7 @@ fn waits_below_the_distribution(rt: HostRuntime) {
         let (mut texts, mut end) = (0u32, 0u64);
         for element in text.split("<text ").skip(1) {
             if let Some(text) = text_of(element)
-                && text.y == 524
+                && text.y == 550
             {
                 let (from, upto) = extent(text);
                 assert!(rt;
@@ -190,15 +195,15 @@ fn texts_near_the_legend(rt: HostRuntime) {
     for (last, wanted) in [
         (
             62_500,
-            "<text x=\"674\" y=\"272\" text-anchor=\"end\">60 ms</text>",
+            "<text x=\"674\" y=\"298\" text-anchor=\"end\">60 ms</text>",
         ),
         (
             63_500,
-            "<text x=\"660\" y=\"272\" text-anchor=\"middle\">60 ms</text>",
+            "<text x=\"660\" y=\"298\" text-anchor=\"middle\">60 ms</text>",
         ),
         (
             70_500,
-            "<text x=\"694\" y=\"272\" text-anchor=\"end\">70 ms</text>",
+            "<text x=\"694\" y=\"298\" text-anchor=\"end\">70 ms</text>",
         ),
     ] {
         let packets = [Given(0, 443, 100, Sent(0)), Given(0, 443, 100, Sent(last))];
@@ -214,7 +219,7 @@ fn times_of_more_than_a_year(rt: HostRuntime) {
         Given(0, 443, 100, Sent(43_200_000_000_000)),
     ];
     let parts = [
-        "<text x=\"221\" y=\"272\" text-anchor=\"middle\">10000000 s</text>",
+        "<text x=\"221\" y=\"298\" text-anchor=\"middle\">10000000 s</text>",
         ">20000000 s</text>",
         ">30000000 s</text>",
         ">40000000 s</text>",

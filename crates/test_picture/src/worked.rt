@@ -36,17 +36,19 @@ fn longest_waits(rt: HostRuntime) {
         &rt,
         &text,
         &[
-            "stroke=\"#0072b2\" stroke-width=\"1.5\" points=\"80,254 147,99 215,99\"",
-            "stroke=\"#0072b2\" stroke-width=\"1.5\" stroke-dasharray=\"5 3\" points=\"80,254 147,112 215,105\"",
-            "stroke=\"#d55e00\" stroke-width=\"1.5\" stroke-dasharray=\"5 3\" points=\"215,75 283,69\"",
-            "<circle cx=\"690\" cy=\"254\" r=\"2\" fill=\"#d55e00\" stroke=\"#d55e00\"/>",
-            "<circle cx=\"690\" cy=\"254\" r=\"2\" fill=\"none\" stroke=\"#d55e00\"/>",
+            "stroke=\"#0072b2\" stroke-width=\"2\" points=\"80,280 147,125 215,125\"",
+            "stroke=\"#004470\" stroke-width=\"1.3\" stroke-dasharray=\"5 3\" points=\"80,280 147,138 215,131\"",
+            "stroke=\"#8a3d00\" stroke-width=\"1.3\" stroke-dasharray=\"3 3\" points=\"215,101 283,95\"",
+            "<circle cx=\"690\" cy=\"280\" r=\"2\" fill=\"#d55e00\" stroke=\"#d55e00\"/>",
+            "<circle cx=\"690\" cy=\"280\" r=\"2\" fill=\"none\" stroke=\"#8a3d00\"/>",
         ],
     );
 }
 
-/// 1,514 bytes in a millisecond are 12,112,000 bits a second, 153 of 190 pixels up to 15 Mbit/s. The second five-tuple
-/// has 428, 0 .. 0 and 214 bytes from bin 1 to bin 9 over FQ-CoDel: 43 and 21 pixels.
+/// 1,514 bytes in a millisecond are 12,112,000 bits per second, and the least rate above 0 is that of 214 bytes, 1,712,000.
+/// A tenth of the greatest is less, so the scale goes from 1 Mbit/s, 20,385, to 24,006 and an octave more, 4,645 steps.
+/// 12,112,000 is 3,621 of them, 148 of 190 pixels. The second five-tuple has 428, 0 .. 0 and 214 bytes from bin 1 to bin 9
+/// over FQ-CoDel: 1,766 and 742 steps, 72 and 30 pixels. The link's rate is 3,363 steps and 137 pixels.
 #[test]
 fn throughput(rt: HostRuntime) {
     let fair = journal(&rt, &FAIR);
@@ -54,15 +56,18 @@ fn throughput(rt: HostRuntime) {
         &rt,
         &picture(&rt, &fair, None),
         &[
-            "points=\"80,605 147,605 215,605\"",
-            "points=\"147,715 215,758 283,758 351,758 418,758 486,758 554,758 622,758 690,737\"",
-            ">15 Mbit/s</text>",
-            ">10 Mbit/s</text>",
+            "points=\"80,636 147,636 215,636\"",
+            "points=\"147,712 215,784 283,784 351,784 418,784 486,784 554,784 622,784 690,754\"",
+            "<path d=\"M80 647h610\" stroke=\"#000000\" stroke-width=\"1\" stroke-dasharray=\"2 4\"/>",
+            "<text x=\"73\" y=\"788\" text-anchor=\"end\">&#8804; 1M</text>",
+            "<text x=\"73\" y=\"651\" text-anchor=\"end\">10M</text>",
+            ">20M</text>",
+            ">bit/s</text>",
         ],
     );
 }
 
-/// Of three waits the second is that of half, and the third that of 99 in 100.
+/// Of three delays the second is the median, and the third the 99th percentile.
 #[test]
 fn legend(rt: HostRuntime) {
     let (fair, plain) = (journal(&rt, &FAIR), journal(&rt, &PLAIN));
@@ -70,14 +75,16 @@ fn legend(rt: HostRuntime) {
         &rt,
         &picture(&rt, &fair, Some(&plain)),
         &[
-            "<title>fq_codel and a fifo (dashed) before a link of 10 Mbit/s: 6 packets</title>",
+            "<title>fq_codel and fifo (dashed) before a 10 Mbit/s link: 6 packets</title>",
             ">0: udp 10.0.0.1:5000</text>",
             ">to 10.0.0.2:443</text>",
-            ">fq_codel: p50 1.5 ms, p99 1.5 ms, 0 lost</text>",
-            ">fifo: p50 1.2 ms, p99 1.3 ms, 0 lost</text>",
+            ">the link's rate, 10 Mbit/s</text>",
+            ">fq_codel: p50 1.5 ms, p99 1.5 ms</text>",
+            ">drops: 0 CoDel, 0 overflow; CE: 0</text>",
+            ">fifo: p50 1.2 ms, p99 1.3 ms, 0 drops</text>",
             ">1: udp 10.0.0.1:5000</text>",
-            ">fq_codel: p50 170 us, p99 1.1 ms, 0 lost</text>",
-            ">fifo: p50 2.3 ms, p99 2.5 ms, 0 lost</text>",
+            ">fq_codel: p50 170 us, p99 1.1 ms</text>",
+            ">fifo: p50 2.3 ms, p99 2.5 ms, 0 drops</text>",
         ],
     );
 }

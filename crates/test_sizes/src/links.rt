@@ -4,7 +4,7 @@ use crate::sizes::{BELOW, LARGEST, SIZES, first, packet, params, size};
 use link_core::{
     Arrival, Link, LinkFields, run_fifo, run_fifo_with_recorder, run_link, run_link_with_recorders,
 };
-use link_picture::picture_text;
+use link_picture::{Settings, picture_text};
 use link_report::{
     Binned, Gathered, MAX_EVENTS, Packets, Queue, RunEvents, flows_text, packets_text,
     series_text_with_seed, steps_text,
@@ -145,7 +145,14 @@ fn pictures(rt: &(impl Abort + AllocGlobal), events: &[Event]) {
     let alloc = rt.alloc();
     assert!(rt; events.len() <= MAX_EVENTS);
     assert!(rt; series_text_with_seed(alloc, &SEED, EVERY, events, None).is_ok());
-    assert!(rt; picture_text(alloc, RATE, EVERY, events, None).is_ok());
+    let settings = Settings {
+        rate: RATE,
+        overhead: 0,
+        mpu: 0,
+        every: EVERY,
+        params: params(rt),
+    };
+    assert!(rt; picture_text(alloc, &settings, events, None).is_ok());
 }
 
 /// The same runs, of which packets are made as they are told.
