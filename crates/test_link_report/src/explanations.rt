@@ -209,8 +209,7 @@ write '{form}'{rest}"
         let words = ["--rate", "1mbit", word];
         refuses(&rt, &words, "", wanted.expect(&rt, "memory").as_str());
     }
-    let mtu =
-        "error: unexpected argument '--mtu' found\n  \"--mtu\": parameters have no dashes; \
+    let mtu = "error: unexpected argument '--mtu' found\n  \"--mtu\": parameters have no dashes; \
 write 'mtu 1514'\n\nUsage: maltlink --rate <RATE> --mpu <N> [PARAM]...\n\nFor more information, try '--help'.\n";
     refuses(&rt, &["--rate", "1mbit", "--mtu"], "", mtu);
 }
@@ -347,7 +346,8 @@ fn mistyped_parameters(rt: HostRuntime) {
         let words = ["--rate", "1mbit", word];
         refuses(&rt, &words, "", text.expect(&rt, "memory").as_str());
     }
-    let dashed = "error: unexpected argument '--quantom' found\n  \"--quantom\": unknown option; did you mean the \
+    let dashed =
+        "error: unexpected argument '--quantom' found\n  \"--quantom\": unknown option; did you mean the \
 parameter 'quantum', without dashes?\n\nUsage: maltlink --rate <RATE> [PARAM]...\n\nFor more information, try '--help'.\n";
     refuses(&rt, &["--rate", "1mbit", "--quantom", "5"], "", dashed);
 }
