@@ -121,8 +121,8 @@ deq,9\nenq,7,6,10.0.0.1,10.0.0.9,5000,443,1514,2\n",
         ),
         (
             "enq,5,6,10.0.0.1,10.0.0.9,5000,443,1514,2\nenq,4,6,10.0.0.1,10.0.0.9,5000,443,1514,2\ndeq,9\n",
-            "maltlink: row 2: Backwards\n  row 2, field 2 (MOMENT): \"4\" is earlier than the row before; wanted \
-is 0 to 576460752303423487, in microseconds, never decreasing\n",
+            "maltlink: row 2: Backwards\n  row 2, field 2 (MOMENT): \"4\" is earlier than the row before; expected \
+0 to 576460752303423487, in microseconds, never decreasing\n",
         ),
         (
             "deq,9\nenq,7,6,10.0.0.1,10.0.0.9,5000,443,1514,2\nclose\nenq\n",

@@ -77,7 +77,7 @@ fn a_late_row_is_shown(rt: HostRuntime) {
         .push_str("enq,0,6,10.0.0.1,10.0.0.300,5000,443,1514,2\n")
         .expect(&rt, "memory");
     let wanted =
-        "maltlink: row 100001: BadAddress\n  row 100001, field 5 (DST): \"10.0.0.300\" isn't an address of the kind \
-of SRC; expected an IPv4 address such as 10.0.0.1, or after a row version,2 an IPv6 address of 32 hexadecimal digits\n";
+        "maltlink: row 100001: BadAddress\n  row 100001, field 5 (DST): \"10.0.0.300\" isn't an address of the same \
+family as SRC; expected an IPv4 address such as 10.0.0.1, or after a row version,2 an IPv6 address of 32 hexadecimal digits\n";
     reports(&rt, &input, wanted);
 }

@@ -4,7 +4,7 @@ use crate::calls::{called, called_interrupted};
 use std::process::Abort;
 
 /// How many lines the page of the manual has.
-const PAGE_LINES: usize = 188;
+const PAGE_LINES: usize = 194;
 
 /// The version is its number and the toolchain, and help is the page of the manual.
 #[test]
@@ -73,7 +73,7 @@ fn is_whole<R: Abort>(rt: &R, text: &str) {
         "\nOPTIONS\n",
         "\nPARAMETERS\n",
         "\nTABLES\n",
-        "\nFAULTS\n",
+        "\nERRORS\n",
         "\nNOTES\n",
         "\nEXAMPLES\n",
         "\nEXIT STATUS\n",
@@ -82,7 +82,7 @@ fn is_whole<R: Abort>(rt: &R, text: &str) {
         rest = behind;
     }
     let last =
-        "    2   Something is wrong that was given, and nothing was written to standard\n        output.\n";
+        "    2   The command line or the input is wrong. Nothing was written to standard\n        output.\n";
     assert!(rt; rest.ends_with(last), "{rest}");
     assert_eq!(rt; text.lines().count(), PAGE_LINES);
 }
