@@ -249,11 +249,11 @@ static void count_bytes(void)
 		const char *params;
 		size_t kib;
 	} of[] = {
-		{ "limit 1", 490 },
-		{ "limit 1000", 592 },
-		{ "", 1530 },
-		{ "limit 1000 flows 65536", 31399 },
-		{ "limit 1048576", 106986 },
+		{ "limit 1", 498 },
+		{ "limit 1000", 600 },
+		{ "", 1538 },
+		{ "limit 1000 flows 65536", 31919 },
+		{ "limit 1048576", 106994 },
 	};
 
 	left = -1;
