@@ -249,11 +249,11 @@ static void count_bytes(void)
 		const char *params;
 		size_t kib;
 	} of[] = {
-		{ "limit 1", 494 },
-		{ "limit 1000", 596 },
-		{ "", 1534 },
-		{ "limit 1000 flows 65536", 31663 },
-		{ "limit 1048576", 106990 },
+		{ "limit 1", 490 },
+		{ "limit 1000", 592 },
+		{ "", 1530 },
+		{ "limit 1000 flows 65536", 31399 },
+		{ "limit 1048576", 106986 },
 	};
 
 	left = -1;

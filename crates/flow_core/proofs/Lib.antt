@@ -3,7 +3,6 @@ pub mod ChainLemmas
 pub mod FlowNumberLemmas
 pub mod MoveLemmas
 pub mod NodeLemmas
-pub mod PairLemmas
 pub mod PlacedLemmas
 pub mod ReadLemmas
 pub mod RingLemmas

@@ -1,5 +1,5 @@
--- Nodes and the places below them.
-use Rattle.std.proofs.Common.{◌≡◌, ℕ, zero, suc, ◌+◌, ◌-◌, ◌*◌, ◌/◌, ◌%◌, ◌^◌, ◌<◌, ◌≤◌, inl, inr, refl, sym, ap, ◌∙◌, zero-add, arith}
+-- Nodes and the flows below them.
+use Rattle.std.proofs.Common.{◌≡◌, ℕ, zero, suc, ◌+◌, ◌-◌, ◌*◌, ◌/◌, ◌%◌, ◌^◌, ◌<◌, ◌≤◌, min, inl, inr, refl, sym, ap, ◌∙◌, zero-add, arith}
 use Rattle.std.proofs.Math.Nat.{suc-add, pow-suc}
 use Rattle.std.proofs.Math.Pow.{pow_mono}
 use Rattle.std.proofs.lemmas.Bool.{cases_lt}
@@ -66,42 +66,42 @@ to_root (suc most) node few some =
       | inr more ↦ let up = to_root most (node / 2) (omega arith) (omega arith) in (suc up.0, up.1)
     ]
 
-module _ {leaves place : ℕ} where
-  pub below_root : place < leaves → IsBelow leaves 1 place
-  below_root within = let up = to_root (leaves + place) (leaves + place) (omega arith) (omega arith) in record { within = within; levels = up.0; meets = up.1 }
+module _ {leaves flow : ℕ} where
+  pub below_root : flow < leaves → IsBelow leaves 1 flow
+  below_root within = let up = to_root (leaves + flow) (leaves + flow) (omega arith) (omega arith) in record { within = within; levels = up.0; meets = up.1 }
 
-  -- a place below a node is below the one above it
-  abbrev pub below_next : {node : ℕ} → IsBelow leaves node place → IsBelow leaves (node / 2) place
+  -- a flow below a node is below the one above it
+  abbrev pub below_next : {node : ℕ} → IsBelow leaves node flow → IsBelow leaves (node / 2) flow
   below_next below = record {
     within = below.within;
     levels = suc below.levels;
-    meets = above_next below.levels (leaves + place) ∙ ap (λ (n : ℕ). n / 2) below.meets;
+    meets = above_next below.levels (leaves + flow) ∙ ap (λ (n : ℕ). n / 2) below.meets;
   }
 
-  -- a place below an inner node is below one of the two nodes under it
-  pub below_child : {node : ℕ} → node < leaves → IsBelow leaves node place → (child : ℕ) × (child / 2 ≡ node) × IsBelow leaves child place
+  -- a flow below an inner node is below one of the two nodes under it
+  pub below_child : {node : ℕ} → node < leaves → IsBelow leaves node flow → (child : ℕ) × (child / 2 ≡ node) × IsBelow leaves child flow
   below_child {node} inner below = by_level below.levels below.meets
     where
-      by_level : (h : ℕ) → node_above h (leaves + place) ≡ node → (child : ℕ) × (child / 2 ≡ node) × IsBelow leaves child place
+      by_level : (h : ℕ) → node_above h (leaves + flow) ≡ node → (child : ℕ) × (child / 2 ≡ node) × IsBelow leaves child flow
       by_level zero meets = absurd (omega arith)
       by_level (suc h) meets =
-          (node_above h (leaves + place), sym (above_next h (leaves + place)) ∙ meets, record { within = below.within; levels = h; meets = refl })
+          (node_above h (leaves + flow), sym (above_next h (leaves + flow)) ∙ meets, record { within = below.within; levels = h; meets = refl })
 
-  -- a leaf has no other place
-  pub leaf_has_one : {other : ℕ} → IsBelow leaves (leaves + place) other → other ≡ place
+  -- a leaf has no other flow
+  pub leaf_has_one : {other : ℕ} → IsBelow leaves (leaves + flow) other → other ≡ flow
   leaf_has_one {other} below = by_level below.levels below.meets
     where
-      by_level : (h : ℕ) → node_above h (leaves + other) ≡ leaves + place → other ≡ place
+      by_level : (h : ℕ) → node_above h (leaves + other) ≡ leaves + flow → other ≡ flow
       by_level zero meets = omega arith
       by_level (suc h) meets = absurd (omega (arith, node_above-le h ((leaves + other) / 2), below.within))
 
-  module _ {node above : ℕ} (below : IsBelow leaves node place) (also : IsBelow leaves above place) (less : above < node) where
+  module _ {node above : ℕ} (below : IsBelow leaves node flow) (also : IsBelow leaves above flow) (less : above < node) where
     up : (m : ℕ) × (node_above m (node / 2) ≡ above)
     up =
-        let found = higher below.levels also.levels (leaves + place) (omega (arith, below.meets, also.meets, less)) in
+        let found = higher below.levels also.levels (leaves + flow) (omega (arith, below.meets, also.meets, less)) in
         (found.0, ap (λ (n : ℕ). node_above found.0 (n / 2)) (sym below.meets) ∙ found.1 ∙ also.meets)
 
-    -- of two nodes over the place, what is below the one after the greater is below the lesser
+    -- of two nodes over the flow, what is below the one after the greater is below the lesser
     pub below_both : {other : ℕ} → IsBelow leaves (node / 2) other → IsBelow leaves above other
     below_both {other} next = record {
       within = next.within;
@@ -113,65 +113,67 @@ module _ {leaves place : ℕ} where
     pub none_between : above ≤ node / 2
     none_between = omega (arith, node_above-le up.0 (node / 2), up.1)
 
--- a place below a node is not below the other one under the same node
-pub not_beside : {leaves place node : ℕ} → 2 ≤ node → IsBelow leaves node place → IsBelow leaves (beside node) place → ⊥
-not_beside {leaves} {place} {node} some below also =
+-- a flow below a node is not below the other one under the same node
+pub not_beside : {leaves flow node : ℕ} → 2 ≤ node → IsBelow leaves node flow → IsBelow leaves (beside node) flow → ⊥
+not_beside {leaves} {flow} {node} some below also =
     elim (cases_lt node (beside node)) [
       | inl less ↦ omega (arith, none_between also below less)
       | inr most ↦ omega (arith, none_between below also (omega arith))
     ]
 
--- a node over a place has no greater number than the place's leaf
-pub below_leaf : {leaves node place : ℕ} → IsBelow leaves node place → node ≤ leaves + place
-below_leaf {leaves} {node} {place} below = omega (arith, node_above-le below.levels (leaves + place), below.meets)
+-- where the node so many levels above one is less than that above another one, so is the one
+node_above-less : (h a b : ℕ) → node_above h a < node_above h b → a < b
+node_above-less zero a b less = less
+node_above-less (suc h) a b less = let half = node_above-less h (a / 2) (b / 2) less in omega arith
+
+-- of two flows below the two nodes under one, that below the left node has the lesser number
+pub margin_beside : {leaves node a b : ℕ} (levels : ℕ) → leaves ≡ 2 ^ levels → 2 ≤ node → IsBelow leaves node a → IsBelow leaves (beside node) b → min 1 (a - b) ≡ node % 2
+margin_beside {leaves} {node} {a} {b} levels doubled some own other =
+    let twice = pow-suc 2 levels in
+    let one = below_next own in
+    let also = below_next other in
+    let same =
+    same_level (suc own.levels) (suc other.levels) levels (leaves + a) (leaves + b) (omega arith) (omega (arith, own.within)) (omega arith) (omega (arith, other.within))
+    (omega (arith, one.meets)) (omega (arith, one.meets, also.meets)) in
+    let height : other.levels ≡ own.levels = omega (arith, same) in
+    let meets : node_above own.levels (leaves + b) ≡ beside node = ap (λ (h : ℕ). node_above h (leaves + b)) (sym height) ∙ other.meets in
+    elim (cases_lt (beside node) node) [
+      | inl left ↦ let less = node_above-less own.levels (leaves + b) (leaves + a) (omega (arith, meets, own.meets)) in omega arith
+      | inr right ↦ let less = node_above-less own.levels (leaves + a) (leaves + b) (omega (arith, meets, own.meets)) in omega arith
+    ]
+
+-- a node over a flow has no greater number than the flow's leaf
+pub below_leaf : {leaves node flow : ℕ} → IsBelow leaves node flow → node ≤ leaves + flow
+below_leaf {leaves} {node} {flow} below = omega (arith, node_above-le below.levels (leaves + flow), below.meets)
 
 module _ {leaves node height : ℕ} (levels : ℕ) (doubled : leaves ≡ 2 ^ levels) (some : 1 ≤ node) (above : IsAbove leaves node height) where
   -- a node is no more levels above a leaf than the tree has
   pub height_within : height ≤ levels
   height_within =
       let twice = pow-suc 2 levels in
-      levels_within levels height (leaves + above.place) (omega (arith, above.within)) (omega (arith, above.meets))
+      levels_within levels height (leaves + above.flow) (omega (arith, above.within)) (omega (arith, above.meets))
 
-  -- the leaf of a place below the node, shifted by the node's levels, is the node
-  pub shift_below : {place : ℕ} → IsBelow leaves node place → (leaves + place) / 2 ^ height ≡ node
-  shift_below {place} below =
+  -- the leaf of a flow below the node, shifted by the node's levels, is the node
+  pub shift_below : {flow : ℕ} → IsBelow leaves node flow → (leaves + flow) / 2 ^ height ≡ node
+  shift_below {flow} below =
       let twice = pow-suc 2 levels in
       let same =
-      same_level height below.levels levels (leaves + above.place) (leaves + place) (omega arith) (omega (arith, above.within)) (omega arith) (omega (arith, below.within))
+      same_level height below.levels levels (leaves + above.flow) (leaves + flow) (omega arith) (omega (arith, above.within)) (omega arith) (omega (arith, below.within))
       (omega (arith, above.meets)) (above.meets ∙ sym below.meets) in
-      shift_above height (leaves + place) ∙ ap (λ (h : ℕ). node_above h (leaves + place)) same ∙ below.meets
+      shift_above height (leaves + flow) ∙ ap (λ (h : ℕ). node_above h (leaves + flow)) same ∙ below.meets
 
-  -- a node below it is a level less above a leaf
-  pub above_child : {place child : ℕ} → IsBelow leaves child place → child / 2 ≡ node → IsAbove leaves child (height - 1)
-  above_child {place} below is =
-      let twice = pow-suc 2 levels in
-      let next = below_next below in
-      let same =
-      same_level height (suc below.levels) levels (leaves + above.place) (leaves + place) (omega arith) (omega (arith, above.within)) (omega arith) (omega (arith, below.within))
-      (omega (arith, above.meets)) (above.meets ∙ sym is ∙ sym next.meets) in
-      let less : height - 1 ≡ below.levels = omega (arith, same) in
-      record { place = place; within = below.within; meets = ap (λ (h : ℕ). node_above h (leaves + place)) less ∙ below.meets }
-
--- an inner node is above a leaf
-pub inner_height : {leaves node height : ℕ} → IsAbove leaves node height → node < leaves → 1 ≤ height
-inner_height {leaves} {node} {height} above inner = by_height height above.meets
-  where
-    by_height : (h : ℕ) → node_above h (leaves + above.place) ≡ node → 1 ≤ h
-    by_height zero meets = absurd (omega (arith, meets))
-    by_height (suc h) meets = omega arith
-
--- and a place whose leaf is shifted to it is below it
-abbrev pub below_shift : {leaves node place : ℕ} (height : ℕ) → place < leaves → (leaves + place) / 2 ^ height ≡ node → IsBelow leaves node place
-below_shift {leaves} {node} {place} height within meets = record { within = within; levels = height; meets = sym (shift_above height (leaves + place)) ∙ meets }
+-- and a flow whose leaf is shifted to it is below it
+abbrev pub below_shift : {leaves node flow : ℕ} (height : ℕ) → flow < leaves → (leaves + flow) / 2 ^ height ≡ node → IsBelow leaves node flow
+below_shift {leaves} {node} {flow} height within meets = record { within = within; levels = height; meets = sym (shift_above height (leaves + flow)) ∙ meets }
 
 -- the node after one is a level more above a leaf
 pub above_on : {leaves node height : ℕ} → IsAbove leaves node height → IsAbove leaves (node / 2) (height + 1)
 above_on {leaves} {node} {height} above =
     let more : height + 1 ≡ suc height = omega arith in
     record {
-      place = above.place;
+      flow = above.flow;
       within = above.within;
-      meets = ap (λ (h : ℕ). node_above h (leaves + above.place)) more ∙ above_next height (leaves + above.place) ∙ ap (λ (n : ℕ). n / 2) above.meets;
+      meets = ap (λ (h : ℕ). node_above h (leaves + above.flow)) more ∙ above_next height (leaves + above.flow) ∙ ap (λ (n : ℕ). n / 2) above.meets;
     }
 
 -- half of those leaves were too few

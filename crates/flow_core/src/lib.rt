@@ -2,13 +2,11 @@
 //!
 //! All packets that wait stand in one slab, chained flow by flow (`chains`). Both lists are rings over one number beside
 //! each flow, and a mark says whether a flow is in one of them (`listed_flows`). A tree of winners over the flows' byte
-//! counts has the fattest flow at its top, the node that all flows with bytes stand below (`winner_tree`). A flow's
-//! first packet takes it to the least place of the tree that is free (`free_places`), so that few flows stand below few
-//! nodes. So a call costs the same whatever waits, and a packet that comes or goes costs one path of that tree besides.
+//! counts has the fattest flow at its top, the node that all flows with bytes stand below (`winner_tree`). So a call
+//! costs the same whatever waits, and a packet that comes or goes costs one path of that tree besides.
 #![tactic(auto)]
 
 mod flows;
-mod free_places;
 mod limits;
 mod linked_queues;
 mod listed_flows;

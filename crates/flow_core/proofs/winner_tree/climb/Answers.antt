@@ -8,7 +8,7 @@ pub loop-node-init : goal.loop-node-init
 loop-node-init c =
     let tree = c.requires.tree in
     record {
-      climbs = starts tree (count_written c.args.bytes.now c.args.place c.args.own) c.requires.below;
+      climbs = starts tree (count_written c.args.bytes.now c.args.flow c.args.own) c.requires.below;
       some = below_top tree c.requires.below c.requires.another;
       counted = omega arith;
     }
@@ -16,21 +16,21 @@ loop-node-init c =
 pub loop-node-preserved : goal.loop-node-preserved
 loop-node-preserved c =
     let bytes = c.args.bytes.now in
-    let more = written_more bytes c.args.place c.args.own c.requires.place c.requires.grows in
+    let more = written_more bytes c.args.flow c.args.own c.requires.flow c.requires.grows in
     record {
-      climbs = climbs_still c.requires.tree (count_written bytes c.args.place c.args.own) c.requires.below more c.loop-node.invariant.climbs (omega arith) c.if-winner-place.false;
+      climbs = climbs_still c.requires.tree (count_written bytes c.args.flow c.args.own) c.requires.below more c.loop-node.invariant.climbs (omega arith) c.if-winner-flow.false;
       some = omega arith;
       counted = c.loop-node.invariant.counted;
     }
 
-pub loop-node-preserved-then-winner-place : goal.loop-node-preserved-then-winner-place
-loop-node-preserved-then-winner-place c =
+pub loop-node-preserved-then-winner-flow : goal.loop-node-preserved-then-winner-flow
+loop-node-preserved-then-winner-flow c =
     let bytes = c.args.bytes.now in
     let x = get_or c.loop-node.winners (c.loop-node.node / 2) 0 in
-    let more = written_more bytes c.args.place c.args.own c.requires.place c.requires.grows in
-    let won = wins_read c.args.numbers.now bytes c.args.place c.args.own c.requires.place x (omega (arith, c.margin_over-margin.ensures, c.wins_over.ensures.wins.0 c.if-not-wins_over.false)) in
+    let more = written_more bytes c.args.flow c.args.own c.requires.flow c.requires.grows in
+    let won = wins_read bytes c.args.flow c.args.own c.requires.flow x (omega (arith, c.margin_over-margin.ensures, c.wins_over.ensures.wins.0 c.if-not-wins_over.false)) in
     record {
-      climbs = climbs_grown c.requires.tree (count_written bytes c.args.place c.args.own) c.requires.below more c.loop-node.invariant.climbs (omega arith)
+      climbs = climbs_grown c.requires.tree (count_written bytes c.args.flow c.args.own) c.requires.below more c.loop-node.invariant.climbs (omega arith)
           (c.wins_over.new.comparisons - 1) won (omega (arith, c.wins_over.ensures.counted));
       some = omega arith;
       counted = omega (arith, c.wins_over.ensures.counted);
@@ -40,10 +40,10 @@ pub returns-then-not-wins_over-clause-tree : goal.returns-then-not-wins_over-cla
 returns-then-not-wins_over-clause-tree c =
     let bytes = c.args.bytes.now in
     let x = get_or c.loop-node.winners (c.loop-node.node / 2) 0 in
-    let more = written_more bytes c.args.place c.args.own c.requires.place c.requires.grows in
-    let less : c.args.own < get_or bytes x 0 + min 1 (get_or c.args.numbers.now c.args.place 0 - get_or c.args.numbers.now x 0) = grind (arith, c.if-not-wins_over.ensures.wins) in
-    let lost = loses_read c.args.numbers.now bytes c.args.place c.args.own c.requires.place x c.if-winner-place.true less in
-    stops_grown c.requires.tree (count_written bytes c.args.place c.args.own) c.requires.below more c.loop-node.invariant.climbs (omega arith) x refl c.if-winner-place.true lost
+    let more = written_more bytes c.args.flow c.args.own c.requires.flow c.requires.grows in
+    let less : c.args.own < get_or bytes x 0 + min 1 (c.args.flow - x) = grind (arith, c.if-not-wins_over.ensures.wins) in
+    let lost = loses_read bytes c.args.flow c.args.own c.requires.flow x c.if-winner-flow.true less in
+    stops_grown c.requires.tree (count_written bytes c.args.flow c.args.own) c.requires.below more c.loop-node.invariant.climbs (omega arith) x refl c.if-winner-flow.true lost
 
 pub returns-then-not-wins_over-clause-few : goal.returns-then-not-wins_over-clause-few
 returns-then-not-wins_over-clause-few c levels power =
@@ -55,10 +55,10 @@ returns-clause-tree c =
     let bytes = c.args.bytes.now in
     let w = c.args.winners.now in
     let climbs = c.loop-node.invariant.climbs in
-    let more = written_more bytes c.args.place c.args.own c.requires.place c.requires.grows in
+    let more = written_more bytes c.args.flow c.args.own c.requires.flow c.requires.grows in
     let least = none_between climbs.over c.requires.below c.loop-node.invariant.some in
     let top : c.loop-node.node / 2 ≡ c.args.top.node = omega arith in
-    stops_grown c.requires.tree (count_written bytes c.args.place c.args.own) c.requires.below more climbs (omega arith) (get_or w c.args.top.node 0)
+    stops_grown c.requires.tree (count_written bytes c.args.flow c.args.own) c.requires.below more climbs (omega arith) (get_or w c.args.top.node 0)
     (climbs.rest (c.loop-node.node / 2) (omega (arith, c.requires.tree.some)) ∙ ap (λ k. get_or w k 0) top) c.requires.another c.requires.loses
 
 pub returns-clause-few : goal.returns-clause-few

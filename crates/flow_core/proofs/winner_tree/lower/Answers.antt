@@ -6,12 +6,12 @@ pub returns-else-leaf-top-clause-tree : goal.returns-else-leaf-top-clause-tree
 returns-else-leaf-top-clause-tree c =
     let tree = c.requires.tree in
     let bytes = c.args.bytes.now in
-    let changed = count_written bytes c.args.place c.args.own in
-    let below = tree.busy c.args.place c.requires.waits in
+    let changed = count_written bytes c.args.flow c.args.own in
+    let below = tree.busy c.args.flow c.requires.waits in
     let leaf = starts tree changed below in
     elim c.else-leaf-top.branch [
       | else-leaf-top-via-then-leaf-top+else-winners-leaf v ↦
-          stops_fallen tree changed below leaf c.requires.waits (written_less bytes c.args.place c.args.own c.requires.place c.requires.falls) v.if-leaf-top.true
+          stops_fallen tree changed below leaf c.requires.waits (written_less bytes c.args.flow c.args.own c.requires.flow c.requires.falls) v.if-leaf-top.true
           v.if-winners-leaf.false
       | else-leaf-top-via-else-leaf-top v ↦ ends tree changed below leaf v.if-leaf-top.false
     ]

@@ -3,13 +3,12 @@ use Rattle.flow_core.specs.WinnerNodes.{IsWinner}
 use Rattle.flow_core.proofs.WinnerLemmas.{Climbs}
 use Rattle.flow_core.proofs.winner_tree.lower_from.Given as goal
 
--- the winner at the node has its bytes and its flow's number beside it
+-- the winner at the node has its bytes beside it
 abbrev pub invariant-loop-node : goal.invariant-loop-node
 invariant-loop-node l = record {
-  climbs : Climbs (length l.bytes) l.numbers (set l.bytes l.place l.own) l.fn.winners l.winners l.place l.top.node l.node l.comparisons;
-  carried : l.most ≡ get_or (set l.bytes l.place l.own) l.winner 0;
-  number : l.number ≡ get_or l.numbers l.winner 0;
-  own : IsWinner l.numbers (set l.bytes l.place l.own) (length l.bytes) l.node l.winner;
+  climbs : Climbs (length l.bytes) (set l.bytes l.flow l.own) l.fn.winners l.winners l.flow l.top.node l.node l.comparisons;
+  carried : l.most ≡ get_or (set l.bytes l.flow l.own) l.winner 0;
+  own : IsWinner (set l.bytes l.flow l.own) (length l.bytes) l.node l.winner;
 }
 
 abbrev pub decreases-loop-node : goal.decreases-loop-node

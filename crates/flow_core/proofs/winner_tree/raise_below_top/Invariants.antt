@@ -3,12 +3,12 @@ use Rattle.flow_core.specs.WinnerNodes.{WinsOver}
 use Rattle.flow_core.proofs.WinnerLemmas.{Climbs}
 use Rattle.flow_core.proofs.winner_tree.raise_below_top.Given as goal
 
--- each node of the climb has the place for its winner
+-- each node of the climb has the flow for its winner
 abbrev pub invariant-loop-node : goal.invariant-loop-node
 invariant-loop-node l = record {
-  climbs : Climbs (length l.bytes) l.numbers (set l.bytes l.place l.own) l.fn.winners l.winners l.place l.top.node l.node 0;
+  climbs : Climbs (length l.bytes) (set l.bytes l.flow l.own) l.fn.winners l.winners l.flow l.top.node l.node 0;
   some : l.top.node < l.node;
-  wins : WinsOver l.numbers (set l.bytes l.place l.own) l.place (get_or l.fn.winners l.top.node 0);
+  wins : WinsOver (set l.bytes l.flow l.own) l.flow (get_or l.fn.winners l.top.node 0);
 }
 
 abbrev pub decreases-loop-node : goal.decreases-loop-node

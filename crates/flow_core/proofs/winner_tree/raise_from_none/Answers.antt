@@ -20,15 +20,15 @@ pub returns-then-wins_over-clause-tree : goal.returns-then-wins_over-clause-tree
 returns-then-wins_over-clause-tree c =
     let tree = c.requires.tree in
     rw c.of_leaf.ensures
-    (alone tree (count_written c.args.bytes.now c.args.place c.args.own) c.requires.place (none_waits_below tree c.if-most_bytes-eq0.true))
+    (alone tree (count_written c.args.bytes.now c.args.flow c.args.own) c.requires.flow (none_waits_below tree c.if-most_bytes-eq0.true))
 
 pub returns-else-wins_over-clause-tree : goal.returns-else-wins_over-clause-tree
 returns-else-wins_over-clause-tree c =
     let bytes = c.args.bytes.now in
-    let place = c.args.place in
+    let flow = c.args.flow in
     let nothing : c.args.own ≡ 0 = grind (arith, c.if-most_bytes-eq0.true, c.margin_over.ensures, c.wins_over.ensures.wins, c.if-wins_over.false) in
-    let same : set bytes place c.args.own ≡ bytes = ap (λ own. set bytes place own) (nothing ∙ sym c.requires.none) ∙ set-get_or bytes place 0 in
-    subst (λ bs. IsTree (length bytes) c.args.numbers.now bs c.args.winners.now c.args.top.now.node c.args.top.now.height) (sym same) c.requires.tree
+    let same : set bytes flow c.args.own ≡ bytes = ap (λ own. set bytes flow own) (nothing ∙ sym c.requires.none) ∙ set-get_or bytes flow 0 in
+    subst (λ bs. IsTree (length bytes) bs c.args.winners.now c.args.top.now.node c.args.top.now.height) (sym same) c.requires.tree
 
 pub raise_below_top-requires-clause-below : goal.raise_below_top-requires-clause-below
-raise_below_top-requires-clause-below c = below_shift c.args.top.now.height c.requires.place c.if-leaf-top.false
+raise_below_top-requires-clause-below c = below_shift c.args.top.now.height c.requires.flow c.if-leaf-top.false

@@ -7,7 +7,7 @@ use Rattle.flow_core.proofs.winner_tree.rise.Goals.{then-wins, else-wins}
 
 pub loop-node-init : goal.loop-node-init
 loop-node-init c =
-    rises_first c.requires.tree (count_written c.args.bytes.now c.args.place c.args.own) c.requires.place c.requires.waits c.requires.outside
+    rises_first c.requires.tree (count_written c.args.bytes.now c.args.flow c.args.own) c.requires.flow c.requires.waits c.requires.outside
 
 pub loop-node-preserved-then-node-top : goal.loop-node-preserved-then-node-top
 loop-node-preserved-then-node-top c = rises_one c.loop-node.invariant c.if-node-top.true
@@ -29,13 +29,13 @@ returns-clause-tree c =
     let most = get_or c.args.winners.now c.args.top.now.node 0 in
     elim c.if-wins.branch [
       | then-wins w ↦
-          let won : get_or bytes most 0 + min 1 (get_or c.args.numbers.now c.args.place 0 - get_or c.args.numbers.now most 0) ≤ c.args.own = grind (arith, c.wins_over-wins.ensures.wins) in
+          let won : get_or bytes most 0 + min 1 (c.args.flow - most) ≤ c.args.own = grind (arith, c.wins_over-wins.ensures.wins) in
           rw w.winners-is
-          (rises_last rises tree (length-set bytes c.args.place c.args.own) meet c.args.place (rw meet at (rises.one.over c.args.place refl)) (omega arith)
-          (wins_read c.args.numbers.now bytes c.args.place c.args.own c.requires.place most won))
+          (rises_last rises tree (length-set bytes c.args.flow c.args.own) meet c.args.flow (rw meet at (rises.one.over c.args.flow refl)) (omega arith)
+          (wins_read bytes c.args.flow c.args.own c.requires.flow most won))
       | else-wins w ↦
-          let lost : c.args.own < get_or bytes most 0 + min 1 (get_or c.args.numbers.now c.args.place 0 - get_or c.args.numbers.now most 0) = grind (arith, c.wins_over-wins.ensures.wins) in
+          let lost : c.args.own < get_or bytes most 0 + min 1 (c.args.flow - most) = grind (arith, c.wins_over-wins.ensures.wins) in
           rw w.winners-is
-          (rises_last rises tree (length-set bytes c.args.place c.args.own) meet most (rises.others.over most rises.most_is)
-          (loses_read c.args.numbers.now bytes c.args.place c.args.own c.requires.place most rises.most_is.0 lost) (omega arith))
+          (rises_last rises tree (length-set bytes c.args.flow c.args.own) meet most (rises.others.over most rises.most_is)
+          (loses_read bytes c.args.flow c.args.own c.requires.flow most rises.most_is.0 lost) (omega arith))
     ]

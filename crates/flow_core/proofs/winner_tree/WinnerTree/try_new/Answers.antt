@@ -1,10 +1,8 @@
-use Rattle.std.proofs.Common.{◌≡◌, ℕ, ◌*◌, ◌^◌, ◌%◌, ◌<◌, ◌≤◌, ◌∙◌, List, length, ap, get_or, replicate, take, vec_len, rules, arith}
+use Rattle.std.proofs.Common.{◌≡◌, ℕ, ◌*◌, ◌^◌, ◌%◌, ◌<◌, ◌≤◌, ◌∙◌, List, ap, get_or, replicate, take, vec_len, rules, arith}
 use Rattle.std.proofs.lemmas.List.{take-replicate}
 use Rattle.std.proofs.lemmas.List.Elements.{All-replicate}
 use Rattle.flow_core.specs.Winners.{ByteCounts}
 use Rattle.flow_core.proofs.NodeLemmas.{most_leaves, shifted}
-use Rattle.flow_core.specs.WinnerNodes.{counts_at}
-use Rattle.flow_core.proofs.PairLemmas.{no_counts, own_places}
 use Rattle.flow_core.proofs.ReadLemmas.{replicate-at}
 use Rattle.flow_core.proofs.SeenLemmas.{first_tree}
 use Rattle.flow_core.proofs.winner_tree.WinnerTree.try_new.Goals.{After-levels_over-levels, After-of_leaf}
@@ -19,21 +17,6 @@ overflow_shl-leaves c = omega (arith, small (goal.at.overflow_shl-leaves c).Afte
 pub first_winners-requires : goal.first_winners-requires
 first_winners-requires c =
     let few = small (goal.at.first_winners-requires c).After-levels_over-levels in
-    rw (shifted c.levels_over-levels.result few) (most_leaves c.levels_over-levels.result few)
-
-pub first_places-requires : goal.first_places-requires
-first_places-requires c =
-    let few = small (goal.at.first_places-requires c).After-levels_over-levels in
-    rw (shifted c.levels_over-levels.result few) (most_leaves c.levels_over-levels.result few)
-
-pub first_places-requires-2 : goal.first_places-requires-2
-first_places-requires-2 c =
-    let few = small (goal.at.first_places-requires-2 c).After-levels_over-levels in
-    rw (shifted c.levels_over-levels.result few) (most_leaves c.levels_over-levels.result few)
-
-pub try_new-requires : goal.try_new-requires
-try_new-requires c =
-    let few = small (goal.at.try_new-requires c).After-levels_over-levels in
     rw (shifted c.levels_over-levels.result few) (most_leaves c.levels_over-levels.result few)
 
 -- the counts of the leaves
@@ -52,33 +35,22 @@ invariant_of-result c =
     let items = none c in
     let made = c.in_ok-first_winners.ensures {u = tt} in
     let zero : (flow : ℕ) → get_or c.in_ok-vec.field-0.items flow 0 ≡ 0 = λ flow. rw items (replicate-at (2 ^ levels) flow 0) in
-    let places = c.in_ok-first_places.ensures {u = tt} in
-    let numbers = c.in_ok-first_places-2.ensures {u = tt} in
-    let paired =
-    rw power at
-    (own_places _ c.in_ok-first_places.field-0.items c.in_ok-first_places-2.field-0.items (omega (arith, places.size, c.in_ok-first_places.field-0.ok.0))
-    (omega (arith, numbers.size, c.in_ok-first_places-2.field-0.ok.0)) places.own numbers.own) in
     record {
       least = omega arith;
       most = omega arith;
       levels = c.levels_over-levels.ensures;
       leaves = leaves;
-      paired = rw leaves paired;
       small = rw items (All-replicate (λ (b : ℕ). b < 2 ^ 63) (2 ^ levels) 0 (omega arith));
-      unused = λ flow past within. zero (get_or c.in_ok-first_places.field-0.items flow 0);
+      unused = λ flow past. zero flow;
       tree =
           rw (leaves, c.of_leaf.ensures, power)
-          (first_tree levels _ _ c.in_ok-vec.field-0.items c.in_ok-first_winners.field-0.items few paired (omega (arith, leaves, c.in_ok-vec.field-0.ok.0))
+          (first_tree levels c.in_ok-vec.field-0.items c.in_ok-first_winners.field-0.items few (omega (arith, leaves, c.in_ok-vec.field-0.ok.0))
           (omega (arith, rw power at made.nodes, c.in_ok-first_winners.field-0.ok.0)) (rw power at made.below) zero);
     }
 
 pub returns : goal.returns
 returns c =
     let view : List ℕ → ByteCounts = λ bytes. record { bytes = bytes; comparisons = 0 } in
-    let places = c.in_ok-first_places.field-0 in
-    let power = shifted c.levels_over-levels.result (small (goal.at.returns c).After-levels_over-levels) in
-    let size : length places.items ≡ 2 ^ c.levels_over-levels.result = omega (arith, power, (c.in_ok-first_places.ensures {u = tt}).size, places.ok.0) in
-    let counts : counts_at c.in_ok-vec.field-0.items places.items ≡ replicate {A = ℕ} (length places.items) 0 = rw (none c) (no_counts (2 ^ c.levels_over-levels.result) places.items) in
-    ap view
-    (ap (λ (bytes : List ℕ). take c.args.flows bytes) counts
-    ∙ take-replicate c.args.flows (length places.items) 0 (omega (arith, size, c.levels_over-levels.ensures.enough)))
+    let seen : take c.args.flows c.in_ok-vec.field-0.items ≡ replicate {A = ℕ} c.args.flows 0 =
+    ap (λ (bytes : List ℕ). take c.args.flows bytes) (none c) ∙ take-replicate c.args.flows (2 ^ c.levels_over-levels.result) 0 (omega (arith, c.levels_over-levels.ensures.enough)) in
+    ap view seen

@@ -1,6 +1,5 @@
-use Rattle.std.proofs.Common.{◌≡◌, ℕ, ◌<◌, get_or, ap, refl, ◌∙◌, arith}
+use Rattle.std.proofs.Common.{◌≡◌, ◌<◌, get_or, refl, arith}
 use Rattle.std.proofs.lemmas.List.{get_or_read}
-use Rattle.std.proofs.lemmas.List.Elements.{All-get_or}
 use Rattle.flow_core.proofs.SeenLemmas.{most_seen, none_seen}
 use Rattle.flow_core.proofs.winner_tree.WinnerTree.winner.Goals.{After-index}
 use Rattle.flow_core.proofs.winner_tree.WinnerTree.winner.Goals as goal
@@ -22,11 +21,7 @@ returns-then-index-gt0-clause-winner c =
     let t = c.self.inside in
     let before = (goal.at.returns-then-index-gt0-clause-winner c).After-index in
     let waits : 0 < get_or t.bytes.items (get_or t.winners.items t.top.node 0) 0 = rw (← most before) (omega (arith, count before)) in
-    let tree = c.self.invariant.tree in
-    let inner = (tree.held t.top.node tree.some tree.within).within in
-    let number : c.index-then-index-gt0.result.now ≡ get_or t.numbers.items (get_or t.winners.items t.top.node 0) 0 =
-    get_or_read t.numbers.items c.index-most.result.now c.index-then-index-gt0.result.now (omega (arith, inner, most before, tree.numbered)) c.index-then-index-gt0.ensures 0 ∙ ap (λ (p : ℕ). get_or t.numbers.items p 0) (most before) in
-    rw (← c.self.view_is, number) (most_seen t c.self.invariant waits)
+    rw (← c.self.view_is, most before) (most_seen t c.self.invariant waits)
 
 pub returns-else-index-gt0-clause-none : goal.returns-else-index-gt0-clause-none
 returns-else-index-gt0-clause-none c =
@@ -35,11 +30,3 @@ returns-else-index-gt0-clause-none c =
     let zero : get_or t.bytes.items (get_or t.winners.items t.top.node 0) 0 ≡ 0 = rw (← most before) (omega (arith, count before)) in
     let none = none_seen t c.self.invariant zero in
     (λ _. rw (← c.self.view_is) none, λ _. refl)
-
-pub returns-then-index-gt0-clause-none : goal.returns-then-index-gt0-clause-none
-returns-then-index-gt0-clause-none c =
-    let t = c.self.inside in
-    let before = (goal.at.returns-then-index-gt0-clause-none c).After-index in
-    let waits : 0 < get_or t.bytes.items (get_or t.winners.items t.top.node 0) 0 = rw (← most before) (omega (arith, count before)) in
-    let some = most_seen t c.self.invariant waits in
-    (λ is. absurd cc, λ none. absurd (omega (arith, some.waits, All-get_or (λ (b : ℕ). b ≡ 0) _ _ 0 some.within (rw (← c.self.view_is) at none))))
