@@ -9,7 +9,7 @@ from packages.checkout import Missing, run
 from packages.manual import COMMANDS
 
 OPTION = re.compile(r"^ {2,6}(?:(-\w), )?(--[a-z][a-z-]*)(?: (<?[A-Za-z0-9|]+>?))?$", re.M)
-PARAMETERS = re.compile(r"^( +)Words +Range +Default\n((?:\1.*\n)+)", re.M)
+PARAMETERS = re.compile(r"^( +)(?:Words|Parameter) +Range +Default\n((?:\1.*\n)+)", re.M)
 
 
 @dataclass
@@ -42,7 +42,7 @@ def read_parameters(text: str) -> Words:
     """The words of parameters in the table of a help. Below a row its text may stand, further right."""
     table = PARAMETERS.search(text)
     if not table:
-        raise Missing("a help has no table with the columns Words, Range and Default")
+        raise Missing("a help has no table of parameters with Range and Default")
     found = Words()
     for row in re.findall(rf"^{table[1]}(\S.*?)(?: {{2,}}|$)", table[2], re.M):
         if " | " in row:
