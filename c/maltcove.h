@@ -331,8 +331,8 @@ int maltcove_enqueue_flow(maltcove *m, uint64_t now_us, uint32_t flow, uint32_t 
 			  maltcove_admitted *admitted);
 
 /*
- * The flow of a packet with this hash, below flows (maltcove_params tells how many there are), and 0 where that is 0. It
- * depends on the hash's high bits. Each flow gets as many of the 2^32 hashes as any other, or one more or less.
+ * The flow of a packet with this hash, below flows (maltcove_params tells how many there are), and 0 where that is 0.
+ * It depends on the hash's high bits. Each flow gets as many of the 2^32 hashes as any other, or one more or less.
  *
  * A hash is no secret where a card makes it with the key that its driver has by default, which is public: then a sender
  * can choose five-tuples that share a flow.

@@ -1,5 +1,5 @@
-//! CoDel over a line that can only be pulled: its head is in hand while it is judged. The scheduler looks at heads where
-//! they stand (`Codel::serve_in_place`). This way is for lines that can't show their head.
+//! CoDel over a line that can only be pulled: its head is in hand while it is judged. The scheduler looks at heads
+//! where they stand (`Codel::serve_in_place`). This way is for lines that can't show their head.
 
 ghost use Rattle.std.specs.Prelude.{◌≡◌, ◌^◌, ◌<◌, ◌≤◌, ◌↔◌, [], length, IsNone, None, Some};
 ghost use Rattle.packet_core.specs.Params.{IsIntervalInRange};
