@@ -89,8 +89,14 @@ def comment_lines(text: str) -> list[str]:
     return [re.sub(r"^ ?\* ?", "", line).rstrip() for line in inside.split("\n")]
 
 
+def without_bodies(header: str) -> str:
+    """The header with the declaration of each inline function in place of its definition."""
+    return re.sub(r"^static inline ([^{;]*?\))\n\{.*?^\}\n", r"\1;\n", header, flags=re.S | re.M)
+
+
 def declarations(header: str) -> tuple[list[str], list[Declared]]:
     """The first comment of the header, and what it declares after that."""
+    header = without_bodies(header)
     item = re.compile(r"^/\*.*?\*/|^#define MALTCOVE_(?!H\b)[^\n]*(?:\n#define [^\n]*)*"
                       r"|^(?:typedef struct|enum) .*?^\}[^\n]*;|^[a-z][^\n;{}]*?\([^;{}]*?\);", re.S | re.M)
     items = [match[0] for match in item.finditer(header)]
