@@ -143,18 +143,25 @@ fn of_journals<R: Abort + AllocGlobal>(
     } else {
         None
     };
-    let made = match table {
-        Table::Flows => {
-            let fifo = fifo.map(|events| RunEvents {
-                events,
+    let settings = settings(params);
+    let made = match (table, fifo) {
+        (Table::Flows, Some(events_of_fifo)) => {
+            assert!(rt; events_of_fifo.len() <= MAX_EVENTS);
+            let fifo = RunEvents {
+                events: events_of_fifo,
                 end: fifo_end,
-            });
-            flows_text(alloc, RunEvents { events, end }, fifo)
+            };
+            flows_text(alloc, RunEvents { events, end }, Some(fifo))
         }
-        Table::Packets => packets_text(alloc, events, fifo),
-        Table::Series => series_text(alloc, EVERY, events, fifo),
-        Table::Steps => steps_text(alloc, engine.steps()),
-        Table::Svg => picture_text(alloc, &settings(params), events, fifo),
+        (Table::Flows, None) => flows_text(alloc, RunEvents { events, end }, None),
+        (Table::Packets, fifo) => packets_text(alloc, events, fifo),
+        (Table::Series, fifo) => series_text(alloc, EVERY, events, fifo),
+        (Table::Steps, _) => steps_text(alloc, engine.steps()),
+        (Table::Svg, Some(fifo)) => {
+            assert!(rt; fifo.len() <= MAX_EVENTS);
+            picture_text(alloc, &settings, events, Some(fifo))
+        }
+        (Table::Svg, None) => picture_text(alloc, &settings, events, None),
     };
     made.expect(rt, "memory")
 }
