@@ -40,7 +40,7 @@ pub trait QueueDiscipline: Drop {
         ensures unchanged { OnErr result (so_far self.new ≡ so_far self.old) };
 
     /// Gives the packet that is next, or nothing, at a moment in microseconds, and drops others before it where the
-    /// discipline does. The moment is below 2^60 and not before the last one. It fails for want of memory alone, and
+    /// discipline does. The moment is below 2^60 and not before the last one. It fails only when out of memory, and
     /// changes nothing then.
     fn serve(&mut self, moment: u64) -> Result<Option<Sent>, Memory>
         requires { refusal_of (so_far self.old).standing.state (Dequeue moment) ≡ None }

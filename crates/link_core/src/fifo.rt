@@ -21,7 +21,7 @@ use std::marker::Model;
 /// The journal of the same link with a plain queue in place of FQ-CoDel: first in, first out, and a packet is dropped
 /// that arrives where as many wait as the parameters' limit, with the cause `Overflow`. It has no other limit, and it
 /// marks nothing. Each packet's flow in the journal is the one that FQ-CoDel with these parameters and that seed would
-/// choose, though the queue looks at none. It fails for want of memory alone.
+/// choose, though the queue looks at none. It fails only when out of memory.
 pub fn run_fifo(
     alloc: Global,
     params: Params,
@@ -117,7 +117,7 @@ impl<K: Recorder> Fifo<K> {
     ghost use Rattle.link_core.specs.Fifos.{new_fifo};
 
     /// An empty queue, for about so many packets, over a recorder that was told nothing. What it takes to choose their
-    /// flows it takes here, as `FlowChooser::try_new_for` does. It fails for want of memory alone.
+    /// flows it takes here, as `FlowChooser::try_new_for` does. It fails only when out of memory.
     pub fn try_new_for(
         alloc: Global,
         params: Params,
